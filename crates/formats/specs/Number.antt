@@ -1,0 +1,91 @@
+-- NUMBER: groups of seven bits, low first, top bit set when another follows, shortest form, below 2^64.
+use mathlib.Core.Path.{_≡_, refl, sym, ap, _∙_, subst}
+use mathlib.Core.List.{List, [], _∷_, _++_, append-assoc}
+use mathlib.Core.Option.{Option, none, some}
+use mathlib.Core.Logic.{_⊎_, inl, inr, ⊎-elim}
+use mathlib.Core.Bool.{Bool, true, false}
+use Prim.Native.Nat.{ℕ, zero, suc, _+_, _-_, _*_, _/_, _%_, _^_, _≤_, _<_}
+use native.Mathlib.Omega.{arith}
+use lib.Dec.{leb, ltb, eqb}
+use borrow.Author.Tests.{lt-ltb, le-ltb, ltb-true, ltb-false, eqb-true, eqb-false, eq-eqb, ne-eqb}
+use Rattle.formats.specs.Law.{Reader, Law, pick, bind, bind-some, pick-some, none-some, found, headed}
+
+-- what k groups more can hold beside a first one: the bound below which the number is, top 9 = 2^64
+abbrev pub top : ℕ → ℕ
+top zero = 2
+top (suc k) = 128 * top k
+
+abbrev pub groupsW : ℕ → ℕ → List ℕ
+groupsW zero n = n ∷ []
+groupsW (suc k) n = pick (ltb n 128) (n ∷ []) ((128 + n % 128) ∷ groupsW k (n / 128))
+
+abbrev pub groupsR : ℕ → Reader ℕ
+groupsR zero [] = none
+groupsR zero (b ∷ s) = pick (ltb b 2) (some (b, s)) none
+groupsR (suc k) [] = none
+groupsR (suc k) (b ∷ s) =
+    pick (ltb b 128) (some (b, s))
+    (pick (ltb b 256) (bind (groupsR k s) (λ h t. pick (eqb h 0) none (some (b - 128 + 128 * h, t)))) none)
+
+top-pos : (k : ℕ) → 0 < top k
+top-pos zero = omega arith
+top-pos (suc k) = omega (arith, top-pos k)
+
+-- a group that another follows, as it is written and as it is read
+more-written : (k b h : ℕ) → 128 ≤ b → b < 256 → (h ≡ 0 → ⊥) → groupsW (suc k) (b - 128 + 128 * h) ≡ b ∷ groupsW k h
+more-written k b h l u z =
+    rw (le-ltb (b - 128 + 128 * h) 128 (omega arith)) (headed (omega arith) (ap (groupsW k) (omega arith)))
+
+more-read : (k n : ℕ) (rest : List ℕ) → 128 ≤ n → groupsR k (groupsW k (n / 128) ++ rest) ≡ some (n / 128, rest) → groupsR (suc k) (groupsW (suc k) n ++ rest) ≡ some (n, rest)
+more-read k n rest big ih =
+    rw (
+      le-ltb n 128 big,
+      le-ltb (128 + n % 128) 128 (omega arith),
+      lt-ltb (128 + n % 128) 256 (omega arith),
+      ih,
+      ne-eqb (n / 128) 0 (omega arith),
+    )
+    (ap {B = Option (ℕ × List ℕ)} (λ x. some (x, rest)) (omega arith))
+
+there : (k n : ℕ) (rest : List ℕ) → n < top k → groupsR k (groupsW k n ++ rest) ≡ some (n, rest)
+there zero n rest h = rw (lt-ltb n 2 h) refl
+there (suc k) n rest h = go (ltb n 128) refl (there k (n / 128) rest (omega arith))
+  where
+    go : (t : Bool) → ltb n 128 ≡ t → groupsR k (groupsW k (n / 128) ++ rest) ≡ some (n / 128, rest) → groupsR (suc k) (groupsW (suc k) n ++ rest) ≡ some (n, rest)
+    go true e ih = rw (e, e) refl
+    go false e ih = more-read k n rest (ltb-false n 128 e) ih
+
+back : (k : ℕ) (s : List ℕ) (n : ℕ) (rest : List ℕ) → groupsR k s ≡ some (n, rest) → (s ≡ groupsW k n ++ rest) × (n < top k)
+back zero [] n rest e = none-some e
+back zero (b ∷ s) n rest e =
+    ⊎-elim (λ h. found (λ n rest. (b ∷ s ≡ n ∷ rest) × (n < 2)) (h .1) (refl, ltb-true b 2 (h .0)))
+    (λ h. none-some (h .1)) (pick-some (ltb b 2) _ _ _ e)
+back (suc k) [] n rest e = none-some e
+back (suc k) (b ∷ s) n rest e =
+    let P : ℕ → List ℕ → Type 0 = λ n rest. (b ∷ s ≡ groupsW (suc k) n ++ rest) × (n < top (suc k)) in
+    ⊎-elim
+    (λ h. found P (h .1) (rw (h .0) refl, omega (arith, top-pos k, ltb-true b 128 (h .0))))
+    (λ h. ⊎-elim
+    (λ j.
+    let (p, ek, e′) = bind-some (groupsR k s) _ _ (j .1) in
+    let ih = back k s (p .0) (p .1) ek in
+    ⊎-elim (λ z. none-some (z .1))
+    (λ z. found P (z .1) (
+      rw (more-written k b (p .0) (ltb-false b 128 (h .0)) (ltb-true b 256 (j .0)) (eqb-false (p .0) 0 (z .0))) (headed refl (ih .0)),
+      omega (arith, ltb-true b 256 (j .0), ih .1),
+    ))
+    (pick-some (eqb (p .0) 0) _ _ _ e′))
+    (λ j. none-some (j .1)) (pick-some (ltb b 256) _ _ _ (h .1)))
+    (pick-some (ltb b 128) _ _ _ e)
+
+pub groupsLaw : (k : ℕ) → Law (groupsW k) (groupsR k) (λ n. n < top k)
+groupsLaw k = record { there = there k; back = back k }
+
+abbrev pub numberW : ℕ → List ℕ
+numberW n = groupsW 9 n
+
+abbrev pub numberR : Reader ℕ
+numberR s = groupsR 9 s
+
+pub numberLaw : Law numberW numberR (λ n. n < 2 ^ 64)
+numberLaw = groupsLaw 9

@@ -1,0 +1,95 @@
+-- What a reader finds, as a place in the whole: how the interpreter's answers are said.
+use mathlib.Core.Path.{_≡_, refl, sym, ap, _∙_, subst}
+use mathlib.Core.List.{List, [], _∷_, _++_, append-assoc}
+use mathlib.Core.Option.{Option, none, some}
+use mathlib.Core.Logic.{_⊎_, inl, inr, ⊎-elim}
+use mathlib.Core.Bool.{Bool, true, false, _&&_}
+use Prim.Native.Nat.{ℕ, zero, suc, _+_, _-_, _*_, _/_, _%_, _^_, _≤_, _<_}
+use native.Mathlib.Omega.{arith}
+use lib.ListN.{length, take, drop, getD, length-append, take-append-drop}
+use lib.Seq.{drop-append-seam}
+use lib.Dec.{leb, ltb, eqb}
+use borrow.Author.Tests.{eq-eqb, ne-eqb, eqb-true, eqb-false}
+use Rattle.formats.specs.Law.{Reader, Law, none-some, pick, bind, manyR}
+use Rattle.formats.specs.Format.{Format, never, empty, number, signed, small, text, float, constant, list, choice, pair, Class, any, name, printable, Value, read, write, Fits, law}
+use Rattle.formats.specs.declared.Numeral.{Numeral}
+use Rattle.formats.specs.declared.Numeral.the-variants.{Got, Bad}
+use Rattle.formats.specs.declared.Skip.{Skip}
+use Rattle.formats.specs.declared.Skip.the-variants.{At, Broken}
+
+abbrev pub numbered : List ℕ → Option (ℕ × List ℕ) → Numeral
+numbered s none = Bad
+numbered s (some p) = Got (p .0) (length s - length (p .1))
+
+abbrev pub skipped : {A : Type 0} → List ℕ → Option (A × List ℕ) → Skip
+skipped s none = Broken
+skipped s (some p) = At (length s - length (p .1))
+
+-- past a value of a format, and past n values of it
+abbrev pub skipTo : Format → List ℕ → ℕ → Skip
+skipTo f s at = skipped s (read f (drop at s))
+
+abbrev pub skipMany : Format → ℕ → List ℕ → ℕ → Skip
+skipMany f n s at = skipped s (manyR (read f) n (drop at s))
+
+abbrev pub classOf : ℕ → Class
+classOf zero = any
+classOf (suc zero) = name
+classOf (suc (suc n)) = printable
+
+-- the format of a node: four words to a node, the kind and two more, and one to spare
+abbrev pub nodeFormat : ℕ → ℕ → ℕ → (ℕ → Format) → Format
+nodeFormat zero a b sub = never
+nodeFormat (suc zero) a b sub = empty
+nodeFormat (suc (suc zero)) a b sub = number a b
+nodeFormat (suc (suc (suc zero))) a b sub = signed a b
+nodeFormat (suc (suc (suc (suc zero)))) a b sub = small a
+nodeFormat (suc (suc (suc (suc (suc zero))))) a b sub = text a (classOf b)
+nodeFormat (suc (suc (suc (suc (suc (suc zero)))))) a b sub = float
+nodeFormat (suc (suc (suc (suc (suc (suc (suc zero))))))) a b sub = constant a
+nodeFormat (suc (suc (suc (suc (suc (suc (suc (suc zero)))))))) a b sub = list a (sub b)
+nodeFormat (suc (suc (suc (suc (suc (suc (suc (suc (suc zero))))))))) a b sub = choice (sub a) (sub b)
+nodeFormat (suc (suc (suc (suc (suc (suc (suc (suc (suc (suc zero)))))))))) a b sub = pair (sub a) (sub b)
+nodeFormat (suc (suc (suc (suc (suc (suc (suc (suc (suc (suc (suc k))))))))))) a b sub = never
+
+abbrev pub formatAt : ℕ → List ℕ → ℕ → Format
+formatAt zero t n = never
+formatAt (suc d) t n = nodeFormat (getD t (4 * n + 0) 0) (getD t (4 * n + 1) 0) (getD t (4 * n + 2) 0) (formatAt d t)
+
+-- a format that has no parts, of the kinds below 8
+abbrev pub leafFormat : ℕ → ℕ → Format
+leafFormat kind a = nodeFormat kind a 0 (λ n. never)
+
+abbrev pub tagAt : List ℕ → ℕ → ℕ
+tagAt s at = pick (ltb at (length s)) (getD s at 0) 2
+
+-- what is left is the whole past a place
+pub suffix : (p : ℕ) (s x rest : List ℕ) → drop p s ≡ x ++ rest → rest ≡ drop (length s - length rest) s
+suffix p s x rest e =
+    let whole : s ≡ (take p s ++ x) ++ rest = rw append-assoc (sym (take-append-drop p s) ∙ ap (λ l. take p s ++ l) e) in
+    let n : length s - length rest ≡ length (take p s ++ x) = omega (arith, ap length whole, length-append (take p s ++ x) rest) in
+    sym (ap (λ k. drop k s) n ∙ ap (drop (length (take p s ++ x))) whole ∙ drop-append-seam (take p s ++ x) rest)
+
+-- an outcome taken apart
+unAt : {p q : ℕ} → At p ≡ At q → p ≡ q
+unAt e = cc
+
+broken-at : {C : Type 0} {p : ℕ} → Broken ≡ At p → C
+broken-at e = absurd (let z : _≡_ {A = ℕ} 0 1 = cc in omega arith)
+
+at-broken : {C : Type 0} {p : ℕ} → At p ≡ Broken → C
+at-broken e = absurd (let z : _≡_ {A = ℕ} 0 1 = cc in omega arith)
+
+pub broken : {A : Type 0} (s : List ℕ) (o : Option (A × List ℕ)) → skipped s o ≡ Broken → o ≡ none
+broken s none e = refl
+broken s (some p) e = at-broken e
+
+-- a reader whose outcome is a place: some value was read, and what is left is the whole past that place
+module _ {A : Type 0} {w : A → List ℕ} {r : Reader A} {ok : A → Type 0} (l : Law w r ok) (s : List ℕ) (p : ℕ) where
+  at-go : (o : Option (A × List ℕ)) → r (drop p s) ≡ o → (q : ℕ) → skipped s o ≡ At q → (a : A) × (r (drop p s) ≡ some (a, drop q s))
+  at-go none e q h = broken-at h
+  at-go (some x) e q h =
+      (x .0, e ∙ ap {B = Option (A × List ℕ)} (λ t. some (x .0, t)) (suffix p s (w (x .0)) (x .1) (l .back (drop p s) (x .0) (x .1) e .0) ∙ ap (λ n. drop n s) (unAt h)))
+
+  pub at-place : (q : ℕ) → skipped s (r (drop p s)) ≡ At q → (a : A) × (r (drop p s) ≡ some (a, drop q s))
+  at-place q h = at-go (r (drop p s)) refl q h

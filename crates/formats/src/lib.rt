@@ -1,0 +1,204 @@
+ghost use mathlib.Core.Path.{_≡_};
+ghost use Prim.Native.Nat.{ℕ, _+_, _*_, _<_, _≤_};
+ghost use lib.ListN.{length, getD, drop};
+ghost use Rattle.formats.specs.Law.{bytesR, constR};
+ghost use Rattle.formats.specs.Number.{groupsR, numberR};
+ghost use Rattle.formats.specs.Outcome.{numbered, skipped, skipTo, skipMany, formatAt, leafFormat, tagAt};
+
+// What reading a number finds: the number and the place past it.
+pub enum Numeral {
+    Got(u64, usize),
+    Bad,
+}
+
+pub enum Skip {
+    At(usize),
+    Broken,
+}
+
+pub fn wide(b: u8) -> u64
+    ensures { λ r. ⌜ (r ≡ b) × (r < 256) ⌝ }
+{
+    b as u64
+}
+
+// A number of at most k + 1 groups at `at`.
+pub fn groups(k: u32, s: &[u8], at: usize) -> Numeral
+    requires { ⌜ k ≤ 9 ⌝ }
+    ensures { λ r. ⌜ r ≡ numbered (now (s .entry)) (groupsR k (drop at (now (s .entry)))) ⌝ }
+{
+    if s.len() <= at {
+        return Numeral::Bad;
+    }
+    let b = wide(s[at]);
+    if k == 0 {
+        if b < 2 {
+            return Numeral::Got(b, at + 1);
+        }
+        return Numeral::Bad;
+    }
+    if b < 128 {
+        return Numeral::Got(b, at + 1);
+    }
+    match groups(k - 1, s, at + 1) {
+        Numeral::Got(h, next) => {
+            if h == 0 {
+                return Numeral::Bad;
+            }
+            Numeral::Got(b - 128 + 128 * h, next)
+        }
+        Numeral::Bad => Numeral::Bad,
+    }
+}
+
+pub fn number(s: &[u8], at: usize) -> Numeral
+    ensures { λ r. ⌜ r ≡ numbered (now (s .entry)) (numberR (drop at (now (s .entry)))) ⌝ }
+{
+    groups(9, s, at)
+}
+
+// n bytes as they are
+pub fn raw(s: &[u8], at: usize, n: u64) -> Skip
+    requires { ⌜ at ≤ length (now s) ⌝ }
+    ensures { λ r. ⌜ r ≡ skipped (now (s .entry)) (bytesR n (drop at (now (s .entry)))) ⌝ }
+{
+    let left = s.len() - at;
+    let m = n as usize;
+    if m <= left {
+        Skip::At(at + m)
+    } else {
+        Skip::Broken
+    }
+}
+
+// one given byte
+pub fn given(s: &[u8], at: usize, c: u64) -> Skip
+    ensures { λ r. ⌜ r ≡ skipped (now (s .entry)) (constR c (drop at (now (s .entry)))) ⌝ }
+{
+    if s.len() <= at {
+        return Skip::Broken;
+    }
+    let b = wide(s[at]);
+    if b == c {
+        Skip::At(at + 1)
+    } else {
+        Skip::Broken
+    }
+}
+
+// word j of a node of a table, 0 past its end
+pub fn word(t: &[u64], node: u64, j: usize) -> u64
+    requires { ⌜ j < 4 ⌝ }
+    ensures { λ r. ⌜ r ≡ getD (now (t .entry)) (4 * node + j) 0 ⌝ }
+{
+    let here = node as usize;
+    if t.len() <= here {
+        return 0;
+    }
+    let i = 4 * here + j;
+    if i < t.len() {
+        return t[i];
+    }
+    0
+}
+
+// the byte at `at`, 2 past the end
+pub fn tag(s: &[u8], at: usize) -> u64
+    ensures { λ r. ⌜ r ≡ tagAt (now (s .entry)) at ⌝ }
+{
+    if s.len() <= at {
+        return 2;
+    }
+    wide(s[at])
+}
+
+// Past the value at `at` of a format that has no parts.
+fn leaf(kind: u64, a: u64, s: &[u8], at: usize) -> Skip
+    requires { ⌜ (kind < 8) × (at ≤ length (now s)) ⌝ }
+    ensures { λ r. ⌜ r ≡ skipTo (leafFormat kind a) (now (s .entry)) at ⌝ }
+{
+    if kind == 0 {
+        return Skip::Broken;
+    }
+    if kind == 1 {
+        return Skip::At(at);
+    }
+    if kind == 6 {
+        return raw(s, at, 8);
+    }
+    if kind == 7 {
+        return given(s, at, a);
+    }
+    match number(s, at) {
+        Numeral::Got(n, p) => {
+            if kind == 4 {
+                if a < n {
+                    return Skip::Broken;
+                }
+                return Skip::At(p);
+            }
+            if kind == 5 {
+                return raw(s, p, n);
+            }
+            Skip::At(p)
+        }
+        Numeral::Bad => Skip::Broken,
+    }
+}
+
+// Past the value at `at` of the format that the table has at `node`, `depth` levels deep at most.
+pub fn pass(t: &[u64], depth: u32, node: u64, s: &[u8], at: usize) -> Skip
+    requires { ⌜ at ≤ length (now s) ⌝ }
+    ensures { λ r. ⌜ r ≡ skipTo (formatAt depth (now (t .entry)) node) (now (s .entry)) at ⌝ }
+{
+    if depth == 0 {
+        return Skip::Broken;
+    }
+    let d = depth - 1;
+    let kind = word(t, node, 0);
+    let a = word(t, node, 1);
+    let b = word(t, node, 2);
+    if kind < 8 {
+        return leaf(kind, a, s, at);
+    }
+    if kind == 8 {
+        let Numeral::Got(n, p) = number(s, at) else {
+            return Skip::Broken;
+        };
+        return pass_many(t, d, b, n, s, p);
+    }
+    if kind == 9 {
+        let c = tag(s, at);
+        if c == 0 {
+            return pass(t, d, a, s, at + 1);
+        }
+        if c == 1 {
+            return pass(t, d, b, s, at + 1);
+        }
+        return Skip::Broken;
+    }
+    if kind == 10 {
+        let Skip::At(p) = pass(t, d, a, s, at) else {
+            return Skip::Broken;
+        };
+        return pass(t, d, b, s, p);
+    }
+    Skip::Broken
+}
+
+// Past n values of one format.
+fn pass_many(t: &[u64], depth: u32, node: u64, n: u64, s: &[u8], at: usize) -> Skip
+    requires { ⌜ at ≤ length (now s) ⌝ }
+    ensures { λ r. ⌜ r ≡ skipMany (formatAt depth (now (t .entry)) node) n (now (s .entry)) at ⌝ }
+{
+    let mut p = at;
+    let mut left = n;
+    while 0 < left {
+        let Skip::At(q) = pass(t, depth, node, s, p) else {
+            return Skip::Broken;
+        };
+        p = q;
+        left -= 1;
+    }
+    Skip::At(p)
+}
