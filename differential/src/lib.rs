@@ -12,6 +12,7 @@ pub use original::{gtfs, routing, rt};
 pub mod form;
 pub mod gens;
 pub mod host;
+pub mod layout;
 pub mod messages;
 pub mod panel;
 pub mod papers;

@@ -1,15 +1,15 @@
 //! Document 01's "Questions before work", 3 to 6 and the counts of 7 that an input alone decides: the
 //! number of the first no, or the input read. The original has no counterpart of these.
 use crate::form::{Form, Text};
-use crate::papers::{AlertSheet, Card, Leg, Transit, VehicleSheet};
-use crate::tree::{tree, Field, Listed, Type, Value};
+use crate::papers::{Alert, AlertSheet, Card, Leg, Transit, VehicleSheet};
+use crate::tree::{tree, Field, Listed, Type, Value, DEEPEST_GROUP};
 
 pub const LONGEST_INPUT: usize = 1_048_576;
 pub const LONGEST_CARD: usize = 65_536;
 
 pub fn message(feed: &[u8], message: &[u8]) -> Result<Vec<Field>, u8> {
     yes(message.len() <= LONGEST_INPUT, 3)?;
-    let fields = tree(Type::FeedMessage, message).ok_or(4)?;
+    let fields = tree(Type::FeedMessage, message, DEEPEST_GROUP).ok_or(4)?;
     yes(feed_id(feed) && every(&fields, &text_within), 5)?;
     yes(every(&fields, &time_within), 6)?;
     Ok(fields)
@@ -18,27 +18,39 @@ pub fn message(feed: &[u8], message: &[u8]) -> Result<Vec<Field>, u8> {
 pub fn alert_sheet(feed: &[u8], sheet: &[u8]) -> Result<AlertSheet, u8> {
     yes(sheet.len() <= LONGEST_INPUT, 3)?;
     let sheet = AlertSheet::of(sheet).ok_or(4)?;
+    yes(feed_id(feed), 5)?;
+    alerts(&sheet)?;
+    Ok(sheet)
+}
+
+/// Questions 5 to 7 of alerts, on a sheet or in an overlay.
+pub fn alerts(sheet: &AlertSheet) -> Result<(), u8> {
+    let lists = |alert: &Alert| [alert.trips.clone(), alert.routes.clone(), alert.stops.clone()];
     let texts = sheet.alerts.iter().all(|alert| {
         alert.header.iter().all(|text| utf8(text, 512))
             && alert.description.iter().all(|text| utf8(text, 2_048))
             && alert.cause.iter().all(|text| utf8(text, 64))
-            && [&alert.trips, &alert.routes, &alert.stops].iter().all(|ids| ids.iter().all(id))
+            && lists(alert).iter().flatten().all(id)
     });
-    yes(feed_id(feed) && texts, 5)?;
-    let lists = |ids: &[&Vec<Text>]| ids.iter().all(|ids| ids.len() <= 32);
-    let counts = sheet.alerts.iter().all(|alert| lists(&[&alert.trips, &alert.routes, &alert.stops]));
-    yes(sheet.alerts.len() <= 256 && counts, 7)?;
-    Ok(sheet)
+    yes(texts, 5)?;
+    let counts = sheet.alerts.iter().all(|alert| lists(alert).iter().all(|ids| ids.len() <= 32));
+    yes(sheet.alerts.len() <= 256 && counts, 7)
 }
 
 pub fn vehicle_sheet(feed: &[u8], sheet: &[u8], clock: i64) -> Result<VehicleSheet, u8> {
     yes(sheet.len() <= LONGEST_INPUT, 3)?;
     let sheet = VehicleSheet::of(sheet).filter(VehicleSheet::ascending).ok_or(4)?;
-    let texts = sheet.vehicles.iter().all(|vehicle| id(&vehicle.key) && vehicle.trip.iter().all(id));
-    yes(feed_id(feed) && texts, 5)?;
-    let times = sheet.vehicles.iter().all(|vehicle| feed_time(vehicle.updated));
-    yes(feed_time(clock) && times, 6)?;
+    yes(feed_id(feed), 5)?;
+    vehicles(&sheet)?;
+    yes(feed_time(clock), 6)?;
     Ok(sheet)
+}
+
+/// Questions 4 to 6 of vehicles, on a sheet or in an overlay.
+pub fn vehicles(sheet: &VehicleSheet) -> Result<(), u8> {
+    yes(sheet.ascending(), 4)?;
+    yes(sheet.vehicles.iter().all(|vehicle| id(&vehicle.key) && vehicle.trip.iter().all(id)), 5)?;
+    yes(sheet.vehicles.iter().all(|vehicle| feed_time(vehicle.updated)), 6)
 }
 
 pub fn card(card: &[u8]) -> Result<Card, u8> {
@@ -101,7 +113,8 @@ fn card_time(time: i64) -> bool {
     (-1_200_798_848..=4_293_400_446).contains(&time)
 }
 
-fn every(fields: &[Field], holds: &dyn Fn(&Field) -> bool) -> bool {
+/// Of every listed value, overwritten or passed over included.
+pub fn every(fields: &[Field], holds: &dyn Fn(&Field) -> bool) -> bool {
     fields.iter().all(|field| match &field.value {
         Value::Message(inner) => every(inner, holds),
         _ => holds(field),

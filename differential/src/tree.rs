@@ -62,22 +62,22 @@ pub struct Field {
     pub value: Value,
 }
 
-const DEEPEST_GROUP: usize = 16;
+pub const DEEPEST_GROUP: usize = 16;
 
 /// The listed fields of a whole message; none where it is broken.
-pub fn tree(message: Type, bytes: &[u8]) -> Option<Vec<Field>> {
+pub fn tree(message: Type, bytes: &[u8], deepest_group: usize) -> Option<Vec<Field>> {
     let mut left = bytes;
     let mut fields = Vec::new();
     while !left.is_empty() {
         let (number, wire_type) = key(&mut left)?;
         let Some(listed) = listed(message, number) else {
-            skip(&mut left, number, wire_type, DEEPEST_GROUP)?;
+            skip(&mut left, number, wire_type, deepest_group)?;
             continue;
         };
         let value = match (listed, wire_type) {
             (Listed::Number | Listed::Time, 0) => Value::Number(varint(&mut left)?),
             (Listed::Id | Listed::Short, 2) => Value::Text(delimited(&mut left)?.into()),
-            (Listed::Message(inner), 2) => Value::Message(tree(inner, delimited(&mut left)?)?),
+            (Listed::Message(inner), 2) => Value::Message(tree(inner, delimited(&mut left)?, deepest_group)?),
             _ => return None,
         };
         fields.push(Field { number, listed, value });

@@ -5,21 +5,21 @@ use crate::panel::Call;
 
 /// A list of calls on a fresh overlay that ends in a card.
 pub fn history(random: &mut Random, most: usize) -> Vec<Call> {
-    let mut calls = random.list(most - 1, call);
+    let mut calls: Vec<_> = (0..random.below(most - 1) + 1).map(|_| call(random)).collect();
     calls.push(Call::Card { card: card(random).written() });
     calls
 }
 
 pub fn call(random: &mut Random) -> Call {
     let mut call = match random.below(16) {
-        0..=5 => Call::Message { feed: feed(random), message: message(random) },
-        6..=8 => Call::AlertSheet { feed: feed(random), sheet: alert_sheet(random).written() },
-        9..=11 => Call::VehicleSheet {
+        0..=6 => Call::Message { feed: feed(random), message: message(random) },
+        7..=9 => Call::AlertSheet { feed: feed(random), sheet: alert_sheet(random).written() },
+        10..=12 => Call::VehicleSheet {
             feed: feed(random),
             sheet: vehicle_sheet(random).written(),
             clock: feed_time(random) + random.pick(&[0, 899, 900, 901]),
         },
-        12..=14 => Call::Card { card: card(random).written() },
+        13 | 14 => Call::Card { card: card(random).written() },
         _ => Call::Report { feed: feed(random) },
     };
     if random.once_in(12) {

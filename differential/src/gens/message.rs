@@ -64,20 +64,21 @@ fn trip_update(random: &mut Random) -> Vec<u8> {
 }
 
 fn trip(random: &mut Random) -> Vec<u8> {
-    let parts = random.list(7, |random| match random.below(8) {
-        0..=2 => stocked(random, 1, TRIPS),
-        3 => stocked(random, 2, CLOCKS),
-        4 => stocked(random, 3, DATES),
-        5 => {
-            let value = random.pick(&[0, 1, 3, 3, 5, 99, (1 << 32) + 3]);
+    let mut parts = random.list(7, |random| match random.below(6) {
+        0 => stocked(random, 1, TRIPS),
+        1 => stocked(random, 2, CLOCKS),
+        2 => stocked(random, 3, DATES),
+        3 => {
+            let value = random.pick(&[0, 1, 3, 5, 99, (1 << 32) + 3]);
             varint(random, 4, value)
         }
-        6 => stocked(random, 5, ROUTES),
+        4 => stocked(random, 5, ROUTES),
         _ => {
             let value = random.pick(&[0, 1, 1 << 32, 4_294_967_295]);
             varint(random, 6, value)
         }
     });
+    parts.extend(random.maybe(|random| stocked(random, 1, TRIPS)));
     mixed(random, parts, &[])
 }
 

@@ -13,8 +13,9 @@ pub use paper::{wild_alert_sheet, wild_card, wild_vehicle_sheet};
 
 use crate::random::Random;
 
-const FEEDS: &[&str] = &["f", "f", "f", "g", "a@b", "ff"];
-const TRIPS: &[&str] = &["1", "1", "2", "3", "1@20260101", "#r=f:R&d=&sd=&st=", "C01375", "", "x:1"];
+const FEEDS: &[&str] = &["f", "f", "f", "f", "f", "f", "f", "f", "g", "a@b", "ff"];
+const TRIPS: &[&str] =
+    &["1", "1", "1", "1", "1", "2", "3", "1@20260101", "#r=f:R&d=&sd=&st=", "C01375", "", "x:1"];
 const ROUTES: &[&str] = &[
     "R",
     "R",
@@ -33,7 +34,7 @@ const ROUTES: &[&str] = &[
     "x/5",
 ];
 const STOPS: &[&str] = &["A", "A", "B", "C", "x:A", "A:", "a", "x/A", "--", "STIF:StopPoint:Q:A:", ""];
-const DATES: &[&str] = &["20260101", "20260101", "20260102", "20251231", "20260701", ""];
+const DATES: &[&str] = &["20260101", "20260101", "20260101", "20260102", "20251231", "20260701", ""];
 const CLOCKS: &[&str] = &["08:00:00", "8:00", ""];
 const MODES: &[&str] = &["METRO", "Rail", "tram", "RER", "BUS", "subway", "Tramway", "", " METRO"];
 const SHORT_NAMES: &[&str] = &["5", "14", "1", "B", "A", "T3", "T3a", "t1", " 5 ", "", "N12", "R"];
@@ -47,11 +48,14 @@ fn any(random: &mut Random, stock: &[&str]) -> String {
     random.pick(stock).to_string()
 }
 
-/// An id as cards and sheets have it: mostly with a feed's prefix, sometimes dated.
+/// An id as cards and sheets have it: mostly with a feed's prefix, sometimes dated, often the commonest.
 fn named(random: &mut Random, stock: &[&str]) -> String {
+    if random.once_in(3) {
+        return format!("{}:{}", FEEDS[0], stock[0]);
+    }
     let raw = any(random, stock);
     let dated = if random.once_in(8) { format!("{raw}@{}", any(random, DATES)) } else { raw };
-    match random.below(12) {
+    match random.below(24) {
         0 => dated,
         1 => any(random, FEEDS),
         _ => format!("{}:{dated}", any(random, FEEDS)),

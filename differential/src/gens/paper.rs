@@ -25,7 +25,7 @@ pub fn card(random: &mut Random) -> Card {
         duration: delay(random),
         status: Small(random.below(5) as u8),
         headers: random.list(2, |random| text(alert_text(random, 3))),
-        legs: random.list(4, |random| match random.below(5) {
+        legs: random.list(5, |random| match random.below(6) {
             0 => Leg::Walk(text(any(random, STOPS))),
             _ => Leg::Transit(transit(random)),
         }),

@@ -1,5 +1,7 @@
 //! The comparison's own test: what the original gives in small cases beside what document 01 says,
-//! the forms read and written back, and each question at its bound and one past it.
+//! each question at its bound and one past it, the forms read
+//! and written back, and random messages and lists of calls.
+mod at_random;
 mod bounds;
 mod round_trips;
 mod rules;
@@ -30,6 +32,7 @@ fn main() {
     rules::run(&mut tally);
     bounds::run(&mut tally);
     round_trips::run(&mut tally);
+    at_random::run(&mut tally);
     println!("differential: {} cases agree, {} differ", tally.agree, tally.differ);
     std::process::exit(i32::from(tally.differ > 0));
 }
