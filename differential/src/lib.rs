@@ -1,0 +1,23 @@
+//! The original Rust as the judge, and beside it the plain second reading of document 01 that judges
+//! what the original has no answer for.
+// `std` below is ordered_std, so the original's maps are ordered by key.
+extern crate ordered_std as std;
+
+#[allow(dead_code, unused_imports, deprecated)]
+mod original {
+    include!(concat!(env!("OUT_DIR"), "/original.rs"));
+}
+pub use original::{gtfs, routing, rt};
+
+pub mod form;
+pub mod gens;
+pub mod host;
+pub mod layout;
+pub mod messages;
+pub mod panel;
+pub mod papers;
+pub mod questions;
+pub mod random;
+pub mod samples;
+pub mod tree;
+pub mod wire;

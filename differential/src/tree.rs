@@ -1,0 +1,130 @@
+//! Document 01's "Wire reader" over again, plainly: the listed fields of a message in order, as a
+//! tree in which unlisted fields leave no trace. It judges messages where prost has other limits.
+
+/// The message types of document 01's list.
+#[derive(Clone, Copy, Debug, PartialEq)]
+pub enum Type {
+    FeedMessage,
+    FeedHeader,
+    FeedEntity,
+    TripUpdate,
+    TripDescriptor,
+    StopTimeUpdate,
+    StopTimeEvent,
+}
+
+/// What a listed field holds, as far as questions 4 to 6 tell them apart.
+#[derive(Clone, Copy, Debug, PartialEq)]
+pub enum Listed {
+    Number,
+    Time,
+    Id,
+    /// A start date or start time.
+    Short,
+    Message(Type),
+}
+
+pub fn listed(message: Type, field: u64) -> Option<Listed> {
+    use Listed::*;
+    use Type::*;
+    Some(match (message, field) {
+        (FeedMessage, 1) => Message(FeedHeader),
+        (FeedMessage, 2) => Message(FeedEntity),
+        (FeedHeader, 2 | 3) => Number,
+        (FeedEntity, 2) => Number,
+        (FeedEntity, 3) => Message(TripUpdate),
+        (TripUpdate, 1) => Message(TripDescriptor),
+        (TripUpdate, 2) => Message(StopTimeUpdate),
+        (TripUpdate, 5) => Number,
+        (TripDescriptor, 1 | 5) => Id,
+        (TripDescriptor, 2 | 3) => Short,
+        (TripDescriptor, 4 | 6) => Number,
+        (StopTimeUpdate, 1 | 5) => Number,
+        (StopTimeUpdate, 2 | 3) => Message(StopTimeEvent),
+        (StopTimeUpdate, 4) => Id,
+        (StopTimeEvent, 1) => Number,
+        (StopTimeEvent, 2) => Time,
+        _ => return None,
+    })
+}
+
+#[derive(Clone, Debug, PartialEq)]
+pub enum Value {
+    Number(u64),
+    Text(Vec<u8>),
+    Message(Vec<Field>),
+}
+
+#[derive(Clone, Debug, PartialEq)]
+pub struct Field {
+    pub number: u64,
+    pub listed: Listed,
+    pub value: Value,
+}
+
+pub const DEEPEST_GROUP: usize = 16;
+
+/// The listed fields of a whole message; none where it is broken.
+pub fn tree(message: Type, bytes: &[u8], deepest_group: usize) -> Option<Vec<Field>> {
+    let mut left = bytes;
+    let mut fields = Vec::new();
+    while !left.is_empty() {
+        let (number, wire_type) = key(&mut left)?;
+        let Some(listed) = listed(message, number) else {
+            skip(&mut left, number, wire_type, deepest_group)?;
+            continue;
+        };
+        let value = match (listed, wire_type) {
+            (Listed::Number | Listed::Time, 0) => Value::Number(varint(&mut left)?),
+            (Listed::Id | Listed::Short, 2) => Value::Text(delimited(&mut left)?.into()),
+            (Listed::Message(inner), 2) => Value::Message(tree(inner, delimited(&mut left)?, deepest_group)?),
+            _ => return None,
+        };
+        fields.push(Field { number, listed, value });
+    }
+    Some(fields)
+}
+
+fn varint(left: &mut &[u8]) -> Option<u64> {
+    let length = left.iter().take(10).position(|byte| *byte < 128)? + 1;
+    let (bytes, rest) = left.split_at(length);
+    *left = rest;
+    let value = bytes.iter().rev().fold(0u128, |value, byte| value << 7 | u128::from(byte & 127));
+    u64::try_from(value).ok()
+}
+
+fn key(left: &mut &[u8]) -> Option<(u64, u64)> {
+    let key = varint(left)?;
+    (8..1 << 32).contains(&key).then_some((key >> 3, key & 7))
+}
+
+fn take<'a>(left: &mut &'a [u8], count: u64) -> Option<&'a [u8]> {
+    let (taken, rest) = left.split_at_checked(usize::try_from(count).ok()?)?;
+    *left = rest;
+    Some(taken)
+}
+
+fn delimited<'a>(left: &mut &'a [u8]) -> Option<&'a [u8]> {
+    let length = varint(left)?;
+    take(left, length)
+}
+
+fn skip(left: &mut &[u8], number: u64, wire_type: u64, depth_left: usize) -> Option<()> {
+    match wire_type {
+        0 => varint(left).map(|_| ()),
+        1 => take(left, 8).map(|_| ()),
+        2 => delimited(left).map(|_| ()),
+        3 => skip_group(left, number, depth_left.checked_sub(1)?),
+        5 => take(left, 4).map(|_| ()),
+        _ => None,
+    }
+}
+
+fn skip_group(left: &mut &[u8], number: u64, depth_left: usize) -> Option<()> {
+    loop {
+        match key(left)? {
+            (end, 4) => return (end == number).then_some(()),
+            (inner, wire_type) => skip(left, inner, wire_type, depth_left)?,
+        }
+    }
+}
