@@ -47,16 +47,20 @@ due [] b = none
 due ([] ∷ more) b = due more b
 due ((r ∷ rest) ∷ more) b = pick (inside r b) (some rest) (due more b)
 
-abbrev pub begun : Option (List Range) → (List Range → Bool) → Bool
-begun none k = false
-begun (some rest) k = k rest
+-- what is due after a byte, where it is to be the first of these
+abbrev pub next : List Range → ℕ → Option (List Range)
+next [] b = due rows b
+next (r ∷ rest) b = pick (inside r b) (some rest) none
 
--- whether bytes are whole sequences, after the rest of one
+abbrev pub goesOn : Option (List Range) → (List Range → Bool) → Bool
+goesOn none k = false
+goesOn (some rest) k = k rest
+
+-- whether bytes are what is due, and whole sequences after it
 abbrev pub sequences : List ℕ → List Range → Bool
 sequences [] [] = true
 sequences [] (r ∷ rest) = false
-sequences (b ∷ s) [] = begun (due rows b) (λ rest. sequences s rest)
-sequences (b ∷ s) (r ∷ rest) = inside r b && sequences s rest
+sequences (b ∷ s) rest = goesOn (next rest b) (λ rest. sequences s rest)
 
 -- a byte of a class that is judged byte by byte
 abbrev pub allowed : Class → ℕ → Bool
