@@ -68,9 +68,8 @@ fn main() {
 fn write_cases(folder: &Path, definition: &Definition, seed: u64) {
     let mut random = Random::new(seed);
     // Where the original panics (a window's edge inside a character) there is no answer: the next one.
-    let answered =
-        std::iter::repeat_with(|| catch_unwind(AssertUnwindSafe(|| (definition.case)(&mut random))));
-    let cases: Vec<Equation> = answered.filter_map(Result::ok).take(definition.count).collect();
+    let mut case = |turn| catch_unwind(AssertUnwindSafe(|| (definition.case)(turn, &mut random))).ok();
+    let cases: Vec<Equation> = (0..).filter_map(|turn| case(turn)).take(definition.count).collect();
     let unfolding = match definition.unfolding {
         "" => String::new(),
         names => format!("unfolding {names}\n"),
