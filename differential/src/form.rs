@@ -202,6 +202,12 @@ macro_rules! record {
                 Some($name { $($field: $crate::form::Form::read(from)?),* })
             }
         }
+
+        impl $crate::literal::Literal for $name {
+            fn literal(&self) -> String {
+                $crate::literal::pairs(&[$($crate::literal::Literal::literal(&self.$field)),*])
+            }
+        }
     };
 }
 pub(crate) use record;

@@ -13,6 +13,7 @@ pub mod form;
 pub mod gens;
 pub mod host;
 pub mod layout;
+pub mod literal;
 pub mod messages;
 pub mod panel;
 pub mod papers;

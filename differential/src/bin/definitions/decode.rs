@@ -1,0 +1,38 @@
+//! Cases of crate decode: what a message leaves of a feed's trips.
+use crate::{Definition, Equation};
+use differential::gens::{damaged, message};
+use differential::layout::{said, Said};
+use differential::literal::{list, truth, Literal};
+
+pub const DEFINITIONS: &[Definition] = &[Definition {
+    name: "leaves",
+    crates: &["slices", "wire", "formats", "realtime", "decode"],
+    preamble: "\
+use Rattle.wire.specs.Wire.{digits, varint, key, bytes, text, payload, until, value, field, many, fields}
+use Rattle.slices.specs.Lists.{lexOf}
+use Rattle.realtime.specs.Tree.{Tree, tree, nest, bindO}
+use Rattle.realtime.specs.Schema.{rows, feed}
+use Rattle.decode.specs.Trip.{Trip, Maybe}
+use Rattle.decode.specs.Record.{sequenceIn, updateIn, updatesIn, tripIn}
+use Rattle.decode.specs.Key.{incompleteKey, entriesIn, decimal}
+use Rattle.decode.specs.Leaves.{Trips, differential, timestampIn, entries, leaves}
+
+abbrev said : List ℕ → Option (Bool × (Maybe ℤ × Trips))
+said m = bindO (tree feed 0 m) (λ t. some (differential t, (timestampIn t, leaves (102 ∷ []) t [])))
+",
+    unfolding: "leaves entries entriesIn incompleteKey tripIn updatesIn updateIn sequenceIn differential timestampIn lexOf tree nest feed rows fields many field value payload until text bytes key varint digits",
+    count: 200,
+    case: |_, random| {
+        let whole = message(random);
+        let message = if random.once_in(4) { damaged(random, whole) } else { whole };
+        let right = match said("f", &message) {
+            Ok(Said { differential, timestamp, trips }) => {
+                format!("some ({}, ({}, {}))", truth(differential), timestamp.literal(), list(&trips))
+            }
+            Err(4) => "none".into(),
+            // Questions 5 and 6 judge the tree; what they refuse has no answer here.
+            Err(_) => panic!("refused"),
+        };
+        Equation { left: format!("said {}", list(&message)), right }
+    },
+}];
