@@ -1,0 +1,23 @@
+-- The label of an alert (document 01, "Rust forms that need another body"): the header itself, or, where there is no header, the
+-- description's first 120 characters. An empty text is no label.
+use mathlib.Core.List.{List, [], _∷_}
+use mathlib.Core.Bool.{Bool}
+use Prim.Native.Nat.{ℕ, zero, suc}
+use Rattle.formats.specs.Law.{pick}
+use Rattle.alerts.specs.Text.{within}
+use Rattle.alerts.specs.Alert.{Alert, header, description, present, given}
+
+-- a character begins at each byte that isn't 128 to 191
+abbrev pub continues : ℕ → Bool
+continues b = within 128 191 b
+
+abbrev pub characters : ℕ → List ℕ → List ℕ
+characters n [] = []
+characters zero (b ∷ s) = let r = characters zero s in pick (continues b) (b ∷ r) []
+characters (suc n) (b ∷ s) = b ∷ characters (pick (continues b) (suc n) n) s
+
+abbrev pub labelOf : Bool → List ℕ → List ℕ → List ℕ
+labelOf has-header header description = pick has-header header (characters 120 description)
+
+abbrev pub label : Alert → List ℕ
+label a = labelOf (present (header a)) (given (header a)) (given (description a))

@@ -1,0 +1,6 @@
+pub mod Lists
+pub mod Text
+pub mod Alert
+pub mod Index
+pub mod Applies
+pub mod Label

@@ -1,0 +1,1 @@
+// The label of an alert, as a part of lent bytes.
