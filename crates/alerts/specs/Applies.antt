@@ -126,27 +126,33 @@ trams =
     text "T1" ∷ text "T2" ∷ text "T3" ∷ text "T4" ∷ text "T5" ∷ text "T6" ∷ text "T7" ∷ text "T8" ∷ text "T9"
     ∷ text "T10" ∷ text "T11" ∷ text "T12" ∷ text "T13" ∷ []
 
--- a pattern that has a line's name between two texts
+-- a line's name between two texts; a row of patterns is the text before and the text after
 abbrev pub around : String → List ℕ → String → List ℕ
 around s name t = text s ++ name ++ text t
 
-abbrev pub names-letter : List ℕ → List ℕ → Bool
-names-letter blob l = contains (around "RER " l "") blob || contains (around "RER" l "") blob
+abbrev pub names : List (String × String) → List ℕ → List ℕ → Bool
+names rows blob name = any (λ r. contains (around (r .0) name (r .1)) blob) rows
+
+abbrev pub letterRows : List (String × String)
+letterRows = ("RER ", "") ∷ ("RER", "") ∷ []
+
+abbrev pub numberRows : List (String × String)
+numberRows = ("METRO ", "") ∷ ("METRO", "") ∷ ("LIGNE ", "") ∷ ("LIGNES ", "") ∷ []
+
+abbrev pub bareRows : List (String × String)
+bareRows = (" ", " ") ∷ (" ", ".") ∷ (" ", ",") ∷ ("ET ", "") ∷ []
 
 abbrev pub names-number : List ℕ → List ℕ → Bool
 names-number blob n =
-    contains (around "METRO " n "") blob || contains (around "METRO" n "") blob || contains (around "LIGNE " n "") blob
-    || contains (around "LIGNES " n "") blob
-    || (contains (around " " n " ") blob || contains (around " " n ".") blob || contains (around " " n ",") blob
-    || ends (around " " n "") blob || contains (around "ET " n "") blob)
-    && (has blob "LIGNE" || has blob "METRO")
+    names numberRows blob n
+    || (names bareRows blob n || ends (around " " n "") blob) && (has blob "LIGNE" || has blob "METRO")
 
 abbrev pub names-tram : List ℕ → List ℕ → Bool
 names-tram blob t = contains t blob && (has blob "TRAM" || contains (around " " t "") blob)
 
 abbrev pub commercial-lines-in-text : List ℕ → List (List ℕ)
 commercial-lines-in-text blob =
-    filter (names-letter blob) letters ++ filter (names-number blob) numerals ++ filter (names-tram blob) trams
+    filter (names letterRows blob) letters ++ filter (names-number blob) numerals ++ filter (names-tram blob) trams
 
 -- a line that is named as advice: a marker near its first place, or anywhere in a text about RER or works
 abbrev pub markers : List (List ℕ)
@@ -157,10 +163,8 @@ markers =
 abbrev pub marked : List (List ℕ) → List ℕ → Bool
 marked l s = any (λ m. contains m s) l
 
-abbrev pub needles : List ℕ → List (List ℕ)
-needles short =
-    around "LIGNE " short "" ∷ around "LIGNES " short "" ∷ around "METRO " short "" ∷ around " ET " short ""
-    ∷ around " " short " " ∷ around " " short "." ∷ []
+abbrev pub needleRows : List (String × String)
+needleRows = ("LIGNE ", "") ∷ ("LIGNES ", "") ∷ ("METRO ", "") ∷ (" ET ", "") ∷ (" ", " ") ∷ (" ", ".") ∷ []
 
 -- 48 bytes before a needle to 24 past it, as far as the text goes
 abbrev pub window : List ℕ → ℕ → ℕ → List ℕ
@@ -170,18 +174,25 @@ abbrev pub near : List (List ℕ) → List ℕ → List ℕ → Option ℕ → B
 near l blob needle none = false
 near l blob needle (some i) = marked l (window blob i (length needle))
 
+abbrev pub advised : List (List ℕ) → List ℕ → List ℕ → Bool
+advised l blob short =
+    any
+    (λ r. let n = around (r .0) short (r .1) in near l blob n (find n blob))
+    needleRows
+
 abbrev pub is-secondary-line-context : List ℕ → List ℕ → Bool
 is-secondary-line-context blob short =
-    any (λ n. near markers blob n (find n blob)) (needles short)
+    advised markers blob short
     || marked markers blob && contains short blob && (has blob "RER " || has blob "TRAVAUX SUR")
+
+abbrev pub primaryRows : List (String × String)
+primaryRows =
+    ("RER ", "") ∷ ("RER", "") ∷ ("METRO ", "") ∷ ("TRAVAUX SUR LES RER ", "") ∷ ("TRAVAUX SUR LE RER ", "")
+    ∷ ("INCIDENT LIGNE ", "") ∷ ("LIGNE ", " :") ∷ ("LIGNE ", " -") ∷ ("LIGNE ", " INTERRUPT") ∷ ("LIGNE ", " TRAFIC") ∷ []
 
 abbrev pub is-primary-context : List ℕ → List ℕ → Bool
 is-primary-context blob short =
-    any (λ p. contains p blob)
-    (around "RER " short "" ∷ around "RER" short "" ∷ around "METRO " short "" ∷ around "TRAVAUX SUR LES RER " short ""
-    ∷ around "TRAVAUX SUR LE RER " short "" ∷ around "INCIDENT LIGNE " short "" ∷ around "LIGNE " short " :"
-    ∷ around "LIGNE " short " -" ∷ around "LIGNE " short " INTERRUPT" ∷ around "LIGNE " short " TRAFIC" ∷ [])
-    || begins (around "LIGNE " short "") blob || begins (around "METRO " short "") blob
+    names primaryRows blob short || begins (around "LIGNE " short "") blob || begins (around "METRO " short "") blob
     || begins (around "RER " short "") blob
 
 abbrev pub legBlob : Alert → List ℕ

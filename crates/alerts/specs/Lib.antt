@@ -4,3 +4,5 @@ pub mod Alert
 pub mod Index
 pub mod Applies
 pub mod Label
+pub mod ListLaws
+pub mod Candidates

@@ -1,0 +1,82 @@
+-- Laws of the tests over lists and texts: `||` as it is joined, `any` of joined and nested lists, equality of texts.
+use mathlib.Core.Path.{_≡_, refl, sym, ap, _∙_}
+use mathlib.Core.List.{List, [], _∷_, _++_}
+use mathlib.Core.Bool.{Bool, true, false, not, _&&_, _||_}
+use Prim.Native.Nat.{ℕ}
+use native.Mathlib.Omega.{arith}
+use lib.Dec.{eqb}
+use borrow.Author.Tests.{eqb-true, eq-eqb}
+use Rattle.formats.specs.Law.{headed}
+use Rattle.alerts.specs.Lists.{any, join}
+use Rattle.alerts.specs.Text.{same}
+
+pub or-false : (x : Bool) → x || false ≡ x
+or-false true = refl
+or-false false = refl
+
+pub or-assoc : (x y z : Bool) → x || y || z ≡ x || (y || z)
+or-assoc true y z = refl
+or-assoc false y z = refl
+
+pub or-comm : (x y : Bool) → x || y ≡ y || x
+or-comm true true = refl
+or-comm true false = refl
+or-comm false true = refl
+or-comm false false = refl
+
+-- two pairs, joined the other way
+pub or-cross : (x y z w : Bool) → x || y || (z || w) ≡ x || z || (y || w)
+or-cross true y z w = refl
+or-cross false true z w = sym (or-comm z true)
+or-cross false false z w = refl
+
+pub and-true : {x y : Bool} → x && y ≡ true → (x ≡ true) × (y ≡ true)
+and-true {x = true} e = (refl, e)
+and-true {x = false} e = absurd (let z : _≡_ {A = ℕ} 0 1 = cc in omega arith)
+
+-- what implies the other adds nothing to it
+pub absorbed : (x y : Bool) → (x ≡ true → y ≡ true) → x || y ≡ y
+absorbed true y h = sym (h refl)
+absorbed false y h = refl
+
+-- two tests are equal where each implies the other
+pub both-ways : (x y : Bool) → (x ≡ true → y ≡ true) → (y ≡ true → x ≡ true) → x ≡ y
+both-ways true y h k = sym (h refl)
+both-ways false true h k = k refl
+both-ways false false h k = refl
+
+module _ {A : Type 0} where
+  pub any-append : (p : A → Bool) (l m : List A) → any p (l ++ m) ≡ any p l || any p m
+  any-append p [] m = refl
+  any-append p (a ∷ l) m = rw (any-append p l m) (sym (or-assoc (p a) (any p l) (any p m)))
+
+  pub any-none : (l : List A) → any (λ a. false) l ≡ false
+  any-none [] = refl
+  any-none (a ∷ l) = any-none l
+
+  pub any-or : (p q : A → Bool) (l : List A) → any (λ a. p a || q a) l ≡ any p l || any q l
+  any-or p q [] = refl
+  any-or p q (a ∷ l) = rw (any-or p q l) (or-cross (p a) (q a) (any p l) (any q l))
+
+  pub any-same : (p q : A → Bool) → ((a : A) → p a ≡ q a) → (l : List A) → any p l ≡ any q l
+  any-same p q h [] = refl
+  any-same p q h (a ∷ l) = rw (h a, any-same p q h l) refl
+
+pub any-join : {A B : Type 0} (p : B → Bool) (f : A → List B) (l : List A) → any p (join f l) ≡ any (λ a. any p (f a)) l
+any-join p f [] = refl
+any-join p f (a ∷ l) = any-append p (f a) (join f l) ∙ ap (λ x. any p (f a) || x) (any-join p f l)
+
+pub any-swap : {A B : Type 0} (r : A → B → Bool) (l : List A) (m : List B) → any (λ a. any (r a) m) l ≡ any (λ b. any (λ a. r a b) l) m
+any-swap r [] m = sym (any-none m)
+any-swap r (a ∷ l) m = ap (λ x. any (r a) m || x) (any-swap r l m) ∙ sym (any-or (r a) (λ b. any (λ a. r a b) l) m)
+
+-- equality of texts
+pub same-refl : (s : List ℕ) → same s s ≡ true
+same-refl [] = refl
+same-refl (b ∷ s) = rw (eq-eqb b b refl) (same-refl s)
+
+pub same-true : (s t : List ℕ) → same s t ≡ true → s ≡ t
+same-true [] [] e = refl
+same-true [] (b ∷ t) e = absurd (let z : _≡_ {A = ℕ} 0 1 = cc in omega arith)
+same-true (a ∷ s) [] e = absurd (let z : _≡_ {A = ℕ} 0 1 = cc in omega arith)
+same-true (a ∷ s) (b ∷ t) e = let h = and-true e in headed (eqb-true a b (h .0)) (same-true s t (h .1))
