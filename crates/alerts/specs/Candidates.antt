@@ -3,7 +3,6 @@ use mathlib.Core.Path.{_≡_, refl, sym, ap, _∙_}
 use mathlib.Core.List.{List, [], _∷_, _++_}
 use mathlib.Core.Bool.{Bool, true, false, not, _&&_, _||_}
 use Prim.Native.Nat.{ℕ, suc}
-use native.Mathlib.Omega.{arith}
 use lib.Dec.{eqb}
 use borrow.Author.Tests.{eqb-true, eq-eqb}
 use Rattle.formats.specs.Law.{pick}
@@ -31,7 +30,7 @@ use Rattle.alerts.specs.Index.{
   numbers,
   search,
 }
-use Rattle.alerts.specs.ListLaws.{or-false, or-assoc, or-comm, both-ways, any-append, any-same, any-join, any-swap, same-refl, same-true}
+use Rattle.alerts.specs.ListLaws.{false-true, or-false, or-assoc, or-comm, both-ways, any-append, any-same, any-join, any-swap, same-refl, same-true}
 
 -- a number is left once where it stood, unless it was seen
 distinct-step : (j i : ℕ) (seen l : List ℕ) (t : Bool) → member i seen ≡ t
@@ -64,7 +63,7 @@ get-push k k′ i (e ∷ m) = go (same k′ (e .0)) refl (same k (e .0)) refl (g
     other : same k′ (e .0) ≡ false → same k (e .0) ≡ true → (t : Bool) → same k k′ ≡ t → t ≡ false
     other g h true x =
         let h′ : same k′ (e .0) ≡ true = ap (λ l. same l (e .0)) (sym (same-true k k′ x)) ∙ h in
-        absurd (let z : _≡_ {A = ℕ} 0 1 = cc in omega arith)
+        false-true (sym g ∙ h′)
     other g h false x = refl
 
     go : (t : Bool) → same k′ (e .0) ≡ t → (u : Bool) → same k (e .0) ≡ u
@@ -202,7 +201,7 @@ module _ (l : List Alert) (trip route from to : List ℕ) where
 
 -- whatever is asked of some candidate
 member-any : (p : ℕ → Bool) (l : List ℕ) (j : ℕ) → member j l ≡ true → p j ≡ true → any p l ≡ true
-member-any p [] j h e = absurd (let z : _≡_ {A = ℕ} 0 1 = cc in omega arith)
+member-any p [] j h e = false-true h
 member-any p (i ∷ l) j h e = go (eqb j i) refl (member-any p l j)
   where
     go : (t : Bool) → eqb j i ≡ t → (member j l ≡ true → p j ≡ true → any p l ≡ true) → p i || any p l ≡ true
@@ -210,7 +209,7 @@ member-any p (i ∷ l) j h e = go (eqb j i) refl (member-any p l j)
     go false x ih = rw (ih (sym (ap (λ t. t || member j l) x) ∙ h) e) (or-comm (p i) true)
 
 any-member : (p : ℕ → Bool) (l : List ℕ) → any p l ≡ true → (j : ℕ) × (member j l ≡ true) × (p j ≡ true)
-any-member p [] h = absurd (let z : _≡_ {A = ℕ} 0 1 = cc in omega arith)
+any-member p [] h = false-true h
 any-member p (i ∷ l) h = go (p i) refl (any-member p l)
   where
     go : (t : Bool) → p i ≡ t → (any p l ≡ true → (j : ℕ) × (member j l ≡ true) × (p j ≡ true)) → (j : ℕ) × (member j (i ∷ l) ≡ true) × (p j ≡ true)

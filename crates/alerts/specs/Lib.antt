@@ -4,5 +4,8 @@ pub mod Alert
 pub mod Index
 pub mod Applies
 pub mod Label
+pub mod Reduced
 pub mod ListLaws
+pub mod TextLaws
 pub mod Candidates
+pub mod Implied

@@ -1,6 +1,7 @@
 -- Laws of the tests over lists and texts: `||` as it is joined, `any` of joined and nested lists, equality of texts.
 use mathlib.Core.Path.{_≡_, refl, sym, ap, _∙_}
 use mathlib.Core.List.{List, [], _∷_, _++_}
+use mathlib.Core.Logic.{_⊎_, inl, inr}
 use mathlib.Core.Bool.{Bool, true, false, not, _&&_, _||_}
 use Prim.Native.Nat.{ℕ}
 use native.Mathlib.Omega.{arith}
@@ -30,9 +31,16 @@ or-cross true y z w = refl
 or-cross false true z w = sym (or-comm z true)
 or-cross false false z w = refl
 
+pub false-true : {C : Type 0} → false ≡ true → C
+false-true e = absurd (let z : _≡_ {A = ℕ} 0 1 = cc in omega arith)
+
+pub or-true : (x y : Bool) → x || y ≡ true → (x ≡ true) ⊎ (y ≡ true)
+or-true true y e = inl refl
+or-true false y e = inr e
+
 pub and-true : {x y : Bool} → x && y ≡ true → (x ≡ true) × (y ≡ true)
 and-true {x = true} e = (refl, e)
-and-true {x = false} e = absurd (let z : _≡_ {A = ℕ} 0 1 = cc in omega arith)
+and-true {x = false} e = false-true e
 
 -- what implies the other adds nothing to it
 pub absorbed : (x y : Bool) → (x ≡ true → y ≡ true) → x || y ≡ y
@@ -77,6 +85,6 @@ same-refl (b ∷ s) = rw (eq-eqb b b refl) (same-refl s)
 
 pub same-true : (s t : List ℕ) → same s t ≡ true → s ≡ t
 same-true [] [] e = refl
-same-true [] (b ∷ t) e = absurd (let z : _≡_ {A = ℕ} 0 1 = cc in omega arith)
-same-true (a ∷ s) [] e = absurd (let z : _≡_ {A = ℕ} 0 1 = cc in omega arith)
+same-true [] (b ∷ t) e = false-true e
+same-true (a ∷ s) [] e = false-true e
 same-true (a ∷ s) (b ∷ t) e = let h = and-true e in headed (eqb-true a b (h .0)) (same-true s t (h .1))
