@@ -21,20 +21,10 @@ use Rattle.alerts.specs.Applies.{
   has, roadBlob, road-traffic, is-rail-like-mode, trip-hit, stop-hit,
 }
 use Rattle.alerts.specs.Reduced.{firstToken, token, refs, named, hitsRoute, hitsTrip, hitsStop, road}
-use Rattle.alerts.specs.ListLaws.{false-true, or-false, or-assoc, or-comm, or-true, and-true, both-ways, any-append, any-or, any-same, same-refl, same-true}
+use Rattle.alerts.specs.ListLaws.{
+  false-true, or-false, or-assoc, or-comm, or-true, and-true, not-true, absorb-left, absorb-right, implied-false, any-append, any-or, any-same, any-implies, same-refl, same-true,
+}
 use Rattle.alerts.specs.TextLaws.{isEmpty-true, contains-append, contains-true, contains-trans, begins-contains, ends-append, ends-contains, rsplit-joined}
-
--- what implies the other adds nothing, on its left or on its right
-absorb-left : (x y : Bool) → (x ≡ true → y ≡ true) → x || y ≡ y
-absorb-left true y h = sym (h refl)
-absorb-left false y h = refl
-
-absorb-right : (x y : Bool) → (y ≡ true → x ≡ true) → x || y ≡ x
-absorb-right x y h = or-comm x y ∙ absorb-left y x h
-
-implied-false : (x y : Bool) → (x ≡ true → y ≡ true) → y ≡ false → x ≡ false
-implied-false true y h e = false-true (sym e ∙ h refl)
-implied-false false y h e = refl
 
 -- road traffic
 road-reduced : (blob : List ℕ) → road-traffic blob ≡ road blob
@@ -74,10 +64,6 @@ lastOf-nonempty p h whole (x ∷ l) e = lastOf-nonempty p h (pick (p x) x whole)
     go : (t : Bool) → p x ≡ t → isEmpty (pick t x whole) ≡ false
     go true g = h x g
     go false g = e
-
-not-true : (x : Bool) → not x ≡ true → x ≡ false
-not-true true e = false-true e
-not-true false e = refl
 
 stop-reduced : (a : Alert) (stop : List ℕ) → stop-hit a stop ≡ hitsStop a stop
 stop-reduced a stop = go (isEmpty stop) refl

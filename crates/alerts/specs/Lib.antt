@@ -9,3 +9,4 @@ pub mod ListLaws
 pub mod TextLaws
 pub mod Candidates
 pub mod Implied
+pub mod ProductCodes

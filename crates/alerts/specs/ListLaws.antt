@@ -1,7 +1,7 @@
 -- Laws of the tests over lists and texts: `||` as it is joined, `any` of joined and nested lists, equality of texts.
 use mathlib.Core.Path.{_≡_, refl, sym, ap, _∙_}
 use mathlib.Core.List.{List, [], _∷_, _++_}
-use mathlib.Core.Logic.{_⊎_, inl, inr}
+use mathlib.Core.Logic.{_⊎_, inl, inr, ⊎-elim}
 use mathlib.Core.Bool.{Bool, true, false, not, _&&_, _||_}
 use Prim.Native.Nat.{ℕ}
 use native.Mathlib.Omega.{arith}
@@ -42,10 +42,21 @@ pub and-true : {x y : Bool} → x && y ≡ true → (x ≡ true) × (y ≡ true)
 and-true {x = true} e = (refl, e)
 and-true {x = false} e = false-true e
 
--- what implies the other adds nothing to it
-pub absorbed : (x y : Bool) → (x ≡ true → y ≡ true) → x || y ≡ y
-absorbed true y h = sym (h refl)
-absorbed false y h = refl
+pub not-true : (x : Bool) → not x ≡ true → x ≡ false
+not-true true e = false-true e
+not-true false e = refl
+
+-- what implies the other adds nothing to it, on its left or on its right
+pub absorb-left : (x y : Bool) → (x ≡ true → y ≡ true) → x || y ≡ y
+absorb-left true y h = sym (h refl)
+absorb-left false y h = refl
+
+pub absorb-right : (x y : Bool) → (y ≡ true → x ≡ true) → x || y ≡ x
+absorb-right x y h = or-comm x y ∙ absorb-left y x h
+
+pub implied-false : (x y : Bool) → (x ≡ true → y ≡ true) → y ≡ false → x ≡ false
+implied-false true y h e = false-true (sym e ∙ h refl)
+implied-false false y h e = refl
 
 -- two tests are equal where each implies the other
 pub both-ways : (x y : Bool) → (x ≡ true → y ≡ true) → (y ≡ true → x ≡ true) → x ≡ y
@@ -69,6 +80,11 @@ module _ {A : Type 0} where
   pub any-same : (p q : A → Bool) → ((a : A) → p a ≡ q a) → (l : List A) → any p l ≡ any q l
   any-same p q h [] = refl
   any-same p q h (a ∷ l) = rw (h a, any-same p q h l) refl
+
+  pub any-implies : (p q : A → Bool) → ((a : A) → p a ≡ true → q a ≡ true) → (l : List A) → any p l ≡ true → any q l ≡ true
+  any-implies p q h [] e = e
+  any-implies p q h (a ∷ l) e =
+      ⊎-elim (λ x. rw (h a x) refl) (λ x. rw (any-implies p q h l x) (or-comm (q a) true)) (or-true (p a) (any p l) e)
 
 pub any-join : {A B : Type 0} (p : B → Bool) (f : A → List B) (l : List A) → any p (join f l) ≡ any (λ a. any p (f a)) l
 any-join p f [] = refl
