@@ -7,7 +7,7 @@ use Prim.Native.Nat.{ℕ}
 use native.Mathlib.Omega.{arith}
 use lib.Dec.{eqb}
 use borrow.Author.Tests.{eqb-true, eq-eqb}
-use Rattle.formats.specs.Law.{headed}
+use Rattle.formats.specs.Law.{pick, headed}
 use Rattle.alerts.specs.Lists.{any, join}
 use Rattle.alerts.specs.Text.{same}
 
@@ -41,6 +41,15 @@ or-true false y e = inr e
 pub and-true : {x y : Bool} → x && y ≡ true → (x ≡ true) × (y ≡ true)
 and-true {x = true} e = (refl, e)
 and-true {x = false} e = false-true e
+
+-- a choice of a test is a test
+pub pick-or : (t x : Bool) → pick t true x ≡ t || x
+pick-or true x = refl
+pick-or false x = refl
+
+pub pick-and : (t x : Bool) → pick t false x ≡ not t && x
+pick-and true x = refl
+pick-and false x = refl
 
 pub not-true : (x : Bool) → not x ≡ true → x ≡ false
 not-true true e = false-true e

@@ -12,7 +12,21 @@ use Rattle.formats.specs.Law.{pick, none-some, headed}
 use Rattle.alerts.specs.Lists.{any, isEmpty}
 use Rattle.alerts.specs.Text.{same, within, upperByte, upper, alphanumeric, trim, split}
 use Rattle.alerts.specs.Applies.{
-  isCode, firstCode, product-code-token, segment, decided, tails-match, route-refs-match, short-names-equal, products, nameOf, idfm-product-to-short, is, mapped, same-line, by-product,
+  isCode,
+  firstCode,
+  product-code-token,
+  segment,
+  decided,
+  tails-match,
+  route-refs-match,
+  short-names-equal,
+  products,
+  nameOf,
+  idfm-product-to-short,
+  is,
+  mapped,
+  same-line,
+  by-product,
 }
 use Rattle.alerts.specs.ListLaws.{false-true, or-comm, or-true, and-true, same-refl, same-true}
 

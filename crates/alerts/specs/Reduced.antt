@@ -73,8 +73,10 @@ textOk blob lines short =
 abbrev pub textFits : Alert → List ℕ → Bool
 textFits a short = isEmpty short || textOk (legBlob a) (commercial-lines-in-text (legBlob a)) (upper short)
 
+abbrev pub hits : Alert → List ℕ → List ℕ → List ℕ → List ℕ → List ℕ → Bool
+hits a trip route short from to =
+    hitsTrip a trip || (hitsStop a from || hitsStop a to) || hitsRoute a route short && textFits a short
+
 abbrev pub applies : Alert → List ℕ → List ℕ → List ℕ → List ℕ → List ℕ → List ℕ → Bool
 applies a trip route short from to mode =
-    not (is-rail-like-mode mode && road (roadBlob a))
-    && (hitsTrip a trip || (hitsStop a from || hitsStop a to)
-    || hitsRoute a route (trim short) && textFits a (trim short))
+    not (is-rail-like-mode mode && road (roadBlob a)) && hits a trip route (trim short) from to

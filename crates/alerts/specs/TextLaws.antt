@@ -39,6 +39,9 @@ contains-append [] [] (b ∷ y) = refl
 contains-append [] (a ∷ p) y = rw (begins-append (a ∷ p) y) refl
 contains-append (b ∷ x) p y = rw (contains-append x p y) (or-comm (begins p (b ∷ (x ++ p ++ y))) true)
 
+pub contains-end : (x p : List ℕ) → contains p (x ++ p) ≡ true
+contains-end x p = ap (contains p) (sym (append-nil (x ++ p))) ∙ contains-append x p []
+
 pub contains-true : (p s : List ℕ) → contains p s ≡ true → (x : List ℕ) × (y : List ℕ) × (s ≡ x ++ p ++ y)
 contains-true p [] e = ([], [], sym (append-nil p ∙ isEmpty-true p e))
 contains-true p (b ∷ s) e =
@@ -67,12 +70,9 @@ pub ends-contains : (p s : List ℕ) → ends p s ≡ true → contains p s ≡ 
 ends-contains p [] e = e
 ends-contains p (b ∷ s) e =
     ⊎-elim
-    (λ h. rw (same-true p (b ∷ s) h) (contains-whole (b ∷ s)))
+    (λ h. rw (same-true p (b ∷ s) h) (contains-end [] (b ∷ s)))
     (λ h. rw (ends-contains p s h) (or-comm (begins p (b ∷ s)) true))
     (or-true (same p (b ∷ s)) (ends p s) e)
-  where
-    contains-whole : (s : List ℕ) → contains s s ≡ true
-    contains-whole s = ap (contains s) (sym (append-nil s)) ∙ contains-append [] s []
 
 -- where a text is cut at its last c, it is the two parts with c between
 pub rsplit-joined : (c : ℕ) (s x y : List ℕ) → rsplit-once c s ≡ some (x, y) → s ≡ x ++ (c ∷ y)
