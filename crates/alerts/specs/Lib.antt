@@ -10,3 +10,4 @@ pub mod TextLaws
 pub mod Candidates
 pub mod Implied
 pub mod ProductCodes
+pub mod Vectors
