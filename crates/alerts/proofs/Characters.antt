@@ -1,15 +1,16 @@
 -- The characters of a text, byte by byte: what each turn of the search for their end knows.
 use mathlib.Core.Path.{_≡_, refl, sym, ap, _∙_}
 use mathlib.Core.List.{List, [], _∷_, _++_, append-assoc, append-nil}
-use mathlib.Core.Bool.{Bool, true, false, not}
+use mathlib.Core.Bool.{true, false}
 use Prim.Native.Nat.{ℕ, zero, suc, _+_, _-_, _≤_, _<_}
 use native.Mathlib.Numerals.{add-one}
 use native.Mathlib.Omega.{arith}
 use lib.Dec.{leb}
 use lib.ListN.{length, getD, take, drop, drop-of-length-le}
 use lib.Seq.{drop-cons, take-suc}
-use borrow.Author.Tests.{le-leb, lt-leb, not-true, not-false}
+use borrow.Author.Tests.{le-leb, lt-leb}
 use Rattle.alerts.specs.Label.{continues, characters, Ends}
+use Rattle.alerts.specs.LabelLaws.{on-byte}
 
 pub continues-low : (b : ℕ) → b < 128 → false ≡ continues b
 continues-low b h = rw (lt-leb 128 b h) refl
@@ -24,10 +25,6 @@ pub record Passed (s : List ℕ) (n left i : ℕ) : Type 0 where
 
 pub start : (s : List ℕ) (n : ℕ) → Passed s n n 0
 start s n = record { within = omega arith; whole = refl }
-
-on-byte : (left b : ℕ) (t : List ℕ) → continues b ≡ true → characters left (b ∷ t) ≡ b ∷ characters left t
-on-byte zero b t e = rw e refl
-on-byte (suc left) b t e = rw e refl
 
 first-byte : (left b : ℕ) (t : List ℕ) → continues b ≡ false → 0 < left → characters left (b ∷ t) ≡ b ∷ characters (left - 1) t
 first-byte zero b t e h = absurd (omega arith)

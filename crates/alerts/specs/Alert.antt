@@ -3,18 +3,17 @@ use mathlib.Core.List.{List, []}
 use mathlib.Core.Logic.{_⊎_, inl, inr}
 use mathlib.Core.Bool.{Bool, true, false}
 use Prim.Native.Nat.{ℕ}
-use Rattle.formats.specs.Format.{Format, Value, text, constant, list, pair, any, printable, optional}
+use Rattle.formats.specs.Class.{printable, utf8}
+use Rattle.formats.specs.Format.{Format, Value, text, constant, list, _&_, optional}
 
 abbrev pub ids : Format
 ids = list 32 (text 64 printable)
 
 abbrev pub alert : Format
-alert =
-    pair (optional (text 512 any)) (pair (optional (text 2048 any)) (pair (optional (text 64 any))
-    (pair ids (pair ids ids))))
+alert = optional (text 512 utf8) & optional (text 2048 utf8) & optional (text 64 utf8) & ids & ids & ids
 
 abbrev pub alertSheet : Format
-alertSheet = pair (constant 1) (list 256 alert)
+alertSheet = constant 1 & list 256 alert
 
 abbrev pub Alert : Type 0
 Alert = Value alert

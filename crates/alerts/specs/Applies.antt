@@ -10,7 +10,7 @@ use Prim.Native.Char.{code}
 use lib.Dec.{leb, eqb}
 use lib.ListN.{length, take, drop}
 use Rattle.formats.specs.Law.{pick}
-use Rattle.formats.specs.Format.{all}
+use Rattle.formats.specs.Class.{all}
 use Rattle.alerts.specs.Lists.{any, member, filter, isEmpty}
 use Rattle.alerts.specs.Text.{text, same, begins, ends, contains, find, upperByte, upper, alike, digit, alphanumeric, trim, split}
 use Rattle.alerts.specs.Alert.{Alert, header, description, cause, informed-trip-ids, informed-route-ids, informed-stop-ids, given}

@@ -11,9 +11,9 @@ use lib.Dec.{leb, eqb}
 use lib.ListN.{length, drop}
 use borrow.Author.Tests.{leb-true, leb-false, lt-leb, eqb-true}
 use Rattle.formats.specs.Law.{pick, none-some, headed}
-use Rattle.formats.specs.Format.{all}
+use Rattle.formats.specs.Class.{all}
 use Rattle.alerts.specs.Lists.{any, filter, isEmpty}
-use Rattle.alerts.specs.Text.{text, same, begins, ends, contains, find, within, upperByte, upper, alike, alphanumeric, trimStart, trimEnd, trim, rsplit-once, onto, split}
+use Rattle.alerts.specs.Text.{text, same, begins, ends, contains, find, upperByte, upper, alike, alphanumeric, trimStart, trimEnd, trim, rsplit-once, onto, split}
 use Rattle.alerts.specs.Alert.{Alert, header, description, given, informed-trip-ids, informed-route-ids, informed-stop-ids}
 use Rattle.alerts.specs.Index.{undated, after, tail}
 use Rattle.alerts.specs.Applies.{

@@ -6,12 +6,12 @@ use mathlib.Core.Bool.{Bool}
 use Prim.Native.Nat.{ℕ, zero, suc, _≤_}
 use lib.ListN.{length, take}
 use Rattle.formats.specs.Law.{pick}
-use Rattle.alerts.specs.Text.{within}
+use Rattle.formats.specs.Class.{inside, trail}
 use Rattle.alerts.specs.Alert.{Alert, header, description, present, given}
 
--- a character begins at each byte that isn't 128 to 191
+-- a character begins at each byte that is no trailing one, of 128 to 191
 abbrev pub continues : ℕ → Bool
-continues b = within 128 191 b
+continues b = inside trail b
 
 abbrev pub characters : ℕ → List ℕ → List ℕ
 characters n [] = []

@@ -11,3 +11,4 @@ pub mod Candidates
 pub mod Implied
 pub mod ProductCodes
 pub mod Vectors
+pub mod LabelLaws

@@ -9,8 +9,9 @@ use native.Mathlib.Omega.{arith}
 use borrow.Author.Tests.{leb-true, lt-leb}
 use lib.Dec.{leb}
 use Rattle.formats.specs.Law.{pick, none-some, headed}
+use Rattle.formats.specs.Class.{inside}
 use Rattle.alerts.specs.Lists.{any, isEmpty}
-use Rattle.alerts.specs.Text.{same, within, upperByte, upper, alphanumeric, trim, split}
+use Rattle.alerts.specs.Text.{same, upperByte, upper, alphanumeric, trim, split}
 use Rattle.alerts.specs.Applies.{
   isCode,
   firstCode,
@@ -32,9 +33,9 @@ use Rattle.alerts.specs.ListLaws.{false-true, or-comm, or-true, and-true
 
 -- a code is in capitals already
 upper-byte : (b : ℕ) → upperByte (upperByte b) ≡ upperByte b
-upper-byte b = go (within 97 122 b) refl
+upper-byte b = go (inside (97, 122) b) refl
   where
-    go : (t : Bool) → within 97 122 b ≡ t → upperByte (pick t (b - 32) b) ≡ pick t (b - 32) b
+    go : (t : Bool) → inside (97, 122) b ≡ t → upperByte (pick t (b - 32) b) ≡ pick t (b - 32) b
     go true e =
         let h : b ≤ 122 = leb-true b 122 (and-true {x = leb 97 b} e .1) in
         rw (lt-leb 97 (b - 32) (omega arith)) refl

@@ -7,9 +7,10 @@ use Prim.Native.Nat.{ℕ, suc, _+_, _-_, _/_, _%_}
 use Prim.Native.String.{String}
 use Prim.Native.String as String
 use Prim.Native.Char.{code}
-use lib.Dec.{leb, ltb, eqb}
+use lib.Dec.{ltb, eqb}
 use lib.ListN.{length}
 use Rattle.formats.specs.Law.{pick}
+use Rattle.formats.specs.Class.{inside}
 use Rattle.alerts.specs.Lists.{isEmpty}
 
 -- the UTF-8 bytes of a character, and of a quoted text
@@ -55,11 +56,8 @@ find p [] = pick (isEmpty p) (some 0) none
 find p (b ∷ s) = let r = later (find p s) in pick (begins p (b ∷ s)) (some 0) r
 
 -- `to_ascii_uppercase`, `eq_ignore_ascii_case`
-abbrev pub within : ℕ → ℕ → ℕ → Bool
-within lo hi b = leb lo b && leb b hi
-
 abbrev pub upperByte : ℕ → ℕ
-upperByte b = pick (within 97 122 b) (b - 32) b
+upperByte b = pick (inside (97, 122) b) (b - 32) b
 
 abbrev pub upper : List ℕ → List ℕ
 upper s = map upperByte s
@@ -68,11 +66,11 @@ abbrev pub alike : List ℕ → List ℕ → Bool
 alike s t = same (upper s) (upper t)
 
 abbrev pub digit : ℕ → Bool
-digit b = within 48 57 b
+digit b = inside (48, 57) b
 
 -- `is_ascii_alphanumeric`
 abbrev pub alphanumeric : ℕ → Bool
-alphanumeric b = digit b || within 65 90 b || within 97 122 b
+alphanumeric b = digit b || inside (65, 90) b || inside (97, 122) b
 
 -- `trim`, of the texts that question 5 lets in: their only white space is the space
 abbrev pub trimStart : List ℕ → List ℕ

@@ -9,7 +9,7 @@ use native.Mathlib.Omega.{arith}
 use lib.Dec.{eqb}
 use borrow.Author.Tests.{eqb-true, eq-eqb}
 use Rattle.formats.specs.Law.{pick, headed, none-some, found}
-use Rattle.formats.specs.Format.{all}
+use Rattle.formats.specs.Class.{all}
 use Rattle.alerts.specs.Lists.{any, isEmpty}
 use Rattle.alerts.specs.Text.{same, begins, ends, contains, trimStart, trimEnd, trim, splitOff, rsplit-once, onto, split}
 use Rattle.alerts.specs.ListLaws.{or-comm, or-true, and-true, both-ways, same-refl, same-true, false-true}
