@@ -10,5 +10,6 @@ pub mod TextLaws
 pub mod Candidates
 pub mod Implied
 pub mod ProductCodes
+pub mod Found
 pub mod Vectors
 pub mod LabelLaws

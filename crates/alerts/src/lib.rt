@@ -1,6 +1,8 @@
-// The label of an alert, as a part of lent bytes.
+// The label of an alert, as a part of lent bytes; the alert tests.
 ghost use mathlib.Core.Path.{_≡_};
 ghost use Rattle.alerts.specs.Label.{continues, Ends, labelOf};
+
+pub mod text; // texts searched for patterns
 
 // Whether a byte goes on with a character.
 fn goes_on(b: u8) -> bool
