@@ -69,11 +69,11 @@ larger-right m n = go (leb m n) refl
     go false e = rw e (omega (arith, leb-false m n e))
 
 -- a conjunction taken apart
-left : (x y : Bool) → (x && y) ≡ true → x ≡ true
+pub left : (x y : Bool) → (x && y) ≡ true → x ≡ true
 left true y e = refl
 left false y e = absurd (false≢true e)
 
-right : (x y : Bool) → (x && y) ≡ true → y ≡ true
+pub right : (x y : Bool) → (x && y) ≡ true → y ≡ true
 right true y e = e
 right false y e = absurd (false≢true e)
 
