@@ -1,0 +1,5 @@
+-- Lemmas on plain values.
+mod Reader
+mod Stops
+mod Signed
+mod Typing
