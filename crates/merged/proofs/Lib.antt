@@ -3,3 +3,4 @@ mod Reader
 mod Stops
 mod Signed
 mod Typing
+mod Walking

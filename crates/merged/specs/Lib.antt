@@ -4,3 +4,5 @@ pub mod Scalars
 pub mod Typed
 pub mod Narrow
 pub mod Views
+pub mod Walks
+pub mod Starts

@@ -3,6 +3,7 @@ use realtime::FEED_ENTITY;
 use realtime::FEED_MESSAGE;
 use realtime::STOP_TIME_UPDATE;
 use realtime::Step;
+use realtime::TRIP_UPDATE;
 use realtime::next;
 ghost use mathlib.Core.Path.{_≡_};
 ghost use Prim.Native.Nat.{_+_, _≤_};
@@ -12,6 +13,8 @@ ghost use Rattle.merged.specs.Reading.{Ready, Reads};
 ghost use Rattle.merged.specs.Scalars.{Lasting, StopLasting, StopReads, blank, kept, own, path, scalars, takesAlong};
 ghost use Rattle.merged.specs.Narrow.{isValue, toBool, toDelay, toDirection, toEvent, toHeader, toSequence, toSpan, toStop, toTime, toTimestamp, toTrip};
 ghost use Rattle.merged.specs.Typed as typed;
+ghost use Rattle.merged.specs.Walks.{NextEntity, NextUpdate, Sound, Walks, Yields, typeOf};
+ghost use Rattle.merged.specs.Starts.{atMerged, atPlain};
 ghost use Rattle.merged.specs.Views.{DeletedRead, HeaderRead, StopRead, TripRead};
 
 // The values of the enums that count.
@@ -551,4 +554,139 @@ pub fn stop_of(s: &[u8], start: usize, len: usize) -> StopUpdate
     ensures { λ r. ⌜ StopRead feed (now (s .entry)) start len r ⌝ }
 {
     stop_from(stop_lasts(s, start, len))
+}
+
+// A walk over the messages at a repeated field, of all the messages at another field merged: the next place outside, and what is left of the message that is open.
+pub struct Walk {
+    pub outer: usize,
+    pub end: usize,
+    pub at: usize,
+}
+
+pub enum Item {
+    At {
+        start: usize,
+        len: usize,
+        walk: Walk,
+    },
+    Done,
+}
+
+// The next message at field `k` of those of type `inner` at field `a` of a message.
+fn next_item(s: &[u8], message: u64, a: u64, inner: u64, k: u64, walk: Walk) -> Item
+    requires { ⌜ Walks feed message a inner (now s) walk ⌝ }
+    ensures { λ r. ⌜ Yields feed message a inner k (typeOf (feed inner k)) (now (s .entry)) walk r ⌝ }
+{
+    let mut outer = walk.outer;
+    let mut end = walk.end;
+    let mut at = walk.at;
+    loop {
+        match next(wire::part(s, 0, end), at, inner) {
+            Step::Broken => return Item::Done,
+            Step::Number {
+                field: _,
+                value: _,
+                next: after,
+            } => {
+                at = after;
+            }
+            Step::Text {
+                field: _,
+                start: _,
+                len: _,
+                next: after,
+            } => {
+                at = after;
+            }
+            Step::Message {
+                field,
+                message: _,
+                start,
+                len,
+                next: after,
+            } => {
+                if field == k {
+                    return Item::At {
+                        start,
+                        len,
+                        walk: Walk {
+                            outer,
+                            end,
+                            at: after,
+                        },
+                    };
+                }
+                at = after;
+            }
+            Step::End => match next(s, outer, message) {
+                Step::Broken => return Item::Done,
+                Step::End => return Item::Done,
+                Step::Number {
+                    field: _,
+                    value: _,
+                    next: after,
+                } => {
+                    outer = after;
+                }
+                Step::Text {
+                    field: _,
+                    start: _,
+                    len: _,
+                    next: after,
+                } => {
+                    outer = after;
+                }
+                Step::Message {
+                    field,
+                    message: _,
+                    start,
+                    len: _,
+                    next: after,
+                } => {
+                    if field == a {
+                        at = start;
+                        end = after;
+                    }
+                    outer = after;
+                }
+            },
+        }
+    }
+}
+
+// The entities of a message, one after the other.
+pub fn entities(s: &[u8]) -> Walk
+    ensures { λ r. ⌜ r ≡ atPlain (now (s .entry)) ⌝ }
+{
+    let n = s.len();
+    Walk {
+        outer: n,
+        end: n,
+        at: 0,
+    }
+}
+
+pub fn next_entity(s: &[u8], walk: Walk) -> Item
+    requires { ⌜ Sound (now s) (walk .outer) (walk .end) (walk .at) ⌝ }
+    ensures { λ r. ⌜ NextEntity (now (s .entry)) walk r ⌝ }
+{
+    next_item(s, FEED_MESSAGE, 0, FEED_MESSAGE, 2, walk)
+}
+
+// The stop_time_updates of an entity that starts at `start` and ends with `s`, one after the other.
+pub fn updates(start: usize) -> Walk
+    ensures { λ r. ⌜ r ≡ atMerged start ⌝ }
+{
+    Walk {
+        outer: start,
+        end: start,
+        at: start,
+    }
+}
+
+pub fn next_update(s: &[u8], walk: Walk) -> Item
+    requires { ⌜ Sound (now s) (walk .outer) (walk .end) (walk .at) ⌝ }
+    ensures { λ r. ⌜ NextUpdate (now (s .entry)) walk r ⌝ }
+{
+    next_item(s, FEED_ENTITY, 3, TRIP_UPDATE, 2, walk)
 }
