@@ -5,12 +5,13 @@ use mathlib.Core.Logic.{_⊎_, inl, inr}
 use Prim.Native.Nat.{ℕ, zero, suc, _+_, _-_, _/_, _%_, _≤_, _<_}
 use native.Mathlib.Omega.{arith}
 use lib.ListN.{length, take, drop, set}
-use lib.Seq.{sets, length-sets, sets-eq, slice, length-slice, length-take-le, take-add, drop-at, take-all}
+use lib.Seq.{sets, length-sets, sets-eq, slice, length-slice, take-all}
 use borrow.Author.Tests.{lt-ltb, le-ltb}
 use Rattle.slices.specs.Lists.{pasted}
 use Rattle.formats.specs.Law.{choiceW}
 use Rattle.formats.specs.Number.{groupsW, numberW, top, littleW}
 use Rattle.writing.specs.Adds.{Adds, none, then, same}
+use Rattle.writing.specs.Slices.{slice-is}
 use Rattle.writing.specs.Given.{textW, givenText, Inside}
 use Rattle.writing.specs.declared.OptionalText.{OptionalText}
 use Rattle.writing.specs.declared.OptionalText.the-variants.{Present}
@@ -96,11 +97,6 @@ little-more zero n z f g e = absurd (z refl)
 little-more (suc k) n z f g e = let i : suc k - 1 ≡ k = omega arith in same (then f g) (rw (i, e) refl)
 
 -- a stretch
-slice-is : (a e : ℕ) (s : List ℕ) → a ≤ e → e ≤ length s → take (e - a) (drop a s) ≡ slice a e s
-slice-is a e s h k =
-    let n : a + (e - a) ≡ e = omega arith in
-    sym (drop-at (take a s) (take (e - a) (drop a s)) a (length-take-le a s (omega arith))) ∙ ap (drop a) (sym (take-add a (e - a) s) ∙ ap (λ n. take n s) n)
-
 copied : (l s : List ℕ) (at a e : ℕ) → a ≤ e → e ≤ length s → at + (e - a) ≤ length l → pasted l at (take (e - a) (drop a s)) (e - a) ≡ sets l at (slice a e s)
 copied l s at a e h k o =
     let c : length (slice a e s) ≡ e - a = length-slice a e s k in
