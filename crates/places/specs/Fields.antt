@@ -1,7 +1,7 @@
 -- The fields of a record, which is pairs to the right: where the part from field k on begins, what it holds, and the record with it changed.
 use mathlib.Core.List.{List}
 use Prim.Native.Nat.{ℕ, zero, suc}
-use Rattle.formats.specs.Format.{Format, never, empty, number, signed, small, text, float, constant, list, choice, pair, Value}
+use Rattle.formats.specs.Format.{Format, never, empty, number, signed, small, text, float, constant, list, choice, _&_, Value}
 use Rattle.formats.specs.Outcome.{skipTo}
 use Rattle.formats.specs.declared.Skip.{Skip}
 use Rattle.formats.specs.declared.Skip.the-variants.{At, Broken}
@@ -9,7 +9,7 @@ use Rattle.formats.specs.declared.Skip.the-variants.{At, Broken}
 -- the record from field k on
 abbrev pub part : ℕ → Format → Format
 part zero f = f
-part (suc k) (pair a b) = part k b
+part (suc k) (a & b) = part k b
 part (suc k) never = never
 part (suc k) empty = never
 part (suc k) (number lo hi) = never
@@ -24,7 +24,7 @@ part (suc k) (choice a b) = never
 -- whether a format has a field k
 abbrev pub Has : ℕ → Format → Type 0
 Has zero f = Unit {0}
-Has (suc k) (pair a b) = Has k b
+Has (suc k) (a & b) = Has k b
 Has (suc k) never = ⊥
 Has (suc k) empty = ⊥
 Has (suc k) (number lo hi) = ⊥
@@ -43,7 +43,7 @@ onward (At p) k = k p
 -- where that part begins
 abbrev pub fieldTo : ℕ → Format → List ℕ → ℕ → Skip
 fieldTo zero f s at = At at
-fieldTo (suc k) (pair a b) s at = onward (skipTo a s at) (λ p. fieldTo k b s p)
+fieldTo (suc k) (a & b) s at = onward (skipTo a s at) (λ p. fieldTo k b s p)
 fieldTo (suc k) never s at = Broken
 fieldTo (suc k) empty s at = Broken
 fieldTo (suc k) (number lo hi) s at = Broken
@@ -58,7 +58,7 @@ fieldTo (suc k) (choice a b) s at = Broken
 -- what a record holds from field k on, and the record with that part changed
 abbrev pub tail : (k : ℕ) (f : Format) → Has k f → Value f → Value (part k f)
 tail zero f h v = v
-tail (suc k) (pair a b) h v = tail k b h (v .1)
+tail (suc k) (a & b) h v = tail k b h (v .1)
 tail (suc k) never h v = absurd h
 tail (suc k) empty h v = absurd h
 tail (suc k) (number lo hi) h v = absurd h
@@ -72,7 +72,7 @@ tail (suc k) (choice a b) h v = absurd h
 
 abbrev pub with : (k : ℕ) (f : Format) → Has k f → Value f → Value (part k f) → Value f
 with zero f h v u = u
-with (suc k) (pair a b) h v u = (v .0, with k b h (v .1) u)
+with (suc k) (a & b) h v u = (v .0, with k b h (v .1) u)
 with (suc k) never h v u = absurd h
 with (suc k) empty h v u = absurd h
 with (suc k) (number lo hi) h v u = absurd h

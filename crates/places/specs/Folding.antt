@@ -1,7 +1,7 @@
 -- A reading loop over values of one format: the answer of the whole is the answer of the rest, from what was gathered so far.
-use mathlib.Core.Path.{_≡_, refl, sym, ap, _∙_}
+use mathlib.Core.Path.{_≡_, refl, sym, _∙_}
 use mathlib.Core.List.{List, [], _∷_}
-use Prim.Native.Nat.{ℕ, zero, suc, _+_, _-_, _≤_, _<_}
+use Prim.Native.Nat.{ℕ, _-_, _≤_, _<_}
 use native.Mathlib.Omega.{arith}
 use lib.ListN.{length}
 use Rattle.formats.specs.Format.{Format, Value}
@@ -41,8 +41,10 @@ module _ {f : Format} {B : Type 0} {op : B → Value f → B} {s : List ℕ} {a 
 
   pub step : {p left : ℕ} {b b′ : B} (e : ℕ) → Folding f op s a n p left b₀ b → 0 < left
       → ((v : Value f) (q : ℕ) → Here f s p q v → e ≡ q) → ((v : Value f) → Here f s p e v → b′ ≡ op b v) → Folding f op s a n e (left - 1) b₀ b′
-  step {p} {left} {b} {b′} e P z ends adds = record { going = λ vs q c h.
-      let G = P .going vs q c h in step-rest f op s vs q p e left b₀ b b′ (G .rest) (G .count) (G .stand) (G .whole) z ends adds }
+  step {p} {left} {b} {b′} e P z ends adds = record {
+    going = λ vs q c h.
+        let G = P .going vs q c h in step-rest f op s vs q p e left b₀ b b′ (G .rest) (G .count) (G .stand) (G .whole) z ends adds;
+  }
 
   pub stop : {p left : ℕ} {b : B} → Folding f op s a n p left b₀ b → left ≤ 0 → (vs : List (Value f)) (q : ℕ) → length vs ≡ n → Many f s a q vs → b ≡ gather op b₀ vs
   stop {p} {left} {b} P z vs q c h = let G = P .going vs q c h in stop-rest op b₀ b vs (G .rest) (G .count ∙ omega arith) (G .whole)

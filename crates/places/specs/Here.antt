@@ -1,16 +1,19 @@
 -- A value of a format that stands at a place: its bytes, its parts, and what the interpreter answers there.
 use mathlib.Core.Path.{_≡_, refl, sym, ap, _∙_}
 use mathlib.Core.List.{List, [], _∷_, _++_, append-assoc}
-use mathlib.Core.Option.{Option, some}
-use mathlib.Core.Logic.{_⊎_, inl, inr}
+use mathlib.Core.Option.{some}
+use mathlib.Core.Logic.{inl, inr}
 use Prim.Native.Nat.{ℕ, zero, suc, _+_, _-_, _≤_, _<_}
 use native.Mathlib.Omega.{arith}
 use native.Mathlib.Nat.{add-zero}
+use lib.IntN.{ℤ}
 use lib.ListN.{length, take, drop, getD, length-append, length-drop, take-append-drop}
-use lib.Seq.{slice, length-slice, slice-empty, length-take-le, take-length, take-append-seam, take-at, drop-at, drop-append-le, getD-drop, drop-drop}
+use lib.Seq.{slice, length-slice, slice-empty, length-take-le, take-append-seam, take-at, drop-at, drop-append-le, getD-drop}
 use borrow.Author.Tests.{lt-ltb}
-use Rattle.formats.specs.Format.{Format, never, empty, number, signed, small, text, float, constant, list, choice, pair, Class, Value, read, write, law, Fits, zig}
-use Rattle.formats.specs.Outcome.{skipTo, skipped, suffix, tagAt}
+use Rattle.formats.specs.Format.{Format, never, empty, number, signed, small, text, float, constant, list, choice, _&_, Value, read, write, law, Fits}
+use Rattle.formats.specs.Number.{zig}
+use Rattle.formats.specs.Class.{Class}
+use Rattle.formats.specs.Outcome.{skipTo, skipped, tagAt}
 use Rattle.formats.specs.declared.Skip.the-variants.{At}
 use Rattle.formats.proofs.Numbers.{place}
 use Rattle.writing.specs.Slices.{slice-is, slice-join}
@@ -76,11 +79,11 @@ pub passed : {f : Format} {s : List ℕ} {p q : ℕ} {v : Value f} → Here f s 
 passed {f} {s} {p} {q} {v} h = ap (skipped s) (reads h) ∙ ap At (place s q (h .within))
 
 -- a pair: its halves, and where they meet
-pub record Halves (a b : Format) (s : List ℕ) (p q : ℕ) (v : Value (pair a b)) (m : ℕ) : Type 0 where
+pub record Halves (a b : Format) (s : List ℕ) (p q : ℕ) (v : Value (a & b)) (m : ℕ) : Type 0 where
   pub first : Here a s p m (v .0)
   pub second : Here b s m q (v .1)
 
-pub halves : {a b : Format} {s : List ℕ} {p q : ℕ} {v : Value (pair a b)} → Here (pair a b) s p q v → Halves a b s p q v (p + length (write a (v .0)))
+pub halves : {a b : Format} {s : List ℕ} {p q : ℕ} {v : Value (a & b)} → Here (a & b) s p q v → Halves a b s p q v (p + length (write a (v .0)))
 halves {a} {b} {s} {p} {q} {v} h =
     let m = meet s p q (write a (v .0)) (write b (v .1)) (h .written) (h .forward) (h .within) in
     record {
@@ -99,16 +102,19 @@ joined x y z u a b e f g = rw (← e, append-assoc, g, f) refl
 
 pub field : (k : ℕ) (f : Format) (i : Has k f) {s : List ℕ} {p q : ℕ} {v : Value f} → Here f s p q v → (m : ℕ) × Field k f i s p q v m × (fieldTo k f s p ≡ At m)
 field zero f i {s} {p} {q} {v} h = (p, record { here = h; forward = omega arith; front = λ u. rw (slice-empty p s) refl }, refl)
-field (suc k) (pair a b) i {s} {p} {q} {v} h =
+field (suc k) (a & b) i {s} {p} {q} {v} h =
     let x = halves h in
     let y = field k b i (x .second) in
-    let n = p + length (write a (v .0)) in
-    (y .0, record {
-      here = y .1 .here;
-      forward = omega (arith, x .first .forward, y .1 .forward);
-      front = λ u. joined (slice p n s) (slice n (y .0) s) (slice p (y .0) s) (write (part k b) u) (write a (v .0)) (write b (with k b i (v .1) u))
-          (slice-join p n (y .0) s (x .first .forward) (y .1 .forward) (omega (arith, y .1 .here .forward, h .within))) (x .first .written) (y .1 .front u);
-    }, ap (λ r. onward r (λ q. fieldTo k b s q)) (passed (x .first)) ∙ y .2)
+    let n = p + length (write a (v .0)) in (
+      y .0,
+      record {
+        here = y .1 .here;
+        forward = omega (arith, x .first .forward, y .1 .forward);
+        front = λ u. joined (slice p n s) (slice n (y .0) s) (slice p (y .0) s) (write (part k b) u) (write a (v .0)) (write b (with k b i (v .1) u))
+            (slice-join p n (y .0) s (x .first .forward) (y .1 .forward) (omega (arith, y .1 .here .forward, h .within))) (x .first .written) (y .1 .front u);
+      },
+      ap (λ r. onward r (λ q. fieldTo k b s q)) (passed (x .first)) ∙ y .2,
+    )
 field (suc k) never i h = absurd i
 field (suc k) empty i h = absurd i
 field (suc k) (number lo hi) i h = absurd i
@@ -174,7 +180,7 @@ number-here h = record { written = h .written; fits = h .fits; forward = h .forw
 pub small-here : {k : ℕ} {s : List ℕ} {p q n : ℕ} → Here (small k) s p q n → Here (number 0 0) s p q n
 small-here h = record { written = h .written; fits = h .fits .0; forward = h .forward; within = h .within }
 
-pub signed-here : {lo hi : ℕ} {s : List ℕ} {p q : ℕ} {z : Value (signed lo hi)} → Here (signed lo hi) s p q z → Here (number 0 0) s p q (zig z)
+pub signed-here : {lo hi : ℤ} {s : List ℕ} {p q : ℕ} {z : ℤ} → Here (signed lo hi) s p q z → Here (number 0 0) s p q (zig z)
 signed-here h = record { written = h .written; fits = h .fits; forward = h .forward; within = h .within }
 
 -- a text: its length, and its bytes from m up to q
@@ -186,9 +192,11 @@ pub record Text (s : List ℕ) (p q : ℕ) (v : List ℕ) (m : ℕ) : Type 0 whe
 pub text-here : {l : ℕ} {c : Class} {s : List ℕ} {p q : ℕ} {v : List ℕ} → Here (text l c) s p q v → (m : ℕ) × Text s p q v m
 text-here {l} {c} {s} {p} {q} {v} h =
     let n = p + length (write (number 0 0) (length v)) in
-    let m = meet s p q (write (number 0 0) (length v)) v (h .written) (h .forward) (h .within) in
-    (n, record {
-      count = record { written = m .first; fits = h .fits .0; forward = m .after; within = omega (arith, m .before, h .within) };
-      bytes = m .second;
-      size = omega (arith, sym (length-slice n q s (h .within)) ∙ ap length (m .second), m .before);
-    })
+    let m = meet s p q (write (number 0 0) (length v)) v (h .written) (h .forward) (h .within) in (
+      n,
+      record {
+        count = record { written = m .first; fits = h .fits .0; forward = m .after; within = omega (arith, m .before, h .within) };
+        bytes = m .second;
+        size = omega (arith, sym (length-slice n q s (h .within)) ∙ ap length (m .second), m .before);
+      },
+    )

@@ -1,14 +1,15 @@
 -- Values of one format that stand one after another: the list they are, their bytes, and the place of the value i.
 use mathlib.Core.Path.{_≡_, refl, sym, ap, _∙_}
 use mathlib.Core.List.{List, [], _∷_, _++_, append-assoc, append-nil}
-use Prim.Native.Nat.{ℕ, zero, suc, _+_, _-_, _≤_, _<_}
+use mathlib.Core.Bool.{true}
+use Prim.Native.Nat.{ℕ, _+_, _-_, _≤_, _<_}
 use native.Mathlib.Omega.{arith}
 use lib.ListN.{length, length-append}
 use lib.Seq.{slice, slice-empty, length-slice}
 use Rattle.formats.specs.Law.{manyW, All}
-use Rattle.formats.specs.Format.{Format, number, list, Value, write, Fits}
+use Rattle.formats.specs.Format.{Format, number, list, Value, write, Fits, takes}
 use Rattle.writing.specs.Slices.{slice-join}
-use Rattle.places.specs.Here.{Here, Meet, meet}
+use Rattle.places.specs.Here.{Here, meet}
 
 abbrev pub Many : (f : Format) (s : List ℕ) (p q : ℕ) → List (Value f) → Type 0
 Many f s p q [] = (p ≡ q) × (q ≤ length s)
@@ -17,13 +18,14 @@ Many f s p q (v ∷ vs) = (m : ℕ) × Here f s p m v × Many f s m q vs
 slice-none : (s : List ℕ) (p q : ℕ) → slice p q s ≡ [] → p ≤ q → q ≤ length s → p ≡ q
 slice-none s p q e h k = omega (arith, sym (length-slice p q s k) ∙ ap length e)
 
-many : (f : Format) (s : List ℕ) (p q : ℕ) (vs : List (Value f)) → slice p q s ≡ manyW (write f) vs → All (Fits f) vs → p ≤ q → q ≤ length s → Many f s p q vs
+many : (f : Format) (s : List ℕ) (p q : ℕ) (vs : List (Value f)) → slice p q s ≡ manyW (write f) vs → All (λ v. Fits f v × (takes f v ≡ true)) vs → p ≤ q → q ≤ length s → Many f s p q vs
 many f s p q [] e a h k = (slice-none s p q e h k, k)
 many f s p q (v ∷ vs) e a h k =
-    let m = meet s p q (write f v) (manyW (write f) vs) e h k in
-    (p + length (write f v),
-    record { written = m .first; fits = a .0; forward = m .after; within = omega (arith, m .before) },
-    many f s (p + length (write f v)) q vs (m .second) (a .1) (m .before) k)
+    let m = meet s p q (write f v) (manyW (write f) vs) e h k in (
+      p + length (write f v),
+      record { written = m .first; fits = a .0 .0; forward = m .after; within = omega (arith, m .before) },
+      many f s (p + length (write f v)) q vs (m .second) (a .1) (m .before) k,
+    )
 
 -- a list: its count at p, and its values from m on
 pub record Listed (f : Format) (s : List ℕ) (p q : ℕ) (vs : List (Value f)) (m : ℕ) : Type 0 where
@@ -32,11 +34,13 @@ pub record Listed (f : Format) (s : List ℕ) (p q : ℕ) (vs : List (Value f)) 
 
 pub listed : {l : ℕ} {f : Format} {s : List ℕ} {p q : ℕ} {vs : List (Value f)} → Here (list l f) s p q vs → (m : ℕ) × Listed f s p q vs m
 listed {l} {f} {s} {p} {q} {vs} h =
-    let m = meet s p q (write (number 0 0) (length vs)) (manyW (write f) vs) (h .written) (h .forward) (h .within) in
-    (_, record {
-      count = record { written = m .first; fits = h .fits .0; forward = m .after; within = omega (arith, m .before, h .within) };
-      values = many f s _ q vs (m .second) (h .fits .1) (m .before) (h .within);
-    })
+    let m = meet s p q (write (number 0 0) (length vs)) (manyW (write f) vs) (h .written) (h .forward) (h .within) in (
+      _,
+      record {
+        count = record { written = m .first; fits = h .fits .0; forward = m .after; within = omega (arith, m .before, h .within) };
+        values = many f s _ q vs (m .second) (h .fits .1) (m .before) (h .within);
+      },
+    )
 
 -- the bytes of a run of values
 pub record Run (f : Format) (s : List ℕ) (p q : ℕ) (vs : List (Value f)) : Type 0 where
@@ -72,8 +76,10 @@ pub record Reaches (f : Format) (s : List ℕ) (a i r : ℕ) : Type 0 where
 
 module _ {f : Format} {s : List ℕ} {a : ℕ} where
   pub reach-start : Reaches f s a 0 a
-  reach-start = record { splits = λ vs q l h. let r = run f s a q vs h in
-      record { front = []; back = vs; joined = refl; count = refl; passed = (refl, omega (arith, r .forward, r .within)); ahead = h } }
+  reach-start = record {
+    splits = λ vs q l h. let r = run f s a q vs h in
+        record { front = []; back = vs; joined = refl; count = refl; passed = (refl, omega (arith, r .forward, r .within)); ahead = h };
+  }
 
   split-step : (vs : List (Value f)) (q i r e : ℕ) (xs ys : List (Value f)) → xs ++ ys ≡ vs → length xs ≡ i → Many f s a r xs → Many f s r q ys → i < length vs
       → ((v : Value f) (q : ℕ) → Here f s r q v → e ≡ q) → Split f s a q vs (i + 1) e
@@ -90,9 +96,11 @@ module _ {f : Format} {s : List ℕ} {a : ℕ} where
       }
 
   pub reach-step : {i r : ℕ} (e : ℕ) → Reaches f s a i r → ((v : Value f) (q : ℕ) → Here f s r q v → e ≡ q) → Reaches f s a (i + 1) e
-  reach-step {i} {r} e R ends = record { splits = λ vs q l h.
-      let S = R .splits vs q (omega arith) h in
-      split-step vs q i r e (S .front) (S .back) (S .joined) (S .count) (S .passed) (S .ahead) (omega arith) ends }
+  reach-step {i} {r} e R ends = record {
+    splits = λ vs q l h.
+        let S = R .splits vs q (omega arith) h in
+        split-step vs q i r e (S .front) (S .back) (S .joined) (S .count) (S .passed) (S .ahead) (omega arith) ends;
+  }
 
 pub reach-stop : {f : Format} {s : List ℕ} {a j i r : ℕ} → Reaches f s a j r → j ≤ i → i ≤ j → Reaches f s a i r
 reach-stop {j} {i} R h k = let e : j ≡ i = omega arith in rw (← e) R

@@ -1,11 +1,9 @@
 -- Values of one format, one after another, and what is written for each: how far a loop over them has come.
 use mathlib.Core.Path.{_≡_, refl, sym, ap, _∙_}
 use mathlib.Core.List.{List, [], _∷_, _++_, append-assoc, append-nil, map}
-use Prim.Native.Nat.{ℕ, zero, suc, _+_, _-_, _≤_, _<_}
+use Prim.Native.Nat.{ℕ, suc, _+_, _-_, _≤_, _<_}
 use native.Mathlib.Omega.{arith}
-use native.Mathlib.Numerals.{add-one}
-use lib.ListN.{length, take, getD}
-use lib.Seq.{take-suc}
+use lib.ListN.{length}
 use Rattle.formats.specs.Law.{manyW}
 use Rattle.formats.specs.Number.{numberW}
 use Rattle.formats.specs.Format.{Format, list, Value, write}
@@ -52,9 +50,11 @@ module _ {f : Format} {g : Value f → List ℕ} {s : List ℕ} {a n : ℕ} {l :
 
   pub step : {p left : ℕ} {m : List ℕ} {k : Put} {m′ : List ℕ} {k′ : Put} (e : ℕ) → Progress f g s a n p left l r m k → 0 < left
       → ((v : Value f) (q : ℕ) → Here f s p q v → e ≡ q) → ((v : Value f) → Here f s p e v → Adds m k m′ k′ (g v)) → Progress f g s a n e (left - 1) l r m′ k′
-  step {p} {left} {m} {k} {m′} {k′} e P z ends adds = record { going = λ vs q c h.
-      let G = P .going vs q c h in
-      step-rest f g s l r vs q p e left m k m′ k′ (G .rest) (G .count) (G .stand) (G .done) (G .adds) (G .whole) z ends adds }
+  step {p} {left} {m} {k} {m′} {k′} e P z ends adds = record {
+    going = λ vs q c h.
+        let G = P .going vs q c h in
+        step-rest f g s l r vs q p e left m k m′ k′ (G .rest) (G .count) (G .stand) (G .done) (G .adds) (G .whole) z ends adds;
+  }
 
   pub stop : {p left : ℕ} {m : List ℕ} {k : Put} → Progress f g s a n p left l r m k → left ≤ 0 → (vs : List (Value f)) (q : ℕ) → length vs ≡ n → Many f s a q vs → Adds l r m k (manyW g vs)
   stop {p} {left} {m} {k} P z vs q c h = let G = P .going vs q c h in same (G .adds) (stop-rest g vs (G .rest) (G .count ∙ omega arith) (G .done) (G .whole))

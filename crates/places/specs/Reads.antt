@@ -4,7 +4,8 @@ use mathlib.Core.List.{List}
 use Prim.Native.Nat.{ℕ, _≤_}
 use lib.ListN.{length}
 use lib.Seq.{slice}
-use Rattle.formats.specs.Format.{Format, Class, number, text, Value}
+use Rattle.formats.specs.Format.{number, text}
+use Rattle.formats.specs.Class.{Class}
 use Rattle.places.specs.Here.{Here}
 
 -- a number that stands at p is n, and ends at e
@@ -16,4 +17,5 @@ pub record ReadsNumber (s : List ℕ) (p n e : ℕ) : Type 0 where
 pub record ReadsText (s : List ℕ) (p a e : ℕ) : Type 0 where
   pub bytes : {l : ℕ} {c : Class} {v : List ℕ} {q : ℕ} → Here (text l c) s p q v → slice a e s ≡ v
   pub next : {l : ℕ} {c : Class} {v : List ℕ} {q : ℕ} → Here (text l c) s p q v → e ≡ q
-  pub forward : {l : ℕ} {c : Class} {v : List ℕ} {q : ℕ} → Here (text l c) s p q v → a ≤ e
+  pub forward : a ≤ e
+  pub within : e ≤ length s

@@ -8,11 +8,10 @@ use lib.ListN.{length, take, drop, set}
 use lib.Seq.{sets, length-sets, sets-eq, slice, length-slice, take-all}
 use borrow.Author.Tests.{lt-ltb, le-ltb}
 use Rattle.slices.specs.Lists.{pasted}
-use Rattle.formats.specs.Law.{choiceW}
 use Rattle.formats.specs.Number.{groupsW, numberW, top, littleW}
 use Rattle.writing.specs.Adds.{Adds, none, then, same}
 use Rattle.writing.specs.Slices.{slice-is}
-use Rattle.writing.specs.Given.{textW, givenText, Inside}
+use Rattle.writing.specs.Given.{optionalW, textW, givenText, Inside}
 use Rattle.writing.specs.declared.OptionalText.{OptionalText}
 use Rattle.writing.specs.declared.OptionalText.the-variants.{Present}
 use Rattle.writing.specs.declared.Span.{Span}
@@ -123,12 +122,12 @@ as-number n z f e = same f (ap numberW e)
 
 -- an optional value
 module _ {B : Type 0} (w : B → List ℕ) {v : Unit {0} ⊎ B} {l m : List ℕ} {r q : Put} where
-  pub absent-is : v ≡ inl tt → Adds l r m q (0 ∷ []) → Adds l r m q (choiceW (λ u. []) w v)
+  pub absent-is : v ≡ inl tt → Adds l r m q (0 ∷ []) → Adds l r m q (optionalW w v)
   absent-is e f = rw e f
 
-  pub present-is : {o : List ℕ} {p : Put} (b : B) → v ≡ inr b → Adds l r m q (1 ∷ []) → Adds m q o p (w b) → Adds l r o p (choiceW (λ u. []) w v)
+  pub present-is : {o : List ℕ} {p : Put} (b : B) → v ≡ inr b → Adds l r m q (1 ∷ []) → Adds m q o p (w b) → Adds l r o p (optionalW w v)
   present-is b e f g = rw e (then f g)
 
 pub present-text : (s : List ℕ) {v : OptionalText} {l m o : List ℕ} {r q p : Put} (t : Span) → v ≡ Present t → Inside s v → Adds l r m q (1 ∷ [])
-    → (t .from ≤ t .to → t .to ≤ length s → Adds m q o p (textW (slice (t .from) (t .to) s))) → Adds l r o p (choiceW (λ u. []) textW (givenText s v))
+    → (t .from ≤ t .to → t .to ≤ length s → Adds m q o p (textW (slice (t .from) (t .to) s))) → Adds l r o p (optionalW textW (givenText s v))
 present-text s t e h f g = let k : Inside s (Present t) = rw e at h in rw e (then f (g (k .0) (k .1)))

@@ -1,10 +1,11 @@
 -- What the optional values of the code stand for, and the writing of a text.
-use mathlib.Core.List.{List, _++_}
+use mathlib.Core.List.{List, [], _++_}
 use mathlib.Core.Logic.{_⊎_, inl, inr}
 use Prim.Native.Nat.{ℕ, _≤_}
 use lib.IntN.{ℤ}
 use lib.ListN.{length}
 use lib.Seq.{slice}
+use Rattle.formats.specs.Law.{choiceW}
 use Rattle.formats.specs.Number.{numberW}
 use Rattle.writing.specs.declared.OptionalNumber.{OptionalNumber}
 use Rattle.writing.specs.declared.OptionalNumber.the-variants as number
@@ -12,6 +13,10 @@ use Rattle.writing.specs.declared.OptionalSigned.{OptionalSigned}
 use Rattle.writing.specs.declared.OptionalSigned.the-variants as signed
 use Rattle.writing.specs.declared.OptionalText.{OptionalText}
 use Rattle.writing.specs.declared.OptionalText.the-variants as text
+
+-- 0, or 1 and the value
+abbrev pub optionalW : {A : Type 0} → (A → List ℕ) → Unit {0} ⊎ A → List ℕ
+optionalW w v = choiceW (λ u. []) w v
 
 abbrev pub given : OptionalNumber → Unit {0} ⊎ ℕ
 given number.Absent = inl tt

@@ -5,11 +5,11 @@ ghost use mathlib.Core.List.{[], _∷_};
 ghost use Prim.Native.Nat.{_<_, _≤_};
 ghost use lib.ListN.{length};
 ghost use lib.Seq.{slice};
-ghost use Rattle.formats.specs.Law.{choiceW};
 ghost use Rattle.formats.specs.Number.{groupsW, numberW, top, littleW};
-ghost use Rattle.formats.specs.Format.{zig, write, number, signed, float, optional};
+ghost use Rattle.formats.specs.Format.{number, signed, float};
+ghost use Rattle.formats.specs.Number.{zig};
 ghost use Rattle.writing.specs.Adds.{Adds};
-ghost use Rattle.writing.specs.Given.{given, givenSigned, givenText, textW, Inside};
+ghost use Rattle.writing.specs.Given.{optionalW, given, givenSigned, givenText, textW, Inside};
 
 // The next place of an output; or what was to be written does not fit.
 pub enum Put {
@@ -138,7 +138,7 @@ pub fn text(out: &mut [u8], w: Put, s: &[u8], a: usize, e: usize) -> Put
 }
 
 pub fn optional_number(out: &mut [u8], w: Put, v: OptionalNumber) -> Put
-    ensures { λ r. ⌜ Adds (now (out .entry)) w (now (out .exit)) r (write (optional (number 0 0)) (given v)) ⌝ }
+    ensures { λ r. ⌜ Adds (now (out .entry)) w (now (out .exit)) r (optionalW numberW (given v)) ⌝ }
 {
     match v {
         OptionalNumber::Absent => byte(out, w, 0),
@@ -150,7 +150,7 @@ pub fn optional_number(out: &mut [u8], w: Put, v: OptionalNumber) -> Put
 }
 
 pub fn optional_signed(out: &mut [u8], w: Put, v: OptionalSigned) -> Put
-    ensures { λ r. ⌜ Adds (now (out .entry)) w (now (out .exit)) r (write (optional (signed 0 0)) (givenSigned v)) ⌝ }
+    ensures { λ r. ⌜ Adds (now (out .entry)) w (now (out .exit)) r (optionalW (λ z. numberW (zig z)) (givenSigned v)) ⌝ }
 {
     match v {
         OptionalSigned::Absent => byte(out, w, 0),
@@ -163,7 +163,7 @@ pub fn optional_signed(out: &mut [u8], w: Put, v: OptionalSigned) -> Put
 
 // A float that may be missing, given by its 64 bits.
 pub fn optional_float(out: &mut [u8], w: Put, v: OptionalNumber) -> Put
-    ensures { λ r. ⌜ Adds (now (out .entry)) w (now (out .exit)) r (choiceW (λ u. []) (littleW 8) (given v)) ⌝ }
+    ensures { λ r. ⌜ Adds (now (out .entry)) w (now (out .exit)) r (optionalW (littleW 8) (given v)) ⌝ }
 {
     match v {
         OptionalNumber::Absent => byte(out, w, 0),
@@ -175,7 +175,7 @@ pub fn optional_float(out: &mut [u8], w: Put, v: OptionalNumber) -> Put
 }
 
 pub fn optional_text(out: &mut [u8], w: Put, s: &[u8], v: OptionalText) -> Put
-    ensures { λ r. ⌜ (Inside (now (s .entry)) v → Adds (now (out .entry)) w (now (out .exit)) r (choiceW (λ u. []) textW (givenText (now (s .entry)) v))) ⌝ }
+    ensures { λ r. ⌜ (Inside (now (s .entry)) v → Adds (now (out .entry)) w (now (out .exit)) r (optionalW textW (givenText (now (s .entry)) v))) ⌝ }
 {
     match v {
         OptionalText::Absent => byte(out, w, 0),

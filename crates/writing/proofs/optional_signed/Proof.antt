@@ -1,7 +1,7 @@
 -- `optional_signed` meets its contract.
 use Rattle.writing.proofs.Laws
 use Rattle.writing.proofs.optional_signed.Tie as tie
-use Rattle.formats.specs.Format.{zig}
+use Rattle.formats.specs.Number.{zig}
 use Rattle.formats.specs.Number.{numberW}
 use Rattle.writing.proofs.optional_signed.Statement.{statement}
 use Rattle.writing.specs.Adds.{same}

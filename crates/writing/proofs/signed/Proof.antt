@@ -1,7 +1,7 @@
 -- `signed` meets its contract.
 use Rattle.writing.proofs.Laws
 use Rattle.writing.proofs.signed.Tie as tie
-use Rattle.formats.specs.Format.{zig}
+use Rattle.formats.specs.Number.{zig}
 use Rattle.writing.proofs.signed.Statement.{statement}
 use borrow.Author.Needs.{needs}
 use mathlib.Core.Path.{_∙_, ap}
