@@ -62,6 +62,11 @@ snoc : (f : Format) (s : List ℕ) (a p e : ℕ) (v : Value f) (us : List (Value
 snoc f s a p e v [] h x = let k = h .0 in (e, rw k x, (refl, x .within))
 snoc f s a p e v (u ∷ us) h x = (h .0, h .1, snoc f s (h .0) p e v us (h .2) x)
 
+-- the writing of two lists joined
+pub many-append : {A : Type 0} (g : A → List ℕ) (xs ys : List A) → manyW g (xs ++ ys) ≡ manyW g xs ++ manyW g ys
+many-append g [] ys = refl
+many-append g (x ∷ xs) ys = ap (λ l. g x ++ l) (many-append g xs ys) ∙ sym (append-assoc (g x) (manyW g xs) (manyW g ys))
+
 -- the value i of a run begins at r: what stands before it, and what stands from it on
 pub record Split (f : Format) (s : List ℕ) (a q : ℕ) (vs : List (Value f)) (i r : ℕ) : Type 0 where
   pub front : List (Value f)
