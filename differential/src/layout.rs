@@ -1,5 +1,5 @@
 //! The overlay's state as its layout writes it: prefixes of the feed are implied, an empty text is an
-//! absent one, maps ascend. With question 2's judgement of a buffer, and what a message alone leaves.
+//! absent one, maps ascend. With question 2's judgement of a buffer, and what a message leaves.
 use crate::form::{record, Float, Form, One, Reader, Text};
 use crate::host::Original;
 use crate::papers::{Alert, AlertSheet, Vehicle, VehicleSheet};
@@ -43,21 +43,24 @@ record!(StopUpdate {
 });
 
 record!(
-    /// What a message alone says: whether it is DIFFERENTIAL, its header timestamp, and its records.
+    /// What a message says and leaves: whether it is DIFFERENTIAL, its header timestamp, the trips.
     Said { differential: bool, timestamp: Option<i64>, trips: Vec<TripEntry> }
 );
 
-/// The number of the first no of questions 3 to 6, or what the message says.
-pub fn said(feed: &str, message: &[u8]) -> Result<Said, u8> {
+/// The number of the first no of questions 3 to 6, or what the message says and leaves of the feed.
+pub fn said(original: &mut Original, feed: &str, message: &[u8]) -> Result<Said, u8> {
     questions::message(feed.as_bytes(), message)?;
     // A trip that no message here has: it is still there after a DIFFERENTIAL message and no other.
     const MARK: &str = "\n";
-    let mut original = Original::default();
-    original.feed(feed).trips.insert(MARK.into(), TripRt::default());
+    let state = original.feed(feed);
+    state.trips.insert(MARK.into(), TripRt::default());
+    let kept = state.header_timestamp.take();
     assert!(original.message(feed, message), "prost refuses a message that document 01 takes");
     let state = original.feed(feed);
     let differential = state.trips.remove(MARK).is_some();
-    Ok(Said { differential, timestamp: state.header_timestamp, trips: trips(feed, state) })
+    let timestamp = state.header_timestamp;
+    state.header_timestamp = timestamp.or(kept);
+    Ok(Said { differential, timestamp, trips: trips(feed, state) })
 }
 
 pub fn overlay(original: &Original) -> Overlay {

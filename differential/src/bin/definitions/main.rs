@@ -85,8 +85,9 @@ fn write_cases(folder: &Path, definition: &Definition, seed: u64) {
     }
     write(&folder.join("specs/Lib.antt"), &modules);
     write(&folder.join("src/lib.rt"), "// Only the cases in specs/.\n");
-    let yes = cases.iter().filter(|case| case.right == "true").count();
-    write(&folder.join("count"), &format!("{} cases, {yes} of them true", cases.len()));
+    let answers = |answer| cases.iter().filter(|case| case.right == answer).count();
+    let [count, yes, no, none] = [cases.len(), answers("true"), answers("false"), answers("none")];
+    write(&folder.join("count"), &format!("{count} cases ({yes} true, {no} false, {none} none)"));
 }
 
 fn write(file: &Path, text: &str) {
