@@ -29,11 +29,12 @@ record!(Trip {
     route: Text,
     direction: Option<u64>,
     time: Text,
-    updates: Vec<StopUpdate>,
+    updates: Vec<UpdateEntry>,
 });
 
+record!(UpdateEntry { sequence: u64, update: StopUpdate });
+
 record!(StopUpdate {
-    sequence: u64,
     stop: Text,
     arrival_delay: Option<i64>,
     arrival_time: Option<i64>,
@@ -69,7 +70,7 @@ pub fn overlay(original: &Original) -> Overlay {
         timestamp: state.header_timestamp,
         count: state.trip_update_count as u64,
         trips: trips(id, state),
-        vehicles: state.vehicles.iter().map(vehicle).collect(),
+        vehicles: state.vehicles.iter().map(|(key, place)| vehicle(key, place)).collect(),
         alerts: state.alerts.iter().map(alert).collect(),
     });
     Overlay { first: One, version: original.0.version, feeds: feeds.collect() }
@@ -84,7 +85,7 @@ fn without(feed: &str, prefixed: &str) -> Text {
     prefixed[feed.len() + 1..].into()
 }
 
-fn trip(feed: &str, record: &TripRt) -> Trip {
+pub fn trip(feed: &str, record: &TripRt) -> Trip {
     let given = |text: &Option<String>| Text::from(text.as_deref().unwrap_or(""));
     Trip {
         delay: record.delay.map(i64::from),
@@ -93,13 +94,16 @@ fn trip(feed: &str, record: &TripRt) -> Trip {
         route: record.route_id.as_ref().map_or("".into(), |route| without(feed, route)),
         direction: record.direction_id.map(u64::from),
         time: given(&record.start_time),
-        updates: record.stop_updates.values().map(|update| stop_update(feed, update)).collect(),
+        updates: record.stop_updates.values().map(|update| update_entry(feed, update)).collect(),
     }
 }
 
-fn stop_update(feed: &str, update: &StopTimeRt) -> StopUpdate {
+fn update_entry(feed: &str, update: &StopTimeRt) -> UpdateEntry {
+    UpdateEntry { sequence: update.stop_sequence.into(), update: stop_update(feed, update) }
+}
+
+pub fn stop_update(feed: &str, update: &StopTimeRt) -> StopUpdate {
     StopUpdate {
-        sequence: update.stop_sequence.into(),
         stop: update.stop_id.as_ref().map_or("".into(), |stop| without(feed, stop)),
         arrival_delay: update.arrival_delay.map(i64::from),
         arrival_time: update.arrival_time,
@@ -109,9 +113,9 @@ fn stop_update(feed: &str, update: &StopTimeRt) -> StopUpdate {
     }
 }
 
-fn vehicle((key, vehicle): (&String, &VehiclePos)) -> Vehicle {
+pub fn vehicle(key: &str, vehicle: &VehiclePos) -> Vehicle {
     Vehicle {
-        key: key.as_str().into(),
+        key: key.into(),
         trip: vehicle.trip_id.as_deref().map(Text::from),
         latitude: Float(vehicle.lat.to_bits()),
         longitude: Float(vehicle.lon.to_bits()),
@@ -168,8 +172,8 @@ fn valid_trip(trip: &Trip) -> bool {
         && id(&trip.route)
         && trip.updates.len() <= 128
         && trip.updates.windows(2).all(|pair| pair[0].sequence < pair[1].sequence)
-        && trip.updates.iter().all(|update| {
-            u32::try_from(update.sequence).is_ok()
+        && trip.updates.iter().all(|UpdateEntry { sequence, update }| {
+            u32::try_from(*sequence).is_ok()
                 && id(&update.stop)
                 && [update.arrival_delay, update.departure_delay].iter().flatten().all(delay)
                 && [update.arrival_time, update.departure_time].iter().flatten().all(|time| feed_time(*time))
