@@ -21,6 +21,16 @@ pub struct Report {
     pub timestamp: Option<i64>,
 }
 
+impl Report {
+    /// 25 bytes, numbers low byte first: version, count, whether there is a timestamp, the timestamp.
+    pub fn written(&self) -> Vec<u8> {
+        let timestamp = self.timestamp.unwrap_or(0);
+        let [version, count, timestamp] =
+            [self.version, self.count, timestamp.cast_unsigned()].map(u64::to_le_bytes);
+        [version.as_slice(), &count, &[u8::from(self.timestamp.is_some())], &timestamp].concat()
+    }
+}
+
 impl Original {
     pub fn feed(&mut self, id: &str) -> &mut FeedRtState {
         self.0.feeds.entry(id.into()).or_insert_with(|| FeedRtState::new(id))

@@ -1,5 +1,5 @@
 //! The overlay's state as its layout writes it: prefixes of the feed are implied, an empty text is an
-//! absent one, maps ascend. With question 2's judgement of a buffer, and what a message alone leaves.
+//! absent one, maps ascend. With question 2's judgement of a buffer, and what a message leaves.
 use crate::form::{record, Float, Form, One, Reader, Text};
 use crate::host::Original;
 use crate::papers::{Alert, AlertSheet, Vehicle, VehicleSheet};
@@ -29,11 +29,12 @@ record!(Trip {
     route: Text,
     direction: Option<u64>,
     time: Text,
-    updates: Vec<StopUpdate>,
+    updates: Vec<UpdateEntry>,
 });
 
+record!(UpdateEntry { sequence: u64, update: StopUpdate });
+
 record!(StopUpdate {
-    sequence: u64,
     stop: Text,
     arrival_delay: Option<i64>,
     arrival_time: Option<i64>,
@@ -43,21 +44,24 @@ record!(StopUpdate {
 });
 
 record!(
-    /// What a message alone says: whether it is DIFFERENTIAL, its header timestamp, and its records.
+    /// What a message says and leaves: whether it is DIFFERENTIAL, its header timestamp, the trips.
     Said { differential: bool, timestamp: Option<i64>, trips: Vec<TripEntry> }
 );
 
-/// The number of the first no of questions 3 to 6, or what the message says.
-pub fn said(feed: &str, message: &[u8]) -> Result<Said, u8> {
+/// The number of the first no of questions 3 to 6, or what the message says and leaves of the feed.
+pub fn said(original: &mut Original, feed: &str, message: &[u8]) -> Result<Said, u8> {
     questions::message(feed.as_bytes(), message)?;
     // A trip that no message here has: it is still there after a DIFFERENTIAL message and no other.
     const MARK: &str = "\n";
-    let mut original = Original::default();
-    original.feed(feed).trips.insert(MARK.into(), TripRt::default());
+    let state = original.feed(feed);
+    state.trips.insert(MARK.into(), TripRt::default());
+    let kept = state.header_timestamp.take();
     assert!(original.message(feed, message), "prost refuses a message that document 01 takes");
     let state = original.feed(feed);
     let differential = state.trips.remove(MARK).is_some();
-    Ok(Said { differential, timestamp: state.header_timestamp, trips: trips(feed, state) })
+    let timestamp = state.header_timestamp;
+    state.header_timestamp = timestamp.or(kept);
+    Ok(Said { differential, timestamp, trips: trips(feed, state) })
 }
 
 pub fn overlay(original: &Original) -> Overlay {
@@ -66,7 +70,7 @@ pub fn overlay(original: &Original) -> Overlay {
         timestamp: state.header_timestamp,
         count: state.trip_update_count as u64,
         trips: trips(id, state),
-        vehicles: state.vehicles.iter().map(vehicle).collect(),
+        vehicles: state.vehicles.iter().map(|(key, place)| vehicle(key, place)).collect(),
         alerts: state.alerts.iter().map(alert).collect(),
     });
     Overlay { first: One, version: original.0.version, feeds: feeds.collect() }
@@ -81,7 +85,7 @@ fn without(feed: &str, prefixed: &str) -> Text {
     prefixed[feed.len() + 1..].into()
 }
 
-fn trip(feed: &str, record: &TripRt) -> Trip {
+pub fn trip(feed: &str, record: &TripRt) -> Trip {
     let given = |text: &Option<String>| Text::from(text.as_deref().unwrap_or(""));
     Trip {
         delay: record.delay.map(i64::from),
@@ -90,13 +94,16 @@ fn trip(feed: &str, record: &TripRt) -> Trip {
         route: record.route_id.as_ref().map_or("".into(), |route| without(feed, route)),
         direction: record.direction_id.map(u64::from),
         time: given(&record.start_time),
-        updates: record.stop_updates.values().map(|update| stop_update(feed, update)).collect(),
+        updates: record.stop_updates.values().map(|update| update_entry(feed, update)).collect(),
     }
 }
 
-fn stop_update(feed: &str, update: &StopTimeRt) -> StopUpdate {
+fn update_entry(feed: &str, update: &StopTimeRt) -> UpdateEntry {
+    UpdateEntry { sequence: update.stop_sequence.into(), update: stop_update(feed, update) }
+}
+
+pub fn stop_update(feed: &str, update: &StopTimeRt) -> StopUpdate {
     StopUpdate {
-        sequence: update.stop_sequence.into(),
         stop: update.stop_id.as_ref().map_or("".into(), |stop| without(feed, stop)),
         arrival_delay: update.arrival_delay.map(i64::from),
         arrival_time: update.arrival_time,
@@ -106,9 +113,9 @@ fn stop_update(feed: &str, update: &StopTimeRt) -> StopUpdate {
     }
 }
 
-fn vehicle((key, vehicle): (&String, &VehiclePos)) -> Vehicle {
+pub fn vehicle(key: &str, vehicle: &VehiclePos) -> Vehicle {
     Vehicle {
-        key: key.as_str().into(),
+        key: key.into(),
         trip: vehicle.trip_id.as_deref().map(Text::from),
         latitude: Float(vehicle.lat.to_bits()),
         longitude: Float(vehicle.lon.to_bits()),
@@ -165,8 +172,8 @@ fn valid_trip(trip: &Trip) -> bool {
         && id(&trip.route)
         && trip.updates.len() <= 128
         && trip.updates.windows(2).all(|pair| pair[0].sequence < pair[1].sequence)
-        && trip.updates.iter().all(|update| {
-            u32::try_from(update.sequence).is_ok()
+        && trip.updates.iter().all(|UpdateEntry { sequence, update }| {
+            u32::try_from(*sequence).is_ok()
                 && id(&update.stop)
                 && [update.arrival_delay, update.departure_delay].iter().flatten().all(delay)
                 && [update.arrival_time, update.departure_time].iter().flatten().all(|time| feed_time(*time))

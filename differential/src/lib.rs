@@ -9,6 +9,7 @@ mod original {
 }
 pub use original::{gtfs, routing, rt};
 
+pub mod bounds;
 pub mod form;
 pub mod gens;
 pub mod host;

@@ -1,5 +1,6 @@
 //! Values as antt terms, in the shapes that the definitions have: a value of a format is nested pairs
-//! to the right, an optional one is `inl tt` or `inr`, a flag is 0 or 1, a text a list of bytes.
+//! to the right, an optional one is `inl tt` or `inr`, a flag is 0 or 1, a float the number of its bits, a
+//! text a list of bytes.
 use crate::form::{Float, One, Small, Text};
 use crate::papers::Leg;
 
@@ -72,7 +73,7 @@ impl Literal for One {
 
 impl Literal for Float {
     fn literal(&self) -> String {
-        list(&self.0.to_le_bytes())
+        self.0.literal()
     }
 }
 

@@ -1,37 +1,49 @@
-//! Writes crates of antt, one for each definition, in which each case is an equation, closed by `refl`, between a definition at
-//! closed inputs and the original's answer. The checker then computes the definitions.
-//! usage: definitions DIRECTORY SEED CRATE.. (the crates that there are; what stands on others is left out)
+//! Writes crates of antt, one for each definition, in which each case is an equation, closed by `refl`,
+//! between the definition at closed inputs and the original's answer. The checker then computes it.
+//! usage: definitions DIRECTORY SEED CRATE.. (in the repository; the crates that there are)
 mod alerts;
 mod decode;
 mod formats;
+mod journey;
+mod opened;
+mod overlay;
+mod panel;
 
 use differential::random::Random;
+use opened::opened;
 use std::collections::BTreeSet;
+use std::iter::repeat_with;
 use std::panic::{catch_unwind, AssertUnwindSafe};
 use std::path::{Path, PathBuf};
 use std::{env, fs};
 
 /// Cases to a file: the checker holds a file's terms at once.
-const BATCH: usize = 100;
+const BATCH: usize = 50;
 
 /// A definition and how cases of it are made.
 pub struct Definition {
     /// What is computed; also its crate's name.
     pub name: &'static str,
+    /// What it stands on; the definitions there that are marked unfoldable are seen through.
     pub crates: &'static [&'static str],
     /// The `use` lines beside the common ones, and what the cases share.
     pub preamble: &'static str,
-    /// The definitions that the cases see through, for an `unfolding` line.
-    pub unfolding: &'static str,
-    pub count: usize,
-    /// The case of a turn: what is counted through goes by the turn, the rest by chance.
-    pub case: fn(usize, &mut Random) -> Equation,
+    pub cases: Cases,
+}
+
+pub enum Cases {
+    AtRandom(usize, fn(&mut Random) -> Equation),
+    Listed(fn() -> Vec<Equation>),
 }
 
 /// The definition at an input, and the original's answer.
 pub struct Equation {
     pub left: String,
     pub right: String,
+}
+
+pub fn equation(definition: &str, inputs: &[String], right: String) -> Equation {
+    Equation { left: format!("{definition} {}", inputs.join(" ")), right }
 }
 
 const COMMON: &str = "\
@@ -50,7 +62,14 @@ fn main() {
     let seed: u64 = words.next().and_then(|word| word.parse().ok()).expect("a seed");
     let there: Vec<String> = words.collect();
     std::panic::set_hook(Box::new(|_| ()));
-    let known = [formats::DEFINITIONS, alerts::DEFINITIONS, decode::DEFINITIONS];
+    let known = [
+        formats::DEFINITIONS,
+        alerts::DEFINITIONS,
+        decode::DEFINITIONS,
+        overlay::DEFINITIONS,
+        journey::DEFINITIONS,
+        panel::DEFINITIONS,
+    ];
     let mut crates: BTreeSet<&str> = BTreeSet::new();
     for definition in known.into_iter().flatten() {
         if definition.crates.iter().all(|name| there.iter().any(|there| there == name)) {
@@ -66,17 +85,25 @@ fn main() {
 
 /// The definition's crate: a file for each batch of cases, and what there is of them.
 fn write_cases(folder: &Path, definition: &Definition, seed: u64) {
-    let mut random = Random::new(seed);
-    // Where the original panics (a window's edge inside a character) there is no answer: the next one.
-    let mut case = |turn| catch_unwind(AssertUnwindSafe(|| (definition.case)(turn, &mut random))).ok();
-    let cases: Vec<Equation> = (0..).filter_map(|turn| case(turn)).take(definition.count).collect();
-    let unfolding = match definition.unfolding {
-        "" => String::new(),
-        names => format!("unfolding {names}\n"),
+    let cases = match definition.cases {
+        Cases::Listed(cases) => cases(),
+        Cases::AtRandom(count, case) => {
+            let mut random = Random::new(seed);
+            // Where the original panics (a window's edge inside a character) there is no answer: the next.
+            let answered = repeat_with(|| catch_unwind(AssertUnwindSafe(|| case(&mut random))));
+            let mut missed = 0;
+            // Look-ups mostly miss: one miss in four is a case.
+            let telling = |case: &Equation| {
+                missed += usize::from(case.right == "none");
+                case.right != "none" || missed % 4 == 0
+            };
+            answered.filter_map(Result::ok).filter(telling).take(count).collect()
+        }
     };
+    let (uses, unfolding) = opened(definition.crates);
     let mut modules = String::new();
     for (batch, cases) in cases.chunks(BATCH).enumerate() {
-        let mut text = format!("-- Cases of {}.\n{COMMON}{}", definition.name, definition.preamble);
+        let mut text = format!("-- Cases of {}.\n{COMMON}{uses}{}", definition.name, definition.preamble);
         for (case, Equation { left, right }) in cases.iter().enumerate() {
             text += &format!("\ncase{case} : {left} ≡ {right}\n{unfolding}case{case} = refl\n");
         }
@@ -85,8 +112,9 @@ fn write_cases(folder: &Path, definition: &Definition, seed: u64) {
     }
     write(&folder.join("specs/Lib.antt"), &modules);
     write(&folder.join("src/lib.rt"), "// Only the cases in specs/.\n");
-    let yes = cases.iter().filter(|case| case.right == "true").count();
-    write(&folder.join("count"), &format!("{} cases, {yes} of them true", cases.len()));
+    let answers = |answer: &str| cases.iter().filter(|case| case.right == answer).count();
+    let counted = ["true", "false", "none"].map(|answer| format!("{} {answer}", answers(answer)));
+    write(&folder.join("count"), &format!("{} cases ({})", cases.len(), counted.join(", ")));
 }
 
 fn write(file: &Path, text: &str) {

@@ -3,10 +3,11 @@
 use crate::Tally;
 use differential::form::Form;
 use differential::gens::{damaged, history, message};
-use differential::layout::{held, overlay};
+use differential::host::Original;
+use differential::layout::{held, overlay, said};
 use differential::panel::{Answer, Panel};
 use differential::papers::{Card, STATUSES};
-use differential::questions::{self, every};
+use differential::questions::every;
 use differential::random::Random;
 use differential::rt::decode::decode_feed_message;
 use differential::tree::{tree, Type, Value};
@@ -33,7 +34,7 @@ fn messages(tally: &mut Tally) {
         let expected = tree(Type::FeedMessage, &message, DEEPER)
             .is_some_and(|fields| every(&fields, &|field| utf8(&field.value)));
         differ += usize::from(decode_feed_message(&message).is_ok() != expected);
-        match questions::message(b"f", &message) {
+        match said(&mut Original::default(), "f", &message) {
             Ok(_) => accepted += 1,
             Err(number) => *refused.entry(number).or_insert(0) += 1,
         }

@@ -2,7 +2,7 @@
 //! each question at its bound and one past it, the forms read
 //! and written back, and random messages and lists of calls.
 mod at_random;
-mod bounds;
+mod questions;
 mod round_trips;
 mod rules;
 mod tell;
@@ -30,7 +30,7 @@ impl Tally {
 fn main() {
     let mut tally = Tally::default();
     rules::run(&mut tally);
-    bounds::run(&mut tally);
+    questions::run(&mut tally);
     round_trips::run(&mut tally);
     at_random::run(&mut tally);
     println!("differential: {} cases agree, {} differ", tally.agree, tally.differ);
