@@ -1,0 +1,1 @@
+// What a message leaves of a feed's trips.
