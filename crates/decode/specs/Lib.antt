@@ -1,6 +1,7 @@
 pub mod Trip
 pub mod Map
 pub mod Order
+pub mod Laws
 pub mod Typed
 pub mod Record
 pub mod Key

@@ -1,11 +1,9 @@
 -- A map is a list of keys and values, strictly ascending by key. Assumes nothing: these are definitions.
-use Prim.Native.Nat.{ℕ}
 use mathlib.Core.Path.{_≡_}
 use mathlib.Core.Bool.{Bool, true, false, _&&_}
 use mathlib.Core.List.{List, [], _∷_}
 use mathlib.Core.Option.{Option, none, some}
-use lib.Dec.{ltb}
-use Rattle.slices.specs.Lists.{lexOf, pick}
+use Rattle.realtime.specs.Tree.{orElse}
 use Rattle.slices.specs.declared.Order.{Order}
 use Rattle.slices.specs.declared.Order.the-variants.{Less, Same, More}
 
@@ -34,6 +32,10 @@ byOrder Less a b c = a
 byOrder Same a b c = b
 byOrder More a b c = c
 
+abbrev pub ifNone : {A B : Type 0} → Option A → B → B → B
+ifNone none b c = b
+ifNone (some a) b c = c
+
 module _ {K : Type 0} (O : Ordered K) {A : Type 0} where
   -- k's value, where there is one
   abbrev pub get : K → List (K × A) → Option A
@@ -58,3 +60,17 @@ module _ {K : Type 0} (O : Ordered K) {A : Type 0} where
   abbrev pub ascending : List (K × A) → Bool
   ascending [] = true
   ascending (e ∷ m) = above (e .0) m
+
+  -- k's value becomes v where there was none
+  abbrev pub keep : K → A → List (K × A) → List (K × A)
+  keep k v m = ifNone (get k m) (put k v m) m
+
+  -- from the last to the first, where there was none
+  abbrev pub keeps : List (K × A) → List (K × A) → List (K × A)
+  keeps [] m = m
+  keeps (e ∷ l) m = keep (e .0) (e .1) (keeps l m)
+
+  -- k's value in the last of the entries that has k
+  abbrev pub lastAt : K → List (K × A) → Option A
+  lastAt k [] = none
+  lastAt k (e ∷ l) = orElse (lastAt k l) (byOrder (O .compare k (e .0)) none (some (e .1)) none)
