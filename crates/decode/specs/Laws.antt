@@ -14,7 +14,7 @@ pub both-true : (a b : Bool) → a && b ≡ true → (a ≡ true) × (b ≡ true
 both-true true b e = (refl, e)
 both-true false b e = absurd (let z : _≡_ {A = ℕ} 0 1 = cc in omega arith)
 
-is-less : (o : Order) → isLess o ≡ true → o ≡ Less
+pub is-less : (o : Order) → isLess o ≡ true → o ≡ Less
 is-less Less e = refl
 is-less Same e = absurd (let z : _≡_ {A = ℕ} 0 1 = cc in omega arith)
 is-less More e = absurd (let z : _≡_ {A = ℕ} 0 1 = cc in omega arith)

@@ -5,5 +5,6 @@ pub mod Laws
 pub mod Typed
 pub mod Record
 pub mod Key
+pub mod Index
 pub mod Leaves
 pub mod Examples

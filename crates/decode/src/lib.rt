@@ -1,1 +1,89 @@
-// What a message leaves of a feed's trips.
+// What a message leaves of a feed's trips: each entity's record and keys, and the index of the keys that are left.
+use slices::Order;
+ghost use mathlib.Core.Path.{_≡_};
+ghost use Prim.Native.Nat.{_+_, _*_, _≤_, _<_};
+ghost use lib.ListN.{length, getD, take, drop};
+ghost use Rattle.slices.specs.Lists.{lexOf};
+ghost use Rattle.decode.specs.Map.{isSame, isMore};
+ghost use Rattle.decode.specs.Order.{texts};
+ghost use Rattle.decode.specs.Index.{keyAt, index, Sound, rankOf, inserted};
+
+fn wide(x: u32) -> usize
+    ensures { λ r. ⌜ r ≡ x ⌝ }
+{
+    x as usize
+}
+
+fn word(a: &[u32], i: usize) -> usize
+    requires { ⌜ i < length (now a) ⌝ }
+    ensures { λ r. ⌜ r ≡ getD (now (a .entry)) i 0 ⌝ }
+{
+    wide(a[i])
+}
+
+// v goes in at `at`, and what stands from there to `end` moves one place on.
+fn insert(a: &mut [u32], at: usize, end: usize, v: u32)
+    requires { ⌜ (at ≤ end) × (end < length (now a)) ⌝ }
+    ensures { λ _. ⌜ now (a .exit) ≡ inserted (now (a .entry)) at end v ⌝ }
+{
+    let mut i = end;
+    while at < i {
+        a[i] = a[i - 1];
+        i -= 1;
+    }
+    a[at] = v;
+}
+
+fn is_more(o: Order) -> bool
+    ensures { λ r. ⌜ r ≡ isMore o ⌝ }
+{
+    match o {
+        Order::Less => false,
+        Order::Same => false,
+        Order::More => true,
+    }
+}
+
+fn is_same(o: Order) -> bool
+    ensures { λ r. ⌜ r ≡ isSame o ⌝ }
+{
+    match o {
+        Order::Less => false,
+        Order::Same => true,
+        Order::More => false,
+    }
+}
+
+// The order of the key that stands in slot n, `len` long, and the key of a slot.
+fn key_order(keys: &[u8], marks: &[u32], n: usize, len: usize, slot: usize) -> Order
+    requires { ⌜ 137 * n + len ≤ length (now keys) ⌝ }
+    requires { ⌜ 3 * slot < length (now marks) ⌝ }
+    requires { ⌜ 137 * slot + getD (now marks) (3 * slot) 0 ≤ length (now keys) ⌝ }
+    ensures { λ r. ⌜ r ≡ lexOf (take len (drop (137 * n) (now (keys .entry)))) (keyAt (now (keys .entry)) (now (marks .entry)) slot) ⌝ }
+{
+    let known = word(marks, 3 * slot);
+    slices::compare8(
+        wire::part(keys, 137 * n, len),
+        wire::part(keys, 137 * slot, known),
+    )
+}
+
+// How many keys stand before the key in slot n: found by halving.
+fn rank(keys: &[u8], marks: &[u32], order: &[u32], n: usize, len: usize) -> usize
+    requires { ⌜ Sound (now keys) (now marks) (now order) n ⌝ }
+    requires { ⌜ len ≤ 137 ⌝ }
+    ensures { λ r. ⌜ r ≡ rankOf texts (take len (drop (137 * n) (now (keys .entry)))) (index (now (keys .entry)) (now (marks .entry)) (now (order .entry)) n) ⌝ }
+{
+    let mut lo: usize = 0;
+    let mut hi = n;
+    while lo < hi {
+        let mid = lo + (hi - lo) / 2;
+        let slot = word(order, mid);
+        if is_more(key_order(keys, marks, n, len, slot)) {
+            lo = mid + 1;
+        } else {
+            hi = mid;
+        }
+    }
+    lo
+}

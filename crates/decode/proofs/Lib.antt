@@ -1,0 +1,3 @@
+-- Lemmas on plain values.
+mod Gaps
+mod Ranks
