@@ -6,7 +6,7 @@ use mathlib.Core.List.{List, [], _∷_, _++_}
 use mathlib.Core.Logic.{inl, inr}
 use lib.Dec.{ltb, leb}
 use lib.ListN.{length, take, drop}
-use Rattle.formats.specs.Format.{printable, inClass, all}
+use Rattle.formats.specs.Class.{printable, inClass}
 use Rattle.slices.specs.Lists.{lexOf}
 use Rattle.realtime.specs.Tree.{Tree}
 use Rattle.decode.specs.Trip.{Trip, Maybe, dateOf, routeOf, directionOf, timeOf}
@@ -54,7 +54,7 @@ entriesIn feed e = cond (deletedIn e) [] (inserts feed (rawIn e) (tripIn e))
 
 -- Which keys a record may have: that of some raw id, that id with its date, or the incomplete one
 abbrev pub rawOk : List ℕ → Bool
-rawOk x = not (empty x) && (leb (length x) 64 && all (inClass printable) x)
+rawOk x = not (empty x) && (leb (length x) 64 && inClass printable x)
 
 abbrev pub datedOk : List ℕ → List ℕ → Bool
 datedOk d x = let n = length x - suc (length d) in not (empty d) && (rawOk (take n x) && isSame (lexOf x (datedKey (take n x) d)))

@@ -3,8 +3,9 @@
 use Prim.Native.Nat.{ℕ}
 use mathlib.Core.List.{List}
 use mathlib.Core.Logic.{_⊎_}
-use lib.IntN.{ℤ}
-use Rattle.formats.specs.Format.{Format, number, signed, small, text, list, pair, optional, printable, Value}
+use lib.IntN.{ℤ, pos, negsuc}
+use Rattle.formats.specs.Class.{printable}
+use Rattle.formats.specs.Format.{Format, number, signed, small, text, list, _&_, optional, Value}
 
 -- the limits of questions 5 and 6
 abbrev pub id : Format
@@ -17,23 +18,21 @@ abbrev pub time : Format
 time = text 16 printable
 
 abbrev pub delay : Format
-delay = signed 2147483648 2147483647
+delay = signed (negsuc 2147483647) (pos 2147483647)
 
 abbrev pub instant : Format
-instant = signed 0 4102444800
+instant = signed (pos 0) (pos 4102444800)
 
 abbrev pub number32 : Format
 number32 = number 0 4294967295
 
 -- stop id; delay and time of the arrival, then of the departure; skipped
 abbrev pub stopUpdate : Format
-stopUpdate = pair id (pair (optional delay) (pair (optional instant) (pair (optional delay) (pair (optional instant) (small 1)))))
+stopUpdate = id & optional delay & optional instant & optional delay & optional instant & small 1
 
 -- delay; cancelled; start date; route; direction; start time; updates, ascending by sequence
 abbrev pub trip : Format
-trip =
-    pair (optional delay)
-    (pair (small 1) (pair date (pair id (pair (optional number32) (pair time (list 128 (pair number32 stopUpdate)))))))
+trip = optional delay & small 1 & date & id & optional number32 & time & list 128 (number32 & stopUpdate)
 
 abbrev pub StopUpdate : Type 0
 StopUpdate = Value stopUpdate
