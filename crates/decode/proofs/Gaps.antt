@@ -4,8 +4,8 @@ use mathlib.Core.Path.{_≡_, refl, sym, ap, _∙_}
 use mathlib.Core.List.{List, [], _∷_, _++_, append-assoc}
 use native.Mathlib.Numerals.{add-one}
 use native.Mathlib.Omega.{arith}
-use lib.ListN.{length, getD, take, drop, set, List·getD-append}
-use lib.Seq.{take-suc, drop-cons, split-at, set-at, getD-take, length-take-le}
+use lib.ListN.{length, getD, take, drop, set, List·getD-append, length-append, length-drop}
+use lib.Seq.{take-suc, drop-cons, split-at, set-at, getD-take, length-take-le, take-take, take-add, take-at, drop-at}
 use Rattle.decode.specs.Index.{inserted}
 
 -- nothing has moved
@@ -40,3 +40,27 @@ module _ (a₀ a : List ℕ) (end : ℕ) (h : end < length a₀) where
   gap-filled at i v p q r e =
       let s : i ≡ at = omega arith in
       ap (λ x. set x at v) (e ∙ ap (λ j. inserted a₀ j end (getD a₀ j 0)) s) ∙ gap-set a₀ at end (getD a₀ at 0) v (omega arith)
+
+-- the first places, one more than before
+pub gap-front : (a : List ℕ) (r n v : ℕ) → r ≤ n → n < length a → take (n + 1) (inserted a r n v) ≡ take r (take n a) ++ v ∷ drop r (take n a)
+gap-front a r n v h g =
+    let e : r + (n - r) ≡ n = omega arith in
+    let x : take r a ≡ take r (take n a) = sym (take-take r n a h) in
+    let y : take (n - r) (drop r a) ≡ drop r (take n a) =
+    sym (ap (λ k. drop r (take k a)) (sym e) ∙ ap (drop r) (take-add r (n - r) a) ∙ drop-at (take r a) (take (n - r) (drop r a)) r (length-take-le r a (omega arith))) in
+    let l : length (take r a ++ v ∷ take (n - r) (drop r a)) ≡ n + 1 =
+    omega (arith, length-append (take r a) (v ∷ take (n - r) (drop r a)), length-take-le r a (omega arith), length-take-le (n - r) (drop r a) (omega (arith, length-drop r a))) in
+    ap (take (n + 1)) (sym (append-assoc (take r a) (v ∷ take (n - r) (drop r a)) (drop (n + 1) a)))
+    ∙ take-at (take r a ++ v ∷ take (n - r) (drop r a)) (drop (n + 1) a) (n + 1) l
+    ∙ (λ t. x t ++ v ∷ y t)
+
+pub gap-length : (a : List ℕ) (r n v : ℕ) → r ≤ n → n < length a → length (inserted a r n v) ≡ length a
+gap-length a r n v h g =
+    omega (
+      arith,
+      length-append (take r a) (v ∷ (take (n - r) (drop r a) ++ drop (n + 1) a)),
+      length-append (take (n - r) (drop r a)) (drop (n + 1) a),
+      length-take-le r a (omega arith),
+      length-take-le (n - r) (drop r a) (omega (arith, length-drop r a)),
+      length-drop (n + 1) a,
+    )

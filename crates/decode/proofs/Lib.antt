@@ -1,3 +1,4 @@
 -- Lemmas on plain values.
 mod Gaps
 mod Ranks
+mod Settling

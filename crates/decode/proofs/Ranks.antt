@@ -6,6 +6,7 @@ use mathlib.Core.List.{List, [], _∷_, _++_}
 use native.Mathlib.Omega.{arith}
 use lib.ListN.{length, getD, take, drop}
 use lib.Seq.{getD-take, length-take-le}
+use Rattle.formats.specs.Law.{All}
 use Rattle.slices.specs.Lists.{lexOf}
 use Rattle.slices.specs.declared.Order.{Order}
 use Rattle.slices.specs.declared.Order.the-variants.{Less, Same, More}
@@ -21,7 +22,7 @@ is-more More e = refl
 
 module _ {K : Type 0} (O : Ordered K) {A : Type 0} (d : K × A) where
   -- the key at a place
-  abbrev at : List (K × A) → ℕ → K
+  abbrev pub at : List (K × A) → ℕ → K
   at m i = getD m i d .0
 
   above-at : (k : K) (m : List (K × A)) (i : ℕ) → above O k m ≡ true → i < length m → O .compare k (at m i) ≡ Less
@@ -72,8 +73,14 @@ module _ {K : Type 0} (O : Ordered K) {A : Type 0} (d : K × A) where
       go Same p = omega arith
       go More p = omega arith
 
+-- each is so, and the one at a place
+pub all-at : (P : ℕ → Type 0) (l : List ℕ) (i : ℕ) → All P l → i < length l → P (getD l i 0)
+all-at P [] i h l = absurd (omega arith)
+all-at P (j ∷ s) zero h l = h .0
+all-at P (j ∷ s) (suc i) h l = all-at P s i (h .1) (omega arith)
+
 -- an entry that stands for no other
-abbrev nowhere : List ℕ × Place
+abbrev pub nowhere : List ℕ × Place
 nowhere = ([], (0, 0))
 
 pub slotted-at : (keys marks l : List ℕ) (i : ℕ) → i < length l → getD (slotted keys marks l) i nowhere ≡ entryAt keys marks (getD l i 0)
@@ -87,11 +94,17 @@ slotted-length keys marks (j ∷ l) = ap suc (slotted-length keys marks l)
 
 module _ (keys marks order : List ℕ) (n : ℕ) (S : Sound keys marks order n) where
   pub index-length : length (index keys marks order n) ≡ n
-  index-length = slotted-length keys marks (take n order) ∙ length-take-le n order (omega (arith, S .ordered))
+  index-length = slotted-length keys marks (take n order) ∙ length-take-le n order (omega (arith, S .ordered, S .counted))
+
+  pub slot-below : (i : ℕ) → i < n → getD order i 0 < n
+  slot-below i h =
+      let e : getD (take n order) i 0 ≡ getD order i 0 = getD-take n order i 0 h in
+      let b : getD (take n order) i 0 < n = all-at (λ j. j < n) (take n order) i (S .slots) (omega (arith, length-take-le n order (omega (arith, S .ordered, S .counted)))) in
+      omega arith
 
   pub index-at : (i : ℕ) → i < n → getD (index keys marks order n) i nowhere ≡ entryAt keys marks (getD order i 0)
   index-at i h =
-      slotted-at keys marks (take n order) i (omega (arith, length-take-le n order (omega (arith, S .ordered))))
+      slotted-at keys marks (take n order) i (omega (arith, length-take-le n order (omega (arith, S .ordered, S .counted))))
       ∙ ap (entryAt keys marks) (getD-take n order i 0 h)
 
   pub rank-within : (k : List ℕ) → rankOf texts k (index keys marks order n) ≤ n
