@@ -2,3 +2,4 @@
 mod Gaps
 mod Ranks
 mod Settling
+mod Writing

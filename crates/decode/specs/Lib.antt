@@ -5,6 +5,7 @@ pub mod Laws
 pub mod Typed
 pub mod Record
 pub mod Key
+pub mod Written
 pub mod Index
 pub mod Leaves
 pub mod Examples

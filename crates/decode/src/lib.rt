@@ -3,11 +3,14 @@ use slices::Order;
 ghost use mathlib.Core.Path.{_≡_};
 ghost use Prim.Native.Nat.{_+_, _*_, _≤_, _<_};
 ghost use mathlib.Core.Bool.{_&&_};
+ghost use mathlib.Core.List.{[], _∷_};
 ghost use lib.Dec.{ltb};
 ghost use lib.ListN.{length, getD, set};
 ghost use Rattle.slices.specs.Lists.{lexOf};
 ghost use Rattle.decode.specs.Map.{isSame, isMore};
 ghost use Rattle.decode.specs.Order.{texts};
+ghost use Rattle.decode.specs.Key.{decimalOf};
+ghost use Rattle.decode.specs.Written.{Added};
 ghost use Rattle.decode.specs.Index.{keyAt, keyIn, index, Sound, Settled, rankOf, inserted, remarked};
 
 fn wide(x: u32) -> usize
@@ -145,4 +148,44 @@ fn settle(
     }
     enter(marks, order, n, r, len, from, till);
     n + 1
+}
+
+// All of x goes in at `at`.
+fn add(out: &mut [u8], at: usize, x: &[u8]) -> usize
+    requires { ⌜ at + length (now x) ≤ length (now out) ⌝ }
+    ensures { λ r. ⌜ Added (now (out .entry)) at (now (x .entry)) (now (out .exit)) r ⌝ }
+{
+    let n = x.len();
+    slices::copy(out, at, x, n);
+    at + n
+}
+
+fn add_byte(out: &mut [u8], at: usize, b: u8) -> usize
+    requires { ⌜ at < length (now out) ⌝ }
+    ensures { λ r. ⌜ Added (now (out .entry)) at (b ∷ []) (now (out .exit)) r ⌝ }
+{
+    out[at] = b;
+    at + 1
+}
+
+fn digit(n: u32) -> u8
+    requires { ⌜ n < 10 ⌝ }
+    ensures { λ r. ⌜ r ≡ 48 + n ⌝ }
+{
+    48 + n as u8
+}
+
+// n in decimal, at most k digits.
+fn decimal(k: usize, out: &mut [u8], at: usize, n: u32) -> usize
+    requires { ⌜ at + k ≤ length (now out) ⌝ }
+    ensures { λ r. ⌜ Added (now (out .entry)) at (decimalOf k n) (now (out .exit)) r ⌝ }
+{
+    if k == 0 {
+        return at;
+    }
+    if n < 10 {
+        return add_byte(out, at, digit(n));
+    }
+    let p = decimal(k - 1, out, at, n / 10);
+    add_byte(out, p, digit(n % 10))
 }
