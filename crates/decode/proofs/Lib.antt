@@ -2,4 +2,5 @@
 mod Gaps
 mod Ranks
 mod Settling
+mod Noting
 mod Writing

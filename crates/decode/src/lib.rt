@@ -4,14 +4,14 @@ ghost use mathlib.Core.Path.{_≡_};
 ghost use Prim.Native.Nat.{_+_, _*_, _≤_, _<_};
 ghost use mathlib.Core.Bool.{_&&_};
 ghost use mathlib.Core.List.{[], _∷_};
-ghost use lib.Dec.{ltb};
+ghost use lib.Dec.{ltb, eqb};
 ghost use lib.ListN.{length, getD, set};
 ghost use Rattle.slices.specs.Lists.{lexOf};
 ghost use Rattle.decode.specs.Map.{isSame, isMore};
-ghost use Rattle.decode.specs.Order.{texts};
+ghost use Rattle.decode.specs.Order.{texts, numbers};
 ghost use Rattle.decode.specs.Key.{decimalOf};
 ghost use Rattle.decode.specs.Written.{Added};
-ghost use Rattle.decode.specs.Index.{keyAt, keyIn, index, Sound, Settled, rankOf, inserted, remarked};
+ghost use Rattle.decode.specs.Index.{keyAt, keyIn, index, Sound, Settled, rankOf, inserted, remarked, three, laid, Lined, Noted};
 
 fn wide(x: u32) -> usize
     ensures { λ r. ⌜ r ≡ x ⌝ }
@@ -188,4 +188,55 @@ fn decimal(k: usize, out: &mut [u8], at: usize, n: u32) -> usize
     }
     let p = decimal(k - 1, out, at, n / 10);
     add_byte(out, p, digit(n % 10))
+}
+
+// How many updates stand before a sequence: sought from the end, since they arrive in order as a rule.
+fn place_of(updates: &[u32], n: usize, sequence: u32) -> usize
+    requires { ⌜ Lined (now updates) n ⌝ }
+    ensures { λ r. ⌜ r ≡ rankOf numbers sequence (laid n (now (updates .entry))) ⌝ }
+{
+    let mut r = n;
+    while r > 0 {
+        if updates[3 * (r - 1)] < sequence {
+            return r;
+        }
+        r -= 1;
+    }
+    0
+}
+
+// Whether the update at rank r has the sequence.
+fn is_at(updates: &[u32], n: usize, r: usize, sequence: u32) -> bool
+    requires { ⌜ (n ≤ 129) × (length (now updates) ≡ 387) ⌝ }
+    ensures { λ b. ⌜ b ≡ (ltb r n && eqb (getD (now (updates .entry)) (3 * r) 0) sequence) ⌝ }
+{
+    if r >= n {
+        return false;
+    }
+    updates[3 * r] == sequence
+}
+
+// Three numbers go in at rank r.
+fn line(updates: &mut [u32], n: usize, r: usize, sequence: u32, from: u32, till: u32)
+    requires { ⌜ (r ≤ n) × (n ≤ 128) × (length (now updates) ≡ 387) ⌝ }
+    ensures { λ _. ⌜ now (updates .exit) ≡ three (now (updates .entry)) r n sequence from till ⌝ }
+{
+    insert(updates, 3 * r, 3 * n, sequence);
+    insert(updates, 3 * r + 1, 3 * n + 1, from);
+    insert(updates, 3 * r + 2, 3 * n + 2, till);
+}
+
+// An update goes in at its sequence, over an old one: how many are in use then.
+fn note(updates: &mut [u32], n: usize, sequence: u32, from: u32, till: u32) -> usize
+    requires { ⌜ Lined (now updates) n ⌝ }
+    requires { ⌜ n ≤ 128 ⌝ }
+    ensures { λ r. ⌜ Noted (now (updates .entry)) n sequence from till (now (updates .exit)) r ⌝ }
+{
+    let r = place_of(updates, n, sequence);
+    if is_at(updates, n, r, sequence) {
+        mark(updates, r, from, till);
+        return n;
+    }
+    line(updates, n, r, sequence, from, till);
+    n + 1
 }
