@@ -14,7 +14,7 @@ use Rattle.realtime.specs.Tree.{aMessage, Schema, Tree, end, num, txt, msg, bin
 use Rattle.realtime.specs.Steps.{Stepped}
 use Rattle.realtime.specs.Schema.{rows, feed, feedMessage, feedEntity, tripUpdate}
 use Rattle.merged.specs.Reading.{front-part, front-rest}
-use Rattle.merged.specs.Walks.{leftOf, left, Sound, Walks, typeOf, Yield, Yields, NextEntity, NextUpdate}
+use Rattle.merged.specs.Walks.{leftOf, left, Sound, ahead, Walks, typeOf, Yield, Yields, NextEntity, NextUpdate}
 use Rattle.merged.specs.declared.Walk.{Walk}
 use Rattle.merged.specs.declared.Item.{Item}
 use Rattle.realtime.specs.declared.Step.{Step}
@@ -70,9 +70,10 @@ module _ (a k : ℕ) where
 pub record Leads (σ : Schema) (t a inner k : ℕ) (s : List ℕ) (w : Walk) (outer end at : ℕ) : Type 0 where
   pub of : (l : List Tree) → left σ t a inner k s w ≡ some l → leftOf a k (tree σ inner (drop at (take end s))) (tree σ t (drop outer s)) ≡ some l
   pub sound : Sound s outer end at
+  pub fewer : length s - outer + (length s - at) ≤ ahead s w
 
 pub leads : {σ : Schema} {t a inner k : ℕ} {s : List ℕ} (w : Walk) → Sound s (w .outer) (w .end) (w .at) → Leads σ t a inner k s w (w .outer) (w .end) (w .at)
-leads w S = record { of = λ l e. e; sound = S }
+leads w S = record { of = λ l e. e; sound = S; fewer = omega arith }
 
 module _ {σ : Schema} {t a inner k : ℕ} {s : List ℕ} {w : Walk} {outer stop at : ℕ} (L : Leads σ t a inner k s w outer stop at) (x : List ℕ) (X : x ≡ take stop s) where
   abbrev O : Option Tree
@@ -92,12 +93,14 @@ module _ {σ : Schema} {t a inner k : ℕ} {s : List ℕ} {w : Walk} {outer stop
   in-number-on {f} {v} {n} S = record {
     of = λ l h. ap (λ y. leftOf a k (tree σ inner (drop n y)) O) (sym X) ∙ sym (in-number a k f v (tree σ inner (drop n x)) O) ∙ seen-in (S .same) l h;
     sound = record { ahead = omega (arith, S .forward, size); behind = L .sound .behind; inside = L .sound .inside };
+    fewer = omega (arith, S .forward, L .fewer);
   }
 
   pub in-text-on : {f i m n : ℕ} → Stepped σ inner x at (Step.Text f i m n) → Leads σ t a inner k s w outer stop n
   in-text-on {f} {i} {m} {n} S = record {
     of = λ l h. ap (λ y. leftOf a k (tree σ inner (drop n y)) O) (sym X) ∙ sym (in-text a k f (take m (drop i x)) (tree σ inner (drop n x)) O) ∙ seen-in (S .same) l h;
     sound = record { ahead = omega (arith, S .forward, size); behind = L .sound .behind; inside = L .sound .inside };
+    fewer = omega (arith, S .forward, L .fewer);
   }
 
   pub in-message-on : {f u i m n : ℕ} → Stepped σ inner x at (Step.Message f u i m n) → (f ≡ k → ⊥) → Leads σ t a inner k s w outer stop n
@@ -105,6 +108,7 @@ module _ {σ : Schema} {t a inner k : ℕ} {s : List ℕ} {w : Walk} {outer stop
     of = λ l e. ap (λ y. leftOf a k (tree σ inner (drop n y)) O) (sym X)
         ∙ in-other a k l f u (tree σ u (take m (drop i x))) (tree σ inner (drop n x)) O (ne-eqb f k h) (seen-in (S .same) l e);
     sound = record { ahead = omega (arith, S .forward, size); behind = L .sound .behind; inside = L .sound .inside };
+    fewer = omega (arith, S .forward, L .fewer);
   }
 
   pub yields : {f u i m n : ℕ} → Stepped σ inner x at (Step.Message f u i m n) → f ≡ k
@@ -115,7 +119,11 @@ module _ {σ : Schema} {t a inner k : ℕ} {s : List ℕ} {w : Walk} {outer stop
         of = λ l e.
             let F = in-found a k l f u (tree σ u (take m (drop i x))) (tree σ inner (drop n x)) O (eq-eqb f k h) (seen-in (S .same) l e) in
             (F .0, F .1, F .2, ap (λ v. tree σ v (take m (drop i s))) (ap (λ g. typeOf (σ inner g)) (sym h) ∙ ap typeOf (S .typed)) ∙ ap (tree σ u) (sym P) ∙ F .3, ap (λ y. leftOf a k (tree σ inner (drop n y)) O) (sym X) ∙ F .4);
-        lying = (omega (arith, S .forward, size, L .sound), record { ahead = omega (arith, S .forward, size); behind = L .sound .behind; inside = L .sound .inside });
+        lying = record {
+          inside = omega (arith, S .forward, size, L .sound);
+          sound = record { ahead = omega (arith, S .forward, size); behind = L .sound .behind; inside = L .sound .inside };
+          less = omega (arith, S .forward, size, L .fewer, L .sound);
+        };
       }
 
   -- the message that is open has no more
@@ -136,18 +144,21 @@ module _ {σ : Schema} {t a inner k : ℕ} {s : List ℕ} {w : Walk} {outer stop
     out-number-on {f} {v} {n} S = record {
       of = λ l h. still n l (sym (out-number a k f v (some end) (tree σ t (drop n s))) ∙ seen-out (S .same) l h);
       sound = record { ahead = L .sound .ahead; behind = omega (arith, L .sound, S .forward); inside = S .forward .inside };
+      fewer = omega (arith, S .forward, L .fewer);
     }
 
     pub out-text-on : {f i m n : ℕ} → Stepped σ t s outer (Step.Text f i m n) → Leads σ t a inner k s w n stop at
     out-text-on {f} {i} {m} {n} S = record {
       of = λ l h. still n l (sym (out-text a k f (take m (drop i s)) (some end) (tree σ t (drop n s))) ∙ seen-out (S .same) l h);
       sound = record { ahead = L .sound .ahead; behind = omega (arith, L .sound, S .forward); inside = S .forward .inside };
+      fewer = omega (arith, S .forward, L .fewer);
     }
 
     pub out-message-on : {f u i m n : ℕ} → Stepped σ t s outer (Step.Message f u i m n) → (f ≡ a → ⊥) → Leads σ t a inner k s w n stop at
     out-message-on {f} {u} {i} {m} {n} S h = record {
       of = λ l e. still n l (out-other a k l f u (tree σ u (take m (drop i s))) (some end) (tree σ t (drop n s)) (ne-eqb f a h) (seen-out (S .same) l e));
       sound = record { ahead = L .sound .ahead; behind = omega (arith, L .sound, S .forward); inside = S .forward .inside };
+      fewer = omega (arith, S .forward, L .fewer);
     }
 
     -- another is opened
@@ -157,6 +168,7 @@ module _ {σ : Schema} {t a inner k : ℕ} {s : List ℕ} {w : Walk} {outer stop
           ∙ ap (λ y. leftOf a k (tree σ u y) (tree σ t (drop n s))) (front-rest s n i m (S .forward .ends) (S .forward .inside))
           ∙ out-found a k l f u (tree σ u (take m (drop i s))) (tree σ t (drop n s)) (eq-eqb f a h) (seen-out (S .same) l e);
       sound = record { ahead = omega (arith, S .forward); behind = omega arith; inside = S .forward .inside };
+      fewer = omega (arith, S .forward, L .fewer, L .sound);
     }
 
 -- what the wrappers ask, and the types of their items

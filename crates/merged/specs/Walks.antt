@@ -1,5 +1,5 @@
 -- The messages at a repeated field k, of all the messages at field a merged, one after the other. Assumes nothing: these are definitions.
-use Prim.Native.Nat.{ℕ, _+_, _≤_}
+use Prim.Native.Nat.{ℕ, _+_, _-_, _≤_, _<_}
 use mathlib.Core.Path.{_≡_}
 use mathlib.Core.List.{List, [], _∷_}
 use mathlib.Core.Option.{Option, none, some}
@@ -42,14 +42,24 @@ Yield σ t a u k v s l (Item.At i n w) =
     (m : Tree) × (r : List Tree) × (l ≡ m ∷ r) × (tree σ v (take n (drop i s)) ≡ some m) × (left σ t a u k s w ≡ some r)
 Yield σ t a u k v s l Item.Done = l ≡ []
 
-abbrev pub Lying : List ℕ → Item → Type 0
-Lying s (Item.At i n w) = (i + n ≤ length s) × Sound s (w .outer) (w .end) (w .at)
-Lying s Item.Done = Unit {0}
+-- the bytes behind both places of a walk: fewer with each item
+abbrev pub ahead : List ℕ → Walk → ℕ
+ahead s w = length s - w .outer + (length s - w .at)
+
+-- an item of n bytes at i, and the walk w′ behind it
+pub record Found (s : List ℕ) (w : Walk) (i n : ℕ) (w′ : Walk) : Type 0 where
+  pub inside : i + n ≤ length s
+  pub sound : Sound s (w′ .outer) (w′ .end) (w′ .at)
+  pub less : ahead s w′ < ahead s w
+
+abbrev pub Lying : List ℕ → Walk → Item → Type 0
+Lying s w (Item.At i n w′) = Found s w i n w′
+Lying s w Item.Done = Unit {0}
 
 -- THE ANSWER r of a walk: where nothing is broken, the first of those that are left, or that none is
 pub record Yields (σ : Schema) (t a u k v : ℕ) (s : List ℕ) (w : Walk) (r : Item) : Type 0 where
   pub of : (l : List Tree) → left σ t a u k s w ≡ some l → Yield σ t a u k v s l r
-  pub lying : Lying s r
+  pub lying : Lying s w r
 
 -- of a message: its entities, 2. Of an entity, whose last byte is the last of s: the stop_time_updates, 2, of all its trip_updates, 3
 abbrev pub leftEntities : List ℕ → Walk → Option (List Tree)
