@@ -1,0 +1,4 @@
+-- Lemmas on plain values.
+mod Gaps
+mod Ranks
+mod Settling
