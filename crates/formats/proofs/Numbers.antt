@@ -1,17 +1,16 @@
 -- What the readers of numbers find, by the tests that the code makes.
 use mathlib.Core.Path.{_≡_, refl, sym, ap, _∙_}
-use mathlib.Core.List.{List, [], _∷_, _++_}
+use mathlib.Core.List.{List, [], _∷_}
 use mathlib.Core.Option.{Option, none, some}
-use mathlib.Core.Bool.{Bool, true, false}
 use Prim.Native.Nat.{ℕ, zero, suc, _+_, _-_, _*_, _^_, _≤_, _<_}
 use native.Mathlib.Omega.{arith}
 use native.Mathlib.Nat.{add-zero, add-suc, pow-le-pow-right}
 use native.Mathlib.Numerals.{add-one}
 use lib.ListN.{length, drop, getD, length-drop, drop-of-length-le}
 use lib.Seq.{drop-cons}
-use lib.Dec.{ltb, eqb}
+use lib.Dec.{eqb}
 use borrow.Author.Tests.{lt-ltb, le-ltb, eq-eqb, ne-eqb}
-use Rattle.formats.specs.Law.{Reader, Law, none-some, pick, bind}
+use Rattle.formats.specs.Law.{Reader, Law, pick, bind}
 use Rattle.formats.specs.Number.{groupsR, groupsLaw, numberR, top, littleR, littleLaw}
 use Rattle.formats.specs.Outcome.{numbered, suffix}
 use Rattle.formats.specs.declared.Numeral.{Numeral}

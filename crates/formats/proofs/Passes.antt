@@ -1,24 +1,24 @@
 -- What the interpreter finds at each kind of node, by the tests that the code makes.
 use mathlib.Core.Path.{_≡_, refl, sym, ap, _∙_}
-use mathlib.Core.List.{List, [], _∷_, _++_}
+use mathlib.Core.List.{List, _∷_}
 use mathlib.Core.Option.{Option, none, some}
-use mathlib.Core.Logic.{_⊎_, inl, inr}
+use mathlib.Core.Logic.{inl, inr}
 use mathlib.Core.Bool.{Bool, true, false}
-use Prim.Native.Nat.{ℕ, zero, suc, _+_, _-_, _*_, _^_, _≤_, _<_}
+use Prim.Native.Nat.{ℕ, zero, suc, _+_, _-_, _*_, _≤_, _<_}
 use native.Mathlib.Omega.{arith}
 use lib.ListN.{length, drop, getD, length-append, length-drop, drop-of-length-le}
-use lib.Dec.{leb, ltb, eqb}
+use lib.Dec.{ltb}
 use borrow.Author.Tests.{lt-ltb, le-ltb, ltb-true, ltb-false, le-leb, lt-leb, eq-eqb, ne-eqb}
-use Rattle.formats.specs.Law.{Law, pick, bind, bytesR, constR, manyR}
+use Rattle.formats.specs.Law.{bind, bytesR, constR, manyR}
 use Rattle.formats.specs.Number.{numberR, numberLaw, littleR, littleLaw}
-use Rattle.formats.specs.Format.{Format, list, choice, _&_, Value, write, read, takes, element, law, count-over}
+use Rattle.formats.specs.Format.{Format, choice, Value, write, read, element, law, count-over}
 use Rattle.formats.specs.Outcome.{numbered, skipped, skipTo, skipMany, formatAt, leafFormat, tagAt, broken, at-place}
 use Rattle.formats.specs.declared.Numeral.{Numeral}
 use Rattle.formats.specs.declared.Numeral.the-variants.{Got, Bad}
 use Rattle.formats.specs.declared.Skip.{Skip}
 use Rattle.formats.specs.declared.Skip.the-variants.{At, Broken}
 use Rattle.formats.proofs.Numbers.{place, opened, Found, got, bad-none}
-use Rattle.formats.proofs.Nodes.{leaf-is, node-leaf, node-list, node-choice, node-pair, node-never, node-none}
+use Rattle.formats.proofs.Nodes.{node-leaf, node-list, node-choice, node-pair, node-never, node-none}
 
 -- n bytes
 pub raw-good : (s : List ℕ) (at n : ℕ) → at ≤ length s → n ≤ length s - at → At (at + n) ≡ skipped s (bytesR n (drop at s))

@@ -1,6 +1,6 @@
 // Reading by a format: numbers, and an interpreter that passes over a value of the format that a table holds.
 ghost use mathlib.Core.Path.{_≡_};
-ghost use Prim.Native.Nat.{ℕ, _+_, _*_, _<_, _≤_};
+ghost use Prim.Native.Nat.{_+_, _*_, _<_, _≤_};
 ghost use lib.ListN.{length, getD, drop};
 ghost use Rattle.formats.specs.Law.{bytesR, constR};
 ghost use Rattle.formats.specs.Number.{groupsR, numberR, littleR};

@@ -1,15 +1,15 @@
 -- What the judge finds at a node that has parts, by the tests that the code makes.
 use mathlib.Core.Path.{_≡_, refl, sym, ap, _∙_}
-use mathlib.Core.List.{List, [], _∷_}
+use mathlib.Core.List.{List, _∷_}
 use mathlib.Core.Option.{Option, none, some}
-use mathlib.Core.Logic.{_⊎_, inl, inr}
+use mathlib.Core.Logic.{inl, inr}
 use mathlib.Core.Bool.{Bool, true, false}
-use Prim.Native.Nat.{ℕ, zero, suc, _+_, _-_, _*_, _≤_, _<_}
+use Prim.Native.Nat.{ℕ, suc, _+_, _-_, _*_, _≤_, _<_}
 use native.Mathlib.Omega.{arith}
 use lib.ListN.{length, drop, getD, length-drop, drop-of-length-le}
 use lib.Dec.{leb, ltb}
 use borrow.Author.Tests.{lt-ltb, le-ltb, ltb-true, ltb-false, ne-eqb}
-use Rattle.formats.specs.Law.{Reader, Law, pick, bind, manyR, manyLaw}
+use Rattle.formats.specs.Law.{Reader, Law, bind, manyR, manyLaw}
 use Rattle.formats.specs.Number.{numberR}
 use Rattle.formats.specs.Format.{Format, list, choice, _&_, Value, read, write, element, law, elementLaw, count-over}
 use Rattle.formats.specs.Outcome.{numbered, suffix, tagAt, formatAt, leafFormat}

@@ -8,7 +8,7 @@ use native.Mathlib.Omega.{arith}
 use lib.ListN.{length, take, drop, length-drop}
 use lib.Dec.{leb}
 use borrow.Author.Tests.{le-leb, lt-leb}
-use Rattle.formats.specs.Law.{pick, bytesR, constR}
+use Rattle.formats.specs.Law.{bytesR, constR}
 use Rattle.formats.specs.Number.{numberR, numberLaw, littleR, littleLaw, zag}
 use Rattle.formats.specs.Format.{text}
 use Rattle.formats.specs.Outcome.{numbered, skipped, classOf, leafFormat}

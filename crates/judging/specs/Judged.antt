@@ -1,6 +1,5 @@
 -- Document 01's questions 5, 6 and 7 on a value of a format: one predicate with the question's number, and the verdict, the first that fails.
-use mathlib.Core.Path.{_≡_, refl}
-use mathlib.Core.List.{List, []}
+use mathlib.Core.List.{List}
 use mathlib.Core.Option.{Option, none, some}
 use mathlib.Core.Logic.{_⊎_, inl, inr}
 use mathlib.Core.Bool.{Bool, true, false, _&&_}

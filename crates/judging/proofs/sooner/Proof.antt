@@ -1,4 +1,3 @@
-use borrow.Author.Needs.{needs}
 use Rattle.judging.proofs.Rules.{sooner-zero, sooner-none, sooner-first, sooner-second}
 use Rattle.judging.proofs.sooner.Statement.{statement}
 use Rattle.judging.proofs.sooner.Tie as tie

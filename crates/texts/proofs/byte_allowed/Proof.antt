@@ -1,4 +1,3 @@
-use borrow.Author.Needs.{needs}
 use Rattle.texts.proofs.Bytewise.{printable-in, printable-low, token-in, token-low, token-high, others}
 use Rattle.texts.proofs.byte_allowed.Statement.{statement}
 use Rattle.texts.proofs.byte_allowed.Tie as tie
