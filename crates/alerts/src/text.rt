@@ -1,9 +1,12 @@
 // Texts searched for a pattern that is lent in three parts: what stands before a name, the name, what stands after it.
 ghost use mathlib.Core.Path.{_≡_};
 ghost use mathlib.Core.List.{_++_};
+ghost use Prim.Native.Nat.{_+_};
 ghost use lib.ListN.{drop};
 ghost use Rattle.alerts.specs.Text.{begins, ends, contains, find};
 ghost use Rattle.alerts.specs.Found.{foundOf};
+ghost use Rattle.alerts.specs.Tables.{upTo, filled, anyIn};
+ghost use Rattle.alerts.specs.Applies.{names, letterRows};
 
 // Where a text is first found.
 pub enum Found {
@@ -78,4 +81,52 @@ pub fn contains(s: &[u8], p: &[u8]) -> bool
 {
     let none = &p[..0];
     contains_around(s, p, none, none)
+}
+
+// The first place of b in s from i on, or the end.
+pub fn next(s: &[u8], i: usize, b: u8) -> usize
+    ensures { λ r. ⌜ r ≡ i + upTo b (drop i (now (s .entry))) ⌝ }
+{
+    let mut k = i;
+    while k < s.len() {
+        if s[k] == b {
+            return k;
+        }
+        k += 1;
+    }
+    k
+}
+
+// Whether a pattern, with the name in its place, stands anywhere in s.
+pub fn contains_filled(s: &[u8], name: &[u8], pattern: &[u8]) -> bool
+    ensures { λ r. ⌜ r ≡ contains (filled (now (name .entry)) (now (pattern .entry))) (now (s .entry)) ⌝ }
+{
+    let h = next(pattern, 0, b'#');
+    if pattern.len() <= h {
+        return contains(s, pattern);
+    }
+    let past = h + 1;
+    contains_around(s, &pattern[..h], name, &pattern[past..])
+}
+
+// Whether one of a table's patterns does.
+pub fn any_in(table: &[u8], name: &[u8], s: &[u8]) -> bool
+    ensures { λ r. ⌜ r ≡ anyIn (now (table .entry)) (now (name .entry)) (now (s .entry)) ⌝ }
+{
+    let mut at = 0;
+    let mut e = next(table, 0, b'|');
+    while e < table.len() {
+        if contains_filled(s, name, &table[at..e]) {
+            return true;
+        }
+        at = e + 1;
+        e = next(table, at, b'|');
+    }
+    contains_filled(s, name, &table[at..])
+}
+
+pub fn names_letter(s: &[u8], name: &[u8]) -> bool
+    ensures { λ r. ⌜ r ≡ names letterRows (now (s .entry)) (now (name .entry)) ⌝ }
+{
+    any_in(b"RER #|RER#", name, s)
 }
