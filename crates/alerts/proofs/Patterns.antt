@@ -1,6 +1,6 @@
 -- A table of patterns, piece by piece: where a piece ends, what is filled in, what is still to be tried.
 use mathlib.Core.Path.{_≡_, refl, sym, ap, _∙_}
-use mathlib.Core.List.{List, [], _∷_, _++_, append-assoc}
+use mathlib.Core.List.{List, [], _∷_, _++_, append-nil}
 use mathlib.Core.Bool.{Bool, true, false, _||_}
 use Prim.Native.Nat.{ℕ, zero, suc, _+_, _-_, _≤_, _<_}
 use native.Mathlib.Numerals.{add-one}
@@ -11,8 +11,10 @@ use lib.Seq.{drop-cons, drop-drop, take-length}
 use borrow.Author.Tests.{eq-eqb, ne-eqb, eqb-true, eqb-false}
 use Rattle.formats.specs.Law.{pick}
 use Rattle.alerts.specs.Lists.{any}
-use Rattle.alerts.specs.Text.{contains, onto, split}
-use Rattle.alerts.specs.Tables.{upTo, filled, anyIn}
+use Rattle.alerts.specs.Text.{find, onto, split}
+use Rattle.alerts.specs.declared.text.Found.{Found}
+use Rattle.alerts.specs.Found.{foundOf}
+use Rattle.alerts.specs.Tables.{upTo, filled, patterns}
 use Rattle.alerts.specs.ListLaws.{or-false}
 
 -- the first c from i on is the first from k on
@@ -38,7 +40,7 @@ upTo-within c (b ∷ s) = go (eqb b c) (upTo-within c s)
     go false ih = omega arith
 
 -- a pattern with no place for the name, and one with one
-filled-none : (name p : List ℕ) → length p ≤ upTo 0x23 p → filled name p ≡ p
+pub filled-none : (name p : List ℕ) → length p ≤ upTo 0x23 p → filled name p ≡ p
 filled-none name [] h = refl
 filled-none name (b ∷ p) h = go (eqb b 0x23) h (filled-none name p)
   where
@@ -46,7 +48,7 @@ filled-none name (b ∷ p) h = go (eqb b 0x23) h (filled-none name p)
     go true h ih = absurd (omega arith)
     go false h ih = ap (λ l. b ∷ l) (ih (omega arith))
 
-filled-here : (name p : List ℕ) → upTo 0x23 p < length p → filled name p ≡ take (upTo 0x23 p) p ++ name ++ drop (suc (upTo 0x23 p)) p
+pub filled-here : (name p : List ℕ) → upTo 0x23 p < length p → filled name p ≡ take (upTo 0x23 p) p ++ name ++ drop (suc (upTo 0x23 p)) p
 filled-here name [] h = absurd (omega arith)
 filled-here name (b ∷ p) h = go (eqb b 0x23) h (filled-here name p)
   where
@@ -61,16 +63,18 @@ filled-here name (b ∷ p) h = go (eqb b 0x23) h (filled-here name p)
 pub tail-whole : (i : ℕ) (s : List ℕ) → take (length s - i) (drop i s) ≡ drop i s
 tail-whole i s = ap (λ n. take n (drop i s)) (sym (length-drop i s)) ∙ take-length (drop i s)
 
-pub unfilled : (s name p : List ℕ) (h : ℕ) (t : Bool) → h ≡ 0 + upTo 0x23 (drop 0 p) → length p ≤ h → t ≡ contains p s → t ≡ contains (filled name p) s
-unfilled s name p h t e g x = x ∙ ap (λ l. contains l s) (sym (filled-none name p (omega (arith, e, g))))
+pub unfilled : (s name p : List ℕ) (h : ℕ) (r : Found) → h ≡ 0 + upTo 0x23 (drop 0 p) → length p ≤ h
+    → r ≡ foundOf (find (p ++ [] ++ []) s) → r ≡ foundOf (find (filled name p) s)
+unfilled s name p h r e g x =
+    x ∙ ap (λ l. foundOf (find l s)) (append-nil (p ++ []) ∙ append-nil p ∙ sym (filled-none name p (omega (arith, e, g))))
 
-pub fills : (s name p : List ℕ) (h : ℕ) (t : Bool) → h ≡ 0 + upTo 0x23 (drop 0 p) → h < length p
-    → t ≡ contains (take h p ++ name ++ take (length p - (h + 1)) (drop (h + 1) p)) s → t ≡ contains (filled name p) s
-fills s name p h t e g x =
+pub fills : (s name p : List ℕ) (h : ℕ) (r : Found) → h ≡ 0 + upTo 0x23 (drop 0 p) → h < length p
+    → r ≡ foundOf (find (take h p ++ name ++ take (length p - (h + 1)) (drop (h + 1) p)) s) → r ≡ foundOf (find (filled name p) s)
+fills s name p h r e g x =
     let at : h ≡ upTo 0x23 p = omega (arith, e) in
     let here : upTo 0x23 p < length p = omega arith in
-    x ∙ ap (λ l. contains (take h p ++ name ++ l) s) (tail-whole (h + 1) p)
-    ∙ ap (λ l. contains l s) (rw (add-one h, at) (sym (filled-here name p here)))
+    x ∙ ap (λ l. foundOf (find (take h p ++ name ++ l) s)) (tail-whole (h + 1) p)
+    ∙ ap (λ l. foundOf (find l s)) (rw (add-one h, at) (sym (filled-here name p here)))
 
 -- the first piece of a cut text, and what is left
 abbrev bar : ℕ → Bool
@@ -96,45 +100,44 @@ split-last (b ∷ s) h = go (bar b) h (split-last s)
     go true h ih = absurd (omega arith)
     go false h ih = rw (ih (omega arith)) refl
 
--- the patterns from `at` on are still to be tried; the first of them ends at e
-pub record Untried (t name s : List ℕ) (at e : ℕ) : Type 0 where
+-- the pieces from `at` on are still to be tried by f; the first of them ends at e
+pub record Untried (f : List ℕ → Bool) (t : List ℕ) (at e : ℕ) : Type 0 where
   pub within : at ≤ e
   pub inside : e ≤ length t
   pub ends : e ≡ at + upTo 0x7c (drop at t)
-  pub whole : anyIn t name s ≡ anyIn (drop at t) name s
+  pub whole : any f (patterns t) ≡ any f (patterns (drop at t))
 
 reaches : (t : List ℕ) (at : ℕ) → at ≤ length t → at + upTo 0x7c (drop at t) ≤ length t
 reaches t at h = omega (arith, upTo-within 0x7c (drop at t), length-drop at t)
 
-pub untried-start : (t name s : List ℕ) (e : ℕ) → e ≡ 0 + upTo 0x7c (drop 0 t) → Untried t name s 0 e
-untried-start t name s e h = record { within = omega arith; inside = omega (arith, h, upTo-within 0x7c t); ends = h; whole = refl }
+pub untried-start : (f : List ℕ → Bool) (t : List ℕ) (e : ℕ) → e ≡ 0 + upTo 0x7c (drop 0 t) → Untried f t 0 e
+untried-start f t e h = record { within = omega arith; inside = omega (arith, h, upTo-within 0x7c t); ends = h; whole = refl }
 
-module _ (t name s : List ℕ) (at e : ℕ) (u : Untried t name s at e) where
-  -- one pattern is tried
-  one : e < length t → anyIn t name s ≡ contains (filled name (take (e - at) (drop at t))) s || anyIn (drop (e + 1) t) name s
+module _ (f : List ℕ → Bool) (t : List ℕ) (at e : ℕ) (u : Untried f t at e) where
+  -- one piece is tried
+  one : e < length t → any f (patterns t) ≡ f (take (e - at) (drop at t)) || any f (patterns (drop (e + 1) t))
   one h =
       let k : upTo 0x7c (drop at t) ≡ e - at = omega (arith, u .ends) in
       let more : upTo 0x7c (drop at t) < length (drop at t) = omega (arith, length-drop at t, u .ends) in
       let past : at + suc (e - at) ≡ e + 1 = omega (arith, u .within) in
       let rest : drop (suc (e - at)) (drop at t) ≡ drop (e + 1) t = drop-drop (suc (e - at)) at t ∙ ap (λ n. drop n t) past in
-      let cut : split bar (drop at t) ≡ take (e - at) (drop at t) ∷ split bar (drop (e + 1) t) =
+      let cut : patterns (drop at t) ≡ take (e - at) (drop at t) ∷ patterns (drop (e + 1) t) =
       split-more (drop at t) more ∙ rw (k, rest) refl in
-      u .whole ∙ ap (any (λ p. contains (filled name p) s)) cut
+      u .whole ∙ ap (any f) cut
 
-  pub tried : (b : Bool) → e < length t → b ≡ contains (filled name (take (e - at) (drop at t))) s → b ≡ true → true ≡ anyIn t name s
+  pub tried : (b : Bool) → e < length t → b ≡ f (take (e - at) (drop at t)) → b ≡ true → true ≡ any f (patterns t)
   tried b h x y = sym (one h ∙ rw (← x, y) refl)
 
-  pub untried-more : (b : Bool) (f : ℕ) → e < length t → b ≡ contains (filled name (take (e - at) (drop at t))) s → b ≡ false
-      → f ≡ e + 1 + upTo 0x7c (drop (e + 1) t) → Untried t name s (e + 1) f
-  untried-more b f h x y g = record {
+  pub untried-more : (b : Bool) (n : ℕ) → e < length t → b ≡ f (take (e - at) (drop at t)) → b ≡ false
+      → n ≡ e + 1 + upTo 0x7c (drop (e + 1) t) → Untried f t (e + 1) n
+  untried-more b n h x y g = record {
     within = omega arith;
     inside = omega (arith, reaches t (e + 1) (omega arith));
     ends = g;
     whole = one h ∙ rw (← x, y) refl;
   }
 
-  pub tried-last : (b : Bool) → length t ≤ e → b ≡ contains (filled name (take (length t - at) (drop at t))) s → b ≡ anyIn t name s
+  pub tried-last : (b : Bool) → length t ≤ e → b ≡ f (take (length t - at) (drop at t)) → b ≡ any f (patterns t)
   tried-last b h x =
       let all-of-it : length (drop at t) ≤ upTo 0x7c (drop at t) = omega (arith, length-drop at t, u .ends) in
-      x ∙ ap (λ l. contains (filled name l) s) (tail-whole at t)
-      ∙ sym (u .whole ∙ ap (any (λ p. contains (filled name p) s)) (split-last (drop at t) all-of-it) ∙ or-false (contains (filled name (drop at t)) s))
+      x ∙ ap f (tail-whole at t) ∙ sym (u .whole ∙ ap (any f) (split-last (drop at t) all-of-it) ∙ or-false (f (drop at t)))

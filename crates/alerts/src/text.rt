@@ -3,10 +3,9 @@ ghost use mathlib.Core.Path.{_≡_};
 ghost use mathlib.Core.List.{_++_};
 ghost use Prim.Native.Nat.{_+_};
 ghost use lib.ListN.{drop};
-ghost use Rattle.alerts.specs.Text.{begins, ends, contains, find};
+ghost use Rattle.alerts.specs.Text.{begins, contains, find};
 ghost use Rattle.alerts.specs.Found.{foundOf};
 ghost use Rattle.alerts.specs.Tables.{upTo, filled, anyIn};
-ghost use Rattle.alerts.specs.Applies.{names, letterRows};
 
 // Where a text is first found.
 pub enum Found {
@@ -65,24 +64,6 @@ pub fn find_around(s: &[u8], before: &[u8], name: &[u8], after: &[u8]) -> Found
     Found::Nowhere
 }
 
-// Whether the three parts stand anywhere in s.
-pub fn contains_around(s: &[u8], before: &[u8], name: &[u8], after: &[u8]) -> bool
-    ensures { λ r. ⌜ r ≡ contains (now (before .entry) ++ now (name .entry) ++ now (after .entry)) (now (s .entry)) ⌝ }
-{
-    match find_around(s, before, name, after) {
-        Found::At(_) => true,
-        Found::Nowhere => false,
-    }
-}
-
-// Whether p stands anywhere in s.
-pub fn contains(s: &[u8], p: &[u8]) -> bool
-    ensures { λ r. ⌜ r ≡ contains (now (p .entry)) (now (s .entry)) ⌝ }
-{
-    let none = &p[..0];
-    contains_around(s, p, none, none)
-}
-
 // The first place of b in s from i on, or the end.
 pub fn next(s: &[u8], i: usize, b: u8) -> usize
     ensures { λ r. ⌜ r ≡ i + upTo b (drop i (now (s .entry))) ⌝ }
@@ -97,16 +78,27 @@ pub fn next(s: &[u8], i: usize, b: u8) -> usize
     k
 }
 
-// Whether a pattern, with the name in its place, stands anywhere in s.
-pub fn contains_filled(s: &[u8], name: &[u8], pattern: &[u8]) -> bool
-    ensures { λ r. ⌜ r ≡ contains (filled (now (name .entry)) (now (pattern .entry))) (now (s .entry)) ⌝ }
+// Where a pattern, with the name in its place, first stands in s.
+pub fn find_filled(s: &[u8], name: &[u8], pattern: &[u8]) -> Found
+    ensures { λ r. ⌜ r ≡ foundOf (find (filled (now (name .entry)) (now (pattern .entry))) (now (s .entry))) ⌝ }
 {
     let h = next(pattern, 0, b'#');
     if pattern.len() <= h {
-        return contains(s, pattern);
+        let none = &pattern[..0];
+        return find_around(s, pattern, none, none);
     }
     let past = h + 1;
-    contains_around(s, &pattern[..h], name, &pattern[past..])
+    find_around(s, &pattern[..h], name, &pattern[past..])
+}
+
+// Whether it stands anywhere in s.
+pub fn contains_filled(s: &[u8], name: &[u8], pattern: &[u8]) -> bool
+    ensures { λ r. ⌜ r ≡ contains (filled (now (name .entry)) (now (pattern .entry))) (now (s .entry)) ⌝ }
+{
+    match find_filled(s, name, pattern) {
+        Found::At(_) => true,
+        Found::Nowhere => false,
+    }
 }
 
 // Whether one of a table's patterns does.
@@ -123,10 +115,4 @@ pub fn any_in(table: &[u8], name: &[u8], s: &[u8]) -> bool
         e = next(table, at, b'|');
     }
     contains_filled(s, name, &table[at..])
-}
-
-pub fn names_letter(s: &[u8], name: &[u8]) -> bool
-    ensures { λ r. ⌜ r ≡ names letterRows (now (s .entry)) (now (name .entry)) ⌝ }
-{
-    any_in(b"RER #|RER#", name, s)
 }

@@ -3,12 +3,14 @@ use Prim.Native.Nat.{_-_}
 use native.Mathlib.Omega.{arith}
 use lib.ListN.{length}
 use borrow.Author.Needs.{needs}
+use Rattle.alerts.specs.Text.{contains}
+use Rattle.alerts.specs.Tables.{filled}
 use Rattle.alerts.proofs.Patterns.{Untried, untried-start, tried, untried-more, tried-last}
 use Rattle.alerts.proofs.text.any_in.Statement.{statement}
 use Rattle.alerts.proofs.text.any_in.Tie as tie
 
 abbrev Inv-loop : tie.InvT-loop
-Inv-loop table name s at₀ e₀ at e = Untried table name s at e
+Inv-loop table name s at₀ e₀ at e = Untried (λ p. contains (filled name p) s) table at e
 
 abbrev μ-loop : tie.MeasureT-loop
 μ-loop table name s at₀ e₀ at e = length table - e

@@ -1,9 +1,6 @@
 -- `alerts::text::contains_filled` meets its contract.
-use mathlib.Core.Path.{sym}
-use native.Mathlib.Omega.{arith}
-use lib.Seq.{length-take-le}
 use borrow.Author.Needs.{needs}
-use Rattle.alerts.proofs.Patterns.{unfilled, fills}
+use Rattle.alerts.proofs.Searching.{found-contained, nowhere-contained}
 use Rattle.alerts.proofs.text.contains_filled.Statement.{statement}
 use Rattle.alerts.proofs.text.contains_filled.Tie as tie
 
@@ -12,12 +9,7 @@ contains-filled-spec =
     tie.close
     (tie.spec
     (λ c κs. search needs)
-    (λ c κs. search needs)
-    (λ c. search (unfilled))
-    (λ c. search needs)
-    (λ c. sym (length-take-le (c .before .before .next .result) (c .before .before .before .before .before .before .args .pattern .now) (omega arith)))
     (λ c. search needs)
     (λ c. search needs)
-    (λ c. search needs)
-    (λ c κs. search needs)
-    (λ c. search (fills)))
+    (λ c. search (found-contained))
+    (λ c. search (nowhere-contained)))
