@@ -1,6 +1,6 @@
 -- A text searched for a pattern, place by place: what each turn knows, and what a pattern in parts is.
 use mathlib.Core.Path.{_≡_, refl, sym, ap, _∙_}
-use mathlib.Core.List.{List, [], _∷_, _++_, append-nil}
+use mathlib.Core.List.{List, [], _∷_, _++_}
 use mathlib.Core.Option.{Option, none, some}
 use mathlib.Core.Bool.{Bool, true, false, not, _&&_, _||_}
 use Prim.Native.Nat.{ℕ, zero, suc, _+_, _-_, _≤_, _<_}
@@ -158,7 +158,3 @@ found-contained p s i o e h = sym (contains-find p s ∙ found-somewhere (find p
 
 pub nowhere-contained : (p s : List ℕ) (o : Found) → o ≡ foundOf (find p s) → o ≡ Nowhere → false ≡ contains p s
 nowhere-contained p s o e h = sym (contains-find p s ∙ found-nowhere (find p s) (sym e ∙ h))
-
--- a pattern with nothing before or after it
-pub alone : (p s : List ℕ) (t : Bool) → t ≡ contains (p ++ [] ++ []) s → t ≡ contains p s
-alone p s t e = e ∙ ap (λ l. contains l s) (append-nil (p ++ []) ∙ append-nil p)

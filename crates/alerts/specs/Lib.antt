@@ -11,5 +11,6 @@ pub mod Candidates
 pub mod Implied
 pub mod ProductCodes
 pub mod Found
+pub mod Tables
 pub mod Vectors
 pub mod LabelLaws

@@ -3,6 +3,7 @@ ghost use mathlib.Core.Path.{_≡_};
 ghost use Rattle.alerts.specs.Label.{continues, Ends, labelOf};
 
 pub mod text; // texts searched for patterns
+pub mod lines; // the lines that a text names
 
 // Whether a byte goes on with a character.
 fn goes_on(b: u8) -> bool

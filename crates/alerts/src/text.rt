@@ -1,9 +1,11 @@
 // Texts searched for a pattern that is lent in three parts: what stands before a name, the name, what stands after it.
 ghost use mathlib.Core.Path.{_≡_};
 ghost use mathlib.Core.List.{_++_};
+ghost use Prim.Native.Nat.{_+_};
 ghost use lib.ListN.{drop};
-ghost use Rattle.alerts.specs.Text.{begins, ends, contains, find};
+ghost use Rattle.alerts.specs.Text.{begins, contains, find};
 ghost use Rattle.alerts.specs.Found.{foundOf};
+ghost use Rattle.alerts.specs.Tables.{upTo, filled, anyIn};
 
 // Where a text is first found.
 pub enum Found {
@@ -62,20 +64,55 @@ pub fn find_around(s: &[u8], before: &[u8], name: &[u8], after: &[u8]) -> Found
     Found::Nowhere
 }
 
-// Whether the three parts stand anywhere in s.
-pub fn contains_around(s: &[u8], before: &[u8], name: &[u8], after: &[u8]) -> bool
-    ensures { λ r. ⌜ r ≡ contains (now (before .entry) ++ now (name .entry) ++ now (after .entry)) (now (s .entry)) ⌝ }
+// The first place of b in s from i on, or the end.
+pub fn next(s: &[u8], i: usize, b: u8) -> usize
+    ensures { λ r. ⌜ r ≡ i + upTo b (drop i (now (s .entry))) ⌝ }
 {
-    match find_around(s, before, name, after) {
+    let mut k = i;
+    while k < s.len() {
+        if s[k] == b {
+            return k;
+        }
+        k += 1;
+    }
+    k
+}
+
+// Where a pattern, with the name in its place, first stands in s.
+pub fn find_filled(s: &[u8], name: &[u8], pattern: &[u8]) -> Found
+    ensures { λ r. ⌜ r ≡ foundOf (find (filled (now (name .entry)) (now (pattern .entry))) (now (s .entry))) ⌝ }
+{
+    let h = next(pattern, 0, b'#');
+    if pattern.len() <= h {
+        let none = &pattern[..0];
+        return find_around(s, pattern, none, none);
+    }
+    let past = h + 1;
+    find_around(s, &pattern[..h], name, &pattern[past..])
+}
+
+// Whether it stands anywhere in s.
+pub fn contains_filled(s: &[u8], name: &[u8], pattern: &[u8]) -> bool
+    ensures { λ r. ⌜ r ≡ contains (filled (now (name .entry)) (now (pattern .entry))) (now (s .entry)) ⌝ }
+{
+    match find_filled(s, name, pattern) {
         Found::At(_) => true,
         Found::Nowhere => false,
     }
 }
 
-// Whether p stands anywhere in s.
-pub fn contains(s: &[u8], p: &[u8]) -> bool
-    ensures { λ r. ⌜ r ≡ contains (now (p .entry)) (now (s .entry)) ⌝ }
+// Whether one of a table's patterns does.
+pub fn any_in(table: &[u8], name: &[u8], s: &[u8]) -> bool
+    ensures { λ r. ⌜ r ≡ anyIn (now (table .entry)) (now (name .entry)) (now (s .entry)) ⌝ }
 {
-    let none = &p[..0];
-    contains_around(s, p, none, none)
+    let mut at = 0;
+    let mut e = next(table, 0, b'|');
+    while e < table.len() {
+        if contains_filled(s, name, &table[at..e]) {
+            return true;
+        }
+        at = e + 1;
+        e = next(table, at, b'|');
+    }
+    contains_filled(s, name, &table[at..])
 }

@@ -1,11 +1,11 @@
--- `alerts::text::contains_around` meets its contract.
+-- `alerts::text::contains_filled` meets its contract.
 use borrow.Author.Needs.{needs}
 use Rattle.alerts.proofs.Searching.{found-contained, nowhere-contained}
-use Rattle.alerts.proofs.text.contains_around.Statement.{statement}
-use Rattle.alerts.proofs.text.contains_around.Tie as tie
+use Rattle.alerts.proofs.text.contains_filled.Statement.{statement}
+use Rattle.alerts.proofs.text.contains_filled.Tie as tie
 
-pub contains-around-spec : {M : Type 1} → statement M
-contains-around-spec =
+pub contains-filled-spec : {M : Type 1} → statement M
+contains-filled-spec =
     tie.close
     (tie.spec
     (λ c κs. search needs)
