@@ -1,18 +1,17 @@
--- What `groups` finds, by the tests that the code makes.
-use mathlib.Core.Path.{_≡_, refl, sym, ap, _∙_, subst}
-use mathlib.Core.List.{List, [], _∷_, _++_}
+-- What the readers of numbers find, by the tests that the code makes.
+use mathlib.Core.Path.{_≡_, refl, sym, ap, _∙_}
+use mathlib.Core.List.{List, [], _∷_}
 use mathlib.Core.Option.{Option, none, some}
-use mathlib.Core.Bool.{Bool, true, false}
 use Prim.Native.Nat.{ℕ, zero, suc, _+_, _-_, _*_, _^_, _≤_, _<_}
 use native.Mathlib.Omega.{arith}
-use native.Mathlib.Nat.{add-zero, add-suc}
+use native.Mathlib.Nat.{add-zero, add-suc, pow-le-pow-right}
 use native.Mathlib.Numerals.{add-one}
-use lib.ListN.{length, take, drop, getD, length-drop, drop-of-length-le}
+use lib.ListN.{length, drop, getD, length-drop, drop-of-length-le}
 use lib.Seq.{drop-cons}
-use lib.Dec.{leb, ltb, eqb}
+use lib.Dec.{eqb}
 use borrow.Author.Tests.{lt-ltb, le-ltb, eq-eqb, ne-eqb}
-use Rattle.formats.specs.Law.{Reader, Law, none-some, pick, bind}
-use Rattle.formats.specs.Number.{groupsR, groupsW, groupsLaw, top}
+use Rattle.formats.specs.Law.{Reader, Law, pick, bind}
+use Rattle.formats.specs.Number.{groupsR, groupsLaw, numberR, top, littleR, littleLaw}
 use Rattle.formats.specs.Outcome.{numbered, suffix}
 use Rattle.formats.specs.declared.Numeral.{Numeral}
 use Rattle.formats.specs.declared.Numeral.the-variants.{Got, Bad}
@@ -21,6 +20,43 @@ use Rattle.formats.specs.declared.Numeral.the-variants.{Got, Bad}
 pub place : (s : List ℕ) (at : ℕ) → at ≤ length s → length s - length (drop at s) ≡ at
 place s at h = rw length-drop (omega arith)
 
+-- an answer taken apart
+bad-got : {C : Type 0} {n q : ℕ} → Bad ≡ Got n q → C
+bad-got e = absurd (let z : _≡_ {A = ℕ} 0 1 = cc in omega arith)
+
+pub bad-none : (s : List ℕ) (o : Option (ℕ × List ℕ)) (r : Numeral) → r ≡ numbered s o → r ≡ Bad → o ≡ none
+bad-none s none r e h = refl
+bad-none s (some x) r e h = bad-got (sym h ∙ e)
+
+-- what was got: what is left is the whole past the place
+pub record Found (r : Reader ℕ) (s : List ℕ) (at n q : ℕ) : Type 0 where
+  pub reads : r (drop at s) ≡ some (n, drop q s)
+  pub within : q ≤ length s
+
+module _ {w : ℕ → List ℕ} {r : Reader ℕ} {ok : ℕ → Type 0} (l : Law w r ok) (s : List ℕ) (at : ℕ) where
+  got-go : (o : Option (ℕ × List ℕ)) → r (drop at s) ≡ o → (n q : ℕ) → Got n q ≡ numbered s o → Found r s at n q
+  got-go none e n q h = bad-got (sym h)
+  got-go (some x) e n q h =
+      let i : n ≡ x .0 = cc in
+      let j : q ≡ length s - length (x .1) = cc in
+      record {
+        reads = e ∙ rw (i, j) (ap {B = Option (ℕ × List ℕ)} (λ t. some (x .0, t)) (suffix at s (w (x .0)) (x .1) (l .back (drop at s) (x .0) (x .1) e .0)));
+        within = rw j (omega arith);
+      }
+
+  pub got : (n q : ℕ) (o : Numeral) → o ≡ numbered s (r (drop at s)) → o ≡ Got n q → Found r s at n q
+  got n q o e h = got-go (r (drop at s)) refl n q (sym h ∙ e)
+
+  got-fits : (n q : ℕ) → Found r s at n q → ok n
+  got-fits n q f = l .back (drop at s) n (drop q s) (f .reads) .1
+
+top-more : (k d : ℕ) → top k ≤ top (k + d)
+top-more k zero = rw add-zero (omega arith)
+top-more k (suc d) = rw add-suc (omega (arith, top-more k d))
+
+top-le : (k : ℕ) → k ≤ 8 → top k ≤ 2 ^ 57
+top-le k h = let e : k + (8 - k) ≡ 8 = omega arith in rw e at (top-more k (8 - k))
+
 at-nothing : (k : ℕ) (s : List ℕ) → Bad ≡ numbered s (groupsR k [])
 at-nothing zero s = refl
 at-nothing (suc k) s = refl
@@ -28,84 +64,72 @@ at-nothing (suc k) s = refl
 pub at-end : (k : ℕ) (s : List ℕ) (at : ℕ) → length s ≤ at → Bad ≡ numbered s (groupsR k (drop at s))
 at-end k s at h = rw (drop-of-length-le s h) (at-nothing k s)
 
+pub little-end : (k : ℕ) (s : List ℕ) (at : ℕ) → (k ≡ 0 → ⊥) → length s ≤ at → Bad ≡ numbered s (littleR k (drop at s))
+little-end zero s at z h = absurd (z refl)
+little-end (suc k) s at z h = rw (drop-of-length-le s h) refl
+
+pub float-end : (s : List ℕ) (at : ℕ) → length s ≤ at → Bad ≡ numbered s (littleR 8 (drop at s))
+float-end s at h = little-end 8 s at (λ z. omega arith) h
+
+pub little-none : (k : ℕ) (s : List ℕ) (at : ℕ) → k ≡ 0 → at ≤ length s → Got 0 at ≡ numbered s (littleR k (drop at s))
+little-none k s at z h = rw (z, place s at h) refl
+
+-- a byte is there
 module _ (s : List ℕ) (at b : ℕ) (h : at < length s) (e : b ≡ getD s at 0) where
   pub opened : drop at s ≡ b ∷ drop (at + 1) s
   opened = rw (add-one, e) (drop-cons s at 0 h)
 
-  got : Got b (at + 1) ≡ numbered s (some (b, drop (at + 1) s))
-  got = rw (place s (at + 1) (omega arith)) refl
+  alone : Got b (at + 1) ≡ numbered s (some (b, drop (at + 1) s))
+  alone = rw (place s (at + 1) (omega arith)) refl
 
   pub last-good : (k : ℕ) → k ≡ 0 → b < 2 → Got b (at + 1) ≡ numbered s (groupsR k (drop at s))
-  last-good k z l = rw (z, opened, lt-ltb b 2 l) got
+  last-good k z l = rw (z, opened, lt-ltb b 2 l) alone
 
   pub last-bad : (k : ℕ) → k ≡ 0 → 2 ≤ b → Bad ≡ numbered s (groupsR k (drop at s))
   last-bad k z l = rw (z, opened, le-ltb b 2 l) refl
 
   pub low-good : (k : ℕ) → (k ≡ 0 → ⊥) → b < 128 → Got b (at + 1) ≡ numbered s (groupsR k (drop at s))
   low-good zero z l = absurd (z refl)
-  low-good (suc k) z l = rw (opened, lt-ltb b 128 l) got
+  low-good (suc k) z l = rw (opened, lt-ltb b 128 l) alone
+
+  pub front-good : b < 128 → Got b (at + 1) ≡ numbered s (numberR (drop at s))
+  front-good l = low-good 9 (λ z. omega arith) l
 
   -- another group follows
-  after : (k : ℕ) → 128 ≤ b → b < 256 → groupsR (suc k) (drop at s) ≡ bind (groupsR k (drop (at + 1) s)) (λ h t. pick (eqb h 0) none (some (b - 128 + 128 * h, t)))
-  after k l u = rw (opened, le-ltb b 128 l, lt-ltb b 256 u) refl
+  module _ (k : ℕ) (z : k ≡ 0 → ⊥) (l : 128 ≤ b) (u : b < 256) (o : Numeral) (r : o ≡ numbered s (groupsR (k - 1) (drop (at + 1) s))) where
+    after : groupsR k (drop at s) ≡ bind (groupsR (k - 1) (drop (at + 1) s)) (λ h t. pick (eqb h 0) none (some (b - 128 + 128 * h, t)))
+    after = let i : k ≡ suc (k - 1) = omega arith in ap (λ k. groupsR k (drop at s)) i ∙ rw (opened, le-ltb b 128 l, lt-ltb b 256 u) refl
 
-  more : ℕ → Numeral → Numeral
-  more b Bad = Bad
-  more b (Got n q) = pick (eqb n 0) Bad (Got (b - 128 + 128 * n) q)
+    pub more-bad : o ≡ Bad → Bad ≡ numbered s (groupsR k (drop at s))
+    more-bad f = rw (after, bad-none s (groupsR (k - 1) (drop (at + 1) s)) o r f) refl
 
-  step : (o : Option (ℕ × List ℕ)) → more b (numbered s o) ≡ numbered s (bind o (λ h t. pick (eqb h 0) none (some (b - 128 + 128 * h, t))))
-  unfolding more
-  step none = refl
-  step (some p) = go (eqb (p .0) 0) refl
-    where
-      go : (t : Bool) → eqb (p .0) 0 ≡ t → more b (numbered s (some p)) ≡ numbered s (bind (some p) (λ h t. pick (eqb h 0) none (some (b - 128 + 128 * h, t))))
-      go true x = rw x refl
-      go false x = rw x refl
+    module _ (n q : ℕ) (f : o ≡ Got n q) where
+      rest : Found (groupsR (k - 1)) s (at + 1) n q
+      rest = got (groupsLaw (k - 1)) s (at + 1) n q o r f
 
-  more-is : (k : ℕ) → (k ≡ 0 → ⊥) → 128 ≤ b → b < 256 → (o : Numeral) → o ≡ numbered s (groupsR (k - 1) (drop (at + 1) s)) → more b o ≡ numbered s (groupsR k (drop at s))
-  more-is zero z l u o r = absurd (z refl)
-  more-is (suc k) z l u o r = rw (after k l u, r) (let e : suc k - 1 ≡ k = omega arith in rw e (step (groupsR k (drop (at + 1) s))))
+      pub more-zero : n ≡ 0 → Bad ≡ numbered s (groupsR k (drop at s))
+      more-zero i = rw (after, rest .reads, eq-eqb n 0 i) refl
 
-  pub more-bad : (k : ℕ) → (k ≡ 0 → ⊥) → 128 ≤ b → b < 256 → (o : Numeral) → o ≡ numbered s (groupsR (k - 1) (drop (at + 1) s)) → o ≡ Bad → Bad ≡ numbered s (groupsR k (drop at s))
-  unfolding more
-  more-bad k z l u o r e = sym (ap (more b) e) ∙ more-is k z l u o r
+      pub more-good : (n ≡ 0 → ⊥) → Got (b - 128 + 128 * n) q ≡ numbered s (groupsR k (drop at s))
+      more-good i = rw (after, rest .reads, ne-eqb n 0 i, place s q (rest .within)) refl
 
-  module _ (k : ℕ) (z : k ≡ 0 → ⊥) (l : 128 ≤ b) (u : b < 256) (o : Numeral) (r : o ≡ numbered s (groupsR (k - 1) (drop (at + 1) s))) (n q : ℕ) (is : o ≡ Got n q) where
-    pub more-zero : n ≡ 0 → Bad ≡ numbered s (groupsR k (drop at s))
-    unfolding more
-    more-zero f = let w : pick (eqb n 0) Bad (Got (b - 128 + 128 * n) q) ≡ Bad = rw (eq-eqb n 0 f) refl in sym w ∙ sym (ap (more b) is) ∙ more-is k z l u o r
+      pub more-below : k ≤ 9 → n < 2 ^ 57
+      more-below h = omega (arith, got-fits (groupsLaw (k - 1)) s (at + 1) n q rest, top-le (k - 1) (omega arith))
 
-    pub more-good : (n ≡ 0 → ⊥) → Got (b - 128 + 128 * n) q ≡ numbered s (groupsR k (drop at s))
-    unfolding more
-    more-good f = let w : pick (eqb n 0) Bad (Got (b - 128 + 128 * n) q) ≡ Got (b - 128 + 128 * n) q = rw (ne-eqb n 0 f) refl in sym w ∙ sym (ap (more b) is) ∙ more-is k z l u o r
+  -- another byte follows
+  module _ (k : ℕ) (z : k ≡ 0 → ⊥) (u : b < 256) (o : Numeral) (r : o ≡ numbered s (littleR (k - 1) (drop (at + 1) s))) where
+    next : littleR k (drop at s) ≡ bind (littleR (k - 1) (drop (at + 1) s)) (λ h t. some (b + 256 * h, t))
+    next = let i : k ≡ suc (k - 1) = omega arith in ap (λ k. littleR k (drop at s)) i ∙ rw (opened, lt-ltb b 256 u) refl
 
--- what was got is below the bound, and what is left is the whole past the place
-bad-got : {C : Type 0} {n q : ℕ} → Bad ≡ Got n q → C
-bad-got e = absurd (let z : _≡_ {A = ℕ} 0 1 = cc in omega arith)
+    pub little-bad : o ≡ Bad → Bad ≡ numbered s (littleR k (drop at s))
+    little-bad f = rw (next, bad-none s (littleR (k - 1) (drop (at + 1) s)) o r f) refl
 
-got-fst : {n m p q : ℕ} → Got n p ≡ Got m q → n ≡ m
-got-fst e = cc
+    module _ (n q : ℕ) (f : o ≡ Got n q) where
+      others : Found (littleR (k - 1)) s (at + 1) n q
+      others = got (littleLaw (k - 1)) s (at + 1) n q o r f
 
-got-snd : {n m p q : ℕ} → Got n p ≡ Got m q → p ≡ q
-got-snd e = cc
+      pub little-good : Got (b + 256 * n) q ≡ numbered s (littleR k (drop at s))
+      little-good = rw (next, others .reads, place s q (others .within)) refl
 
-module _ (k : ℕ) (s : List ℕ) (at : ℕ) where
-  got-go : (o : Option (ℕ × List ℕ)) → groupsR k (drop at s) ≡ o → (n q : ℕ) → Got n q ≡ numbered s o → (n < top k) × (groupsR k (drop at s) ≡ some (n, drop q s)) × (q ≤ length s)
-  got-go none e n q h = bad-got (sym h)
-  got-go (some x) e n q h =
-      let b = groupsLaw k .back (drop at s) (x .0) (x .1) e in
-      (rw (got-fst h) (b .1), e ∙ rw (got-fst h, got-snd h) (ap {B = Option (ℕ × List ℕ)} (λ t. some (x .0, t)) (suffix at s (groupsW k (x .0)) (x .1) (b .0))), rw (got-snd h) (omega arith))
-
-  pub got-place : (n q : ℕ) → Got n q ≡ numbered s (groupsR k (drop at s)) → (n < top k) × (groupsR k (drop at s) ≡ some (n, drop q s)) × (q ≤ length s)
-  got-place n q h = got-go (groupsR k (drop at s)) refl n q h
-
-top-more : (k d : ℕ) → top k ≤ top (k + d)
-top-more k zero = rw add-zero (omega arith)
-top-more k (suc d) = rw add-suc (omega (arith, top-more k d))
-
-pub top-le : (k : ℕ) → k ≤ 8 → top k ≤ 2 ^ 57
-top-le k h = let e : k + (8 - k) ≡ 8 = omega arith in rw e at (top-more k (8 - k))
-
-pub bad-none : (s : List ℕ) (o : Option (ℕ × List ℕ)) → Bad ≡ numbered s o → o ≡ none
-bad-none s none e = refl
-bad-none s (some x) e = bad-got e
+      pub little-below : k ≤ 8 → n < 2 ^ 56
+      little-below h = let i : k - 1 ≤ 7 = omega arith in let p : 256 ^ (k - 1) ≤ 256 ^ 7 = pow-le-pow-right (omega arith) i in omega (arith, got-fits (littleLaw (k - 1)) s (at + 1) n q others)

@@ -1,24 +1,24 @@
 -- What the interpreter finds at each kind of node, by the tests that the code makes.
-use mathlib.Core.Path.{_≡_, refl, sym, ap, _∙_, subst}
-use mathlib.Core.List.{List, [], _∷_, _++_}
+use mathlib.Core.Path.{_≡_, refl, sym, ap, _∙_}
+use mathlib.Core.List.{List, _∷_}
 use mathlib.Core.Option.{Option, none, some}
-use mathlib.Core.Logic.{_⊎_, inl, inr}
+use mathlib.Core.Logic.{inl, inr}
 use mathlib.Core.Bool.{Bool, true, false}
-use Prim.Native.Nat.{ℕ, zero, suc, _+_, _-_, _*_, _^_, _≤_, _<_}
+use Prim.Native.Nat.{ℕ, zero, suc, _+_, _-_, _*_, _≤_, _<_}
 use native.Mathlib.Omega.{arith}
-use native.Mathlib.Numerals.{add-one}
-use lib.ListN.{length, take, drop, getD, length-drop, drop-of-length-le, List·getD-eq-default}
-use lib.Dec.{leb, ltb, eqb}
-use borrow.Author.Tests.{lt-ltb, le-ltb, ltb-true, ltb-false, le-leb, lt-leb, leb-true, eq-eqb, ne-eqb}
-use Rattle.formats.specs.Law.{Reader, Law, none-some, pick, bind, bytesR, constR, manyR, manyLaw}
-use Rattle.formats.specs.Number.{groupsR, numberR}
-use Rattle.formats.specs.Format.{Format, never, empty, number, signed, small, text, float, constant, list, choice, pair, any, Value, read, write, Fits, law}
-use Rattle.formats.specs.Outcome.{numbered, skipped, suffix, skipTo, skipMany, nodeFormat, formatAt, leafFormat, tagAt, broken, at-place}
+use lib.ListN.{length, drop, getD, length-append, length-drop, drop-of-length-le}
+use lib.Dec.{ltb}
+use borrow.Author.Tests.{lt-ltb, le-ltb, ltb-true, ltb-false, le-leb, lt-leb, eq-eqb, ne-eqb}
+use Rattle.formats.specs.Law.{bind, bytesR, constR, manyR}
+use Rattle.formats.specs.Number.{numberR, numberLaw, littleR, littleLaw}
+use Rattle.formats.specs.Format.{Format, choice, Value, write, read, element, law, count-over}
+use Rattle.formats.specs.Outcome.{numbered, skipped, skipTo, skipMany, formatAt, leafFormat, tagAt, broken, at-place}
 use Rattle.formats.specs.declared.Numeral.{Numeral}
 use Rattle.formats.specs.declared.Numeral.the-variants.{Got, Bad}
 use Rattle.formats.specs.declared.Skip.{Skip}
 use Rattle.formats.specs.declared.Skip.the-variants.{At, Broken}
-use Rattle.formats.proofs.Numbers.{place, opened, got-place, bad-none}
+use Rattle.formats.proofs.Numbers.{place, opened, Found, got, bad-none}
+use Rattle.formats.proofs.Nodes.{node-leaf, node-list, node-choice, node-pair, node-never, node-none}
 
 -- n bytes
 pub raw-good : (s : List ℕ) (at n : ℕ) → at ≤ length s → n ≤ length s - at → At (at + n) ≡ skipped s (bytesR n (drop at s))
@@ -31,18 +31,19 @@ raw-bad s at n l = rw (lt-leb n (length (drop at s)) (rw length-drop l)) refl
 pub given-end : (s : List ℕ) (at c : ℕ) → length s ≤ at → Broken ≡ skipped s (constR c (drop at s))
 given-end s at c h = rw (drop-of-length-le s h) refl
 
-pub given-good : (s : List ℕ) (at b c : ℕ) → at < length s → b ≡ getD s at 0 → b ≡ c → At (at + 1) ≡ skipped s (constR c (drop at s))
-given-good s at b c h e q = rw (opened s at b h e, eq-eqb b c q, place s (at + 1) (omega arith)) refl
+module _ (s : List ℕ) (at b c : ℕ) (h : at < length s) (e : b ≡ getD s at 0) where
+  pub given-good : b ≡ c → At (at + 1) ≡ skipped s (constR c (drop at s))
+  given-good q = rw (opened s at b h e, eq-eqb b c q, place s (at + 1) (omega arith)) refl
 
-pub given-bad : (s : List ℕ) (at b c : ℕ) → at < length s → b ≡ getD s at 0 → (b ≡ c → ⊥) → Broken ≡ skipped s (constR c (drop at s))
-given-bad s at b c h e q = rw (opened s at b h e, ne-eqb b c q) refl
+  pub given-bad : (b ≡ c → ⊥) → Broken ≡ skipped s (constR c (drop at s))
+  given-bad q = rw (opened s at b h e, ne-eqb b c q) refl
 
 -- a tag
 pub tag-end : (s : List ℕ) (at : ℕ) → length s ≤ at → 2 ≡ tagAt s at
 tag-end s at h = rw (le-ltb at (length s) h) refl
 
-pub tag-in : (s : List ℕ) (at : ℕ) → at < length s → getD s at 0 ≡ tagAt s at
-tag-in s at h = rw (lt-ltb at (length s) h) refl
+pub tag-in : (s : List ℕ) (at b : ℕ) → b ≡ getD s at 0 → at < length s → b ≡ tagAt s at
+tag-in s at b e h = rw (lt-ltb at (length s) h) e
 
 pub tag-at : (s : List ℕ) (at c : ℕ) → c ≡ tagAt s at → c < 2 → (at < length s) × (c ≡ getD s at 0)
 tag-at s at c e l = go (ltb at (length s)) refl
@@ -51,97 +52,81 @@ tag-at s at c e l = go (ltb at (length s)) refl
     go true q = (ltb-true at (length s) q, rw (q, tagAt) at e)
     go false q = let z : c ≡ 2 = rw (q, tagAt) at e in absurd (omega arith)
 
--- a table's word past its end
-pub word-end : (t : List ℕ) (i : ℕ) → length t ≤ i → 0 ≡ getD t i 0
-word-end t i h = sym (List·getD-eq-default t 0 h)
+pub tag-within : (s : List ℕ) (at c : ℕ) → c ≡ tagAt s at → c < 2 → at + 1 ≤ length s
+tag-within s at c e l = omega (arith, tag-at s at c e l .0)
 
 -- the kinds with no parts
-pub leaf-is : (kind a b : ℕ) (sub : ℕ → Format) (s : List ℕ) (at : ℕ) → kind < 8 → skipTo (leafFormat kind a) s at ≡ skipTo (nodeFormat kind a b sub) s at
-leaf-is zero a b sub s at h = refl
-leaf-is (suc zero) a b sub s at h = refl
-leaf-is (suc (suc zero)) a b sub s at h = refl
-leaf-is (suc (suc (suc zero))) a b sub s at h = refl
-leaf-is (suc (suc (suc (suc zero)))) a b sub s at h = refl
-leaf-is (suc (suc (suc (suc (suc zero))))) a b sub s at h = refl
-leaf-is (suc (suc (suc (suc (suc (suc zero)))))) a b sub s at h = refl
-leaf-is (suc (suc (suc (suc (suc (suc (suc zero))))))) a b sub s at h = refl
-leaf-is (suc (suc (suc (suc (suc (suc (suc (suc k)))))))) a b sub s at h = absurd (omega arith)
+module _ (kind a : ℕ) (s : List ℕ) (at : ℕ) where
+  pub leaf-0 : kind ≡ 0 → Broken ≡ skipTo (leafFormat kind a 0) s at
+  leaf-0 e = rw e refl
 
-pub leaf-0 : (kind a : ℕ) (s : List ℕ) (at : ℕ) → kind ≡ 0 → Broken ≡ skipTo (leafFormat kind a) s at
-leaf-0 kind a s at e = rw e refl
+  pub leaf-1 : kind ≡ 1 → at ≤ length s → At at ≡ skipTo (leafFormat kind a 0) s at
+  leaf-1 e h = rw (e, place s at h) refl
 
-pub leaf-1 : (kind a : ℕ) (s : List ℕ) (at : ℕ) → kind ≡ 1 → at ≤ length s → At at ≡ skipTo (leafFormat kind a) s at
-leaf-1 kind a s at e h = rw (e, place s at h) refl
+  module _ (e : kind ≡ 6) (o : Numeral) (r : o ≡ numbered s (littleR 8 (drop at s))) where
+    pub leaf-6-bad : o ≡ Bad → Broken ≡ skipTo (leafFormat kind a 0) s at
+    leaf-6-bad h = rw (e, bad-none s (littleR 8 (drop at s)) o r h) refl
 
-pub leaf-6 : (kind a : ℕ) (s : List ℕ) (at : ℕ) → kind ≡ 6 → skipped s (bytesR 8 (drop at s)) ≡ skipTo (leafFormat kind a) s at
-leaf-6 kind a s at e = rw e refl
+    pub leaf-6 : (n p : ℕ) → o ≡ Got n p → At p ≡ skipTo (leafFormat kind a 0) s at
+    leaf-6 n p h = let g = got (littleLaw 8) s at n p o r h in rw (e, g .reads, place s p (g .within)) refl
 
-pub leaf-7 : (kind a : ℕ) (s : List ℕ) (at : ℕ) → kind ≡ 7 → skipped s (constR a (drop at s)) ≡ skipTo (leafFormat kind a) s at
-leaf-7 kind a s at e = rw e refl
+  pub leaf-7 : (r : Skip) → r ≡ skipped s (constR a (drop at s)) → kind ≡ 7 → r ≡ skipTo (leafFormat kind a 0) s at
+  leaf-7 r h e = rw e h
+
+-- a number was got
+pub count : (s : List ℕ) (at n p : ℕ) (o : Numeral) → o ≡ numbered s (numberR (drop at s)) → o ≡ Got n p → Found numberR s at n p
+count s at n p o r e = got numberLaw s at n p o r e
+
+pub count-within : (s : List ℕ) (at n p : ℕ) (o : Numeral) → o ≡ numbered s (numberR (drop at s)) → o ≡ Got n p → p ≤ length s
+count-within s at n p o r e = count s at n p o r e .within
 
 -- one of the kinds 2 to 5, which begin with a number
-Numbers : ℕ → Type 0
-Numbers kind = (kind < 8) × (kind ≡ 0 → ⊥) × (kind ≡ 1 → ⊥) × (kind ≡ 6 → ⊥) × (kind ≡ 7 → ⊥)
+pub record Numbered (kind : ℕ) : Type 0 where
+  pub low : 2 ≤ kind
+  pub high : kind ≤ 5
 
-module _ (a : ℕ) (s : List ℕ) (at : ℕ) where
-  bad-go : (kind : ℕ) → numberR (drop at s) ≡ none → kind < 8 → (kind ≡ 0 → ⊥) → (kind ≡ 1 → ⊥) → (kind ≡ 6 → ⊥) → (kind ≡ 7 → ⊥) → Broken ≡ skipTo (leafFormat kind a) s at
-  bad-go zero e h z₀ z₁ z₆ z₇ = absurd (z₀ refl)
-  bad-go (suc zero) e h z₀ z₁ z₆ z₇ = absurd (z₁ refl)
-  bad-go (suc (suc zero)) e h z₀ z₁ z₆ z₇ = rw e refl
-  bad-go (suc (suc (suc zero))) e h z₀ z₁ z₆ z₇ = rw e refl
-  bad-go (suc (suc (suc (suc zero)))) e h z₀ z₁ z₆ z₇ = rw e refl
-  bad-go (suc (suc (suc (suc (suc zero))))) e h z₀ z₁ z₆ z₇ = rw e refl
-  bad-go (suc (suc (suc (suc (suc (suc zero)))))) e h z₀ z₁ z₆ z₇ = absurd (z₆ refl)
-  bad-go (suc (suc (suc (suc (suc (suc (suc zero))))))) e h z₀ z₁ z₆ z₇ = absurd (z₇ refl)
-  bad-go (suc (suc (suc (suc (suc (suc (suc (suc k)))))))) e h z₀ z₁ z₆ z₇ = absurd (omega arith)
+pub begins : (kind : ℕ) → kind < 8 → (kind ≡ 0 → ⊥) → (kind ≡ 1 → ⊥) → (kind ≡ 6 → ⊥) → (kind ≡ 7 → ⊥) → Numbered kind
+begins kind h z₀ z₁ z₆ z₇ = record { low = omega arith; high = omega arith }
 
-  pub leaf-bad : (kind : ℕ) (o : Numeral) → o ≡ numbered s (numberR (drop at s)) → o ≡ Bad → kind < 8 → (kind ≡ 0 → ⊥) → (kind ≡ 1 → ⊥) → (kind ≡ 6 → ⊥) → (kind ≡ 7 → ⊥) → Broken ≡ skipTo (leafFormat kind a) s at
-  leaf-bad kind o r e = bad-go kind (bad-none s (numberR (drop at s)) (sym e ∙ r))
+module _ (a : ℕ) (s : List ℕ) (at : ℕ) (o : Numeral) (r : o ≡ numbered s (numberR (drop at s))) where
+  bad-go : (kind : ℕ) → numberR (drop at s) ≡ none → 2 ≤ kind → kind ≤ 5 → Broken ≡ skipTo (leafFormat kind a 0) s at
+  bad-go zero e l h = absurd (omega arith)
+  bad-go (suc zero) e l h = absurd (omega arith)
+  bad-go (suc (suc zero)) e l h = rw e refl
+  bad-go (suc (suc (suc zero))) e l h = rw e refl
+  bad-go (suc (suc (suc (suc zero)))) e l h = rw e refl
+  bad-go (suc (suc (suc (suc (suc zero))))) e l h = rw e refl
+  bad-go (suc (suc (suc (suc (suc (suc k)))))) e l h = absurd (omega arith)
 
-  module _ (n p : ℕ) (o : Numeral) (r : o ≡ numbered s (numberR (drop at s))) (e : o ≡ Got n p) where
-    pub number-is : (numberR (drop at s) ≡ some (n, drop p s)) × (p ≤ length s)
-    number-is = let g = got-place 9 s at n p (sym e ∙ r) in (g .1, g .2)
+  pub leaf-bad : (kind : ℕ) → o ≡ Bad → Numbered kind → Broken ≡ skipTo (leafFormat kind a 0) s at
+  leaf-bad kind e k = bad-go kind (bad-none s (numberR (drop at s)) o r e) (k .low) (k .high)
 
-    pub leaf-4-over : (kind : ℕ) → kind ≡ 4 → a < n → Broken ≡ skipTo (leafFormat kind a) s at
-    leaf-4-over kind k l = rw (k, number-is .0, lt-leb n a l) refl
+  module _ (n p : ℕ) (e : o ≡ Got n p) where
+    read-it : Found numberR s at n p
+    read-it = count s at n p o r e
 
-    pub leaf-4 : (kind : ℕ) → kind ≡ 4 → n ≤ a → At p ≡ skipTo (leafFormat kind a) s at
-    leaf-4 kind k l = rw (k, number-is .0, le-leb n a l, place s p (number-is .1)) refl
+    pub leaf-4-over : (kind : ℕ) → kind ≡ 4 → a < n → Broken ≡ skipTo (leafFormat kind a 0) s at
+    leaf-4-over kind k l = rw (k, read-it .reads, lt-leb n a l) refl
 
-    pub leaf-5 : (kind : ℕ) → kind ≡ 5 → skipped s (bytesR n (drop p s)) ≡ skipTo (leafFormat kind a) s at
-    leaf-5 kind k = rw (k, number-is .0) refl
+    pub leaf-4 : (kind : ℕ) → kind ≡ 4 → n ≤ a → At p ≡ skipTo (leafFormat kind a 0) s at
+    leaf-4 kind k l = rw (k, read-it .reads, le-leb n a l, place s p (read-it .within)) refl
 
-    pub leaf-23 : (kind : ℕ) → kind < 8 → (kind ≡ 0 → ⊥) → (kind ≡ 1 → ⊥) → (kind ≡ 6 → ⊥) → (kind ≡ 7 → ⊥) → (kind ≡ 4 → ⊥) → (kind ≡ 5 → ⊥) → At p ≡ skipTo (leafFormat kind a) s at
-    leaf-23 zero h z₀ z₁ z₆ z₇ z₄ z₅ = absurd (z₀ refl)
-    leaf-23 (suc zero) h z₀ z₁ z₆ z₇ z₄ z₅ = absurd (z₁ refl)
-    leaf-23 (suc (suc zero)) h z₀ z₁ z₆ z₇ z₄ z₅ = rw (number-is .0, place s p (number-is .1)) refl
-    leaf-23 (suc (suc (suc zero))) h z₀ z₁ z₆ z₇ z₄ z₅ = rw (number-is .0, place s p (number-is .1)) refl
-    leaf-23 (suc (suc (suc (suc zero)))) h z₀ z₁ z₆ z₇ z₄ z₅ = absurd (z₄ refl)
-    leaf-23 (suc (suc (suc (suc (suc zero))))) h z₀ z₁ z₆ z₇ z₄ z₅ = absurd (z₅ refl)
-    leaf-23 (suc (suc (suc (suc (suc (suc zero)))))) h z₀ z₁ z₆ z₇ z₄ z₅ = absurd (z₆ refl)
-    leaf-23 (suc (suc (suc (suc (suc (suc (suc zero))))))) h z₀ z₁ z₆ z₇ z₄ z₅ = absurd (z₇ refl)
-    leaf-23 (suc (suc (suc (suc (suc (suc (suc (suc k)))))))) h z₀ z₁ z₆ z₇ z₄ z₅ = absurd (omega arith)
+    pub leaf-5 : (kind : ℕ) (x : Skip) → x ≡ skipped s (bytesR n (drop p s)) → kind ≡ 5 → x ≡ skipTo (leafFormat kind a 0) s at
+    leaf-5 kind x f k = rw (k, read-it .reads) f
 
-    -- a list: its count was got
-    pub list-got : (l : ℕ) (f : Format) → skipMany f n s p ≡ skipTo (list l f) s at
-    list-got l f = rw (number-is .0) refl
-
-  pub list-bad : (o : Numeral) → o ≡ numbered s (numberR (drop at s)) → o ≡ Bad → (l : ℕ) (f : Format) → Broken ≡ skipTo (list l f) s at
-  list-bad o r e l f = rw (bad-none s (numberR (drop at s)) (sym e ∙ r)) refl
+    pub leaf-23 : (kind : ℕ) → Numbered kind → (kind ≡ 4 → ⊥) → (kind ≡ 5 → ⊥) → At p ≡ skipTo (leafFormat kind a 0) s at
+    leaf-23 zero k z₄ z₅ = absurd (omega (arith, k .low))
+    leaf-23 (suc zero) k z₄ z₅ = absurd (omega (arith, k .low))
+    leaf-23 (suc (suc zero)) k z₄ z₅ = rw (read-it .reads, place s p (read-it .within)) refl
+    leaf-23 (suc (suc (suc zero))) k z₄ z₅ = rw (read-it .reads, place s p (read-it .within)) refl
+    leaf-23 (suc (suc (suc (suc zero)))) k z₄ z₅ = absurd (z₄ refl)
+    leaf-23 (suc (suc (suc (suc (suc zero))))) k z₄ z₅ = absurd (z₅ refl)
+    leaf-23 (suc (suc (suc (suc (suc (suc m)))))) k z₄ z₅ = absurd (omega (arith, k .high))
 
 -- what a continuation makes of a value does not move the place
 moved : {A B : Type 0} (s : List ℕ) (f : A → B) (o : Option (A × List ℕ)) → skipped s o ≡ skipped s (bind o (λ a t. some (f a, t)))
 moved s f none = refl
 moved s f (some x) = refl
-
--- one after the other
-pub pair-bad : (a b : Format) (s : List ℕ) (at : ℕ) (r : Skip) → r ≡ skipTo a s at → r ≡ Broken → Broken ≡ skipTo (pair a b) s at
-pair-bad a b s at r e h = rw (broken s (read a (drop at s)) (sym e ∙ h)) refl
-
-pub pair-good : (a b : Format) (s : List ℕ) (at p : ℕ) (r : Skip) → r ≡ skipTo a s at → r ≡ At p → skipTo b s p ≡ skipTo (pair a b) s at
-pair-good a b s at p r e h =
-    let x = at-place (law a) s at p (sym e ∙ h) in
-    rw (x .1) (moved s (λ v. (x .0, v)) (read b (drop p s)))
 
 -- the place that was passed to is in the whole
 at-in : (f : Format) (s : List ℕ) (o : Option (Value f × List ℕ)) (p : ℕ) → At p ≡ skipped s o → p ≤ length s
@@ -151,64 +136,104 @@ at-in f s (some x) p e = let z : p ≡ length s - length (x .1) = cc in omega ar
 pub passed-in : (f : Format) (s : List ℕ) (at p : ℕ) (r : Skip) → r ≡ skipTo f s at → r ≡ At p → p ≤ length s
 passed-in f s at p r e h = at-in f s (read f (drop at s)) p (sym h ∙ e)
 
--- byte 0 or byte 1
-module _ (a b : Format) (s : List ℕ) (at c : ℕ) (e : c ≡ tagAt s at) where
-  pub choice-0 : c ≡ 0 → skipTo a s (at + 1) ≡ skipTo (choice a b) s at
-  choice-0 z = let h = tag-at s at c e (omega arith) in rw (opened s at c (h .0) (h .1), z) (moved s inl (read a (drop (at + 1) s)))
+-- n of one kind: what the whole loop finds is what is found from here on
+pub many-none : (f : Format) (s : List ℕ) (n at : ℕ) (x : Skip) → skipMany f n s at ≡ x → n ≤ 0 → at ≤ length s → At at ≡ x
+many-none f s n at x i l h = let e : n ≡ 0 = omega arith in let j : At at ≡ skipMany f n s at = rw (e, place s at h) refl in j ∙ i
 
-  pub choice-1 : c ≡ 1 → skipTo b s (at + 1) ≡ skipTo (choice a b) s at
-  choice-1 z = let h = tag-at s at c e (omega arith) in rw (opened s at c (h .0) (h .1), z) (moved s inr (read b (drop (at + 1) s)))
+-- a value was passed: it takes the bytes up to the place past it
+pub took : (f : Format) (s : List ℕ) (at p : ℕ) (v : Value f) → at ≤ length s → p ≤ length s → read f (drop at s) ≡ some (v, drop p s) → length (write f v) ≡ p - at
+took f s at p v h k e =
+    let b = law f .back (drop at s) v (drop p s) e .0 in
+    let n : length s - at ≡ length (write f v) + (length s - p) = rw (length-drop, length-append, length-drop) at (ap length b) in
+    omega arith
 
-  pub choice-2 : (c ≡ 0 → ⊥) → (c ≡ 1 → ⊥) → Broken ≡ skipTo (choice a b) s at
-  choice-2 z w = go (ltb at (length s)) refl
-    where
-      go : (t : Bool) → ltb at (length s) ≡ t → Broken ≡ skipTo (choice a b) s at
-      go true q = rw (opened s at c (ltb-true at (length s) q) (rw (q, tagAt) at e), ne-eqb c 0 z, ne-eqb c 1 w) refl
-      go false q = rw (drop-of-length-le s (ltb-false at (length s) q)) refl
+module _ (f : Format) (s : List ℕ) (n at : ℕ) (r : Skip) (e : r ≡ skipTo f s at) (l : 0 < n) (x : Skip) (i : skipMany f n s at ≡ x) where
+  many-is : manyR (element f) n (drop at s) ≡ bind (element f (drop at s)) (λ a t. bind (manyR (element f) (n - 1) t) (λ v u. some (a ∷ v, u)))
+  many-is = let i : n ≡ suc (n - 1) = omega arith in ap (λ n. manyR (element f) n (drop at s)) i
 
--- n of one kind
-pub many-none : (f : Format) (s : List ℕ) (n at : ℕ) → n ≤ 0 → at ≤ length s → At at ≡ skipMany f n s at
-many-none f s n at l h = let e : n ≡ 0 = omega arith in rw (e, place s at h) refl
+  pub many-bad : r ≡ Broken → Broken ≡ x
+  many-bad h = let j : Broken ≡ skipMany f n s at = rw (many-is, broken s (read f (drop at s)) (sym e ∙ h)) refl in j ∙ i
 
-pub many-bad : (f : Format) (s : List ℕ) (n at : ℕ) (r : Skip) → r ≡ skipTo f s at → r ≡ Broken → 0 < n → Broken ≡ skipMany f n s at
-many-bad f s zero at r e h l = absurd (omega arith)
-many-bad f s (suc n) at r e h l = rw (broken s (read f (drop at s)) (sym e ∙ h)) refl
+  module _ (p : ℕ) (h : r ≡ At p) (k : at ≤ length s) where
+    pub many-flat : p ≤ at → Broken ≡ x
+    many-flat j =
+        let y = at-place (law f) s at p (sym e ∙ h) in
+        let q = took f s at p (y .0) k (passed-in f s at p r e h) (y .1) in
+        let m : Broken ≡ skipMany f n s at = rw (many-is, y .1, le-ltb 0 (length (write f (y .0))) (omega arith)) refl in m ∙ i
 
-pub many-more : (f : Format) (s : List ℕ) (n at p : ℕ) (r : Skip) → r ≡ skipTo f s at → r ≡ At p → 0 < n → skipMany f (n - 1) s p ≡ skipMany f n s at
-many-more f s zero at p r e h l = absurd (omega arith)
-many-more f s (suc n) at p r e h l =
-    let x = at-place (law f) s at p (sym e ∙ h) in
-    let m : suc n - 1 ≡ n = omega arith in
-    rw (x .1, m) (moved s (λ v. x .0 ∷ v) (manyR (read f) n (drop p s)))
+    pub many-more : at < p → skipMany f (n - 1) s p ≡ x
+    many-more j =
+        let y = at-place (law f) s at p (sym e ∙ h) in
+        let q = took f s at p (y .0) k (passed-in f s at p r e h) (y .1) in
+        let m : skipMany f (n - 1) s p ≡ skipMany f n s at =
+        rw (many-is, y .1, lt-ltb 0 (length (write f (y .0))) (omega arith)) (moved s (λ v. y .0 ∷ v) (manyR (element f) (n - 1) (drop p s))) in
+        m ∙ i
 
--- a node of the table
-pub node-is : (depth : ℕ) (t : List ℕ) (n : ℕ) → (depth ≡ 0 → ⊥)
-    → formatAt depth t n ≡ nodeFormat (getD t (4 * n + 0) 0) (getD t (4 * n + 1) 0) (getD t (4 * n + 2) 0) (formatAt (depth - 1) t)
-node-is zero t n z = absurd (z refl)
-node-is (suc d) t n z = let e : suc d - 1 ≡ d = omega arith in rw e refl
+-- the node at n of the table t
+module _ (depth : ℕ) (t : List ℕ) (n : ℕ) (s : List ℕ) (at : ℕ) where
+  pub pass-none : depth ≡ 0 → Broken ≡ skipTo (formatAt depth t n) s at
+  pass-none z = rw (node-none depth t n z) refl
 
-pub node-over : (kind a b : ℕ) (sub : ℕ → Format) → 8 ≤ kind → (kind ≡ 8 → ⊥) → (kind ≡ 9 → ⊥) → (kind ≡ 10 → ⊥) → nodeFormat kind a b sub ≡ never
-node-over kind a b sub l z₈ z₉ z₁₀ = let e : kind ≡ (suc (suc (suc (suc (suc (suc (suc (suc (suc (suc (suc (kind - 11)))))))))))) = omega arith in rw e refl
+  module _ (z : depth ≡ 0 → ⊥) (kind a b : ℕ) (ek : kind ≡ getD t (4 * n + 0) 0) (ea : a ≡ getD t (4 * n + 1) 0) (eb : b ≡ getD t (4 * n + 2) 0) where
+    leaf-any : (kind a b : ℕ) → kind < 8 → skipTo (leafFormat kind a 0) s at ≡ skipTo (leafFormat kind a b) s at
+    leaf-any zero a b h = refl
+    leaf-any (suc zero) a b h = refl
+    leaf-any (suc (suc zero)) a b h = refl
+    leaf-any (suc (suc (suc zero))) a b h = refl
+    leaf-any (suc (suc (suc (suc zero)))) a b h = refl
+    leaf-any (suc (suc (suc (suc (suc zero))))) a b h = refl
+    leaf-any (suc (suc (suc (suc (suc (suc zero)))))) a b h = refl
+    leaf-any (suc (suc (suc (suc (suc (suc (suc zero))))))) a b h = refl
+    leaf-any (suc (suc (suc (suc (suc (suc (suc (suc k)))))))) a b h = absurd (omega arith)
 
-module _ (depth : ℕ) (t : List ℕ) (n : ℕ) (z : depth ≡ 0 → ⊥) (kind a b : ℕ)
-    (ek : kind ≡ getD t (4 * n + 0) 0) (ea : a ≡ getD t (4 * n + 1) 0) (eb : b ≡ getD t (4 * n + 2) 0) (s : List ℕ) (at : ℕ) where
-  by-kind : formatAt depth t n ≡ nodeFormat kind a b (formatAt (depth - 1) t)
-  by-kind = rw (ek, ea, eb) (node-is depth t n z)
+    pub pass-leaf : (r : Skip) → r ≡ skipTo (leafFormat kind a 0) s at → kind < 8 → r ≡ skipTo (formatAt depth t n) s at
+    pass-leaf r e h = rw (node-leaf depth t n z kind a b ek ea eb h) (e ∙ leaf-any kind a b h)
 
-  pub node-leaf : kind < 8 → (r : Skip) → r ≡ skipTo (leafFormat kind a) s at → r ≡ skipTo (formatAt depth t n) s at
-  node-leaf h r e = e ∙ leaf-is kind a b (formatAt (depth - 1) t) s at h ∙ ap (λ f. skipTo f s at) (sym by-kind)
+    -- a list
+    module _ (k : kind ≡ 8) (o : Numeral) (r : o ≡ numbered s (numberR (drop at s))) where
+      pub list-bad : o ≡ Bad → Broken ≡ skipTo (formatAt depth t n) s at
+      list-bad e = rw (node-list depth t n z kind a b ek ea eb k, bad-none s (numberR (drop at s)) o r e) refl
 
-  pub node-list : kind ≡ 8 → (r : Skip) → r ≡ skipTo (list a (formatAt (depth - 1) t b)) s at → r ≡ skipTo (formatAt depth t n) s at
-  node-list h r e = rw (by-kind, h) e
+      module _ (m p : ℕ) (e : o ≡ Got m p) where
+        pub list-over : length s - p < m → Broken ≡ skipTo (formatAt depth t n) s at
+        list-over l =
+            rw (
+              node-list depth t n z kind a b ek ea eb k,
+              count s at m p o r e .reads,
+              count-over (formatAt (depth - 1) t b) m (drop p s) (rw length-drop l),
+            ) refl
 
-  pub node-choice : kind ≡ 9 → (r : Skip) → r ≡ skipTo (choice (formatAt (depth - 1) t a) (formatAt (depth - 1) t b)) s at → r ≡ skipTo (formatAt depth t n) s at
-  node-choice h r e = rw (by-kind, h) e
+        pub list-good : (x : Skip) → x ≡ skipMany (formatAt (depth - 1) t b) m s p → x ≡ skipTo (formatAt depth t n) s at
+        list-good x f = rw (node-list depth t n z kind a b ek ea eb k, count s at m p o r e .reads) f
 
-  pub node-pair : kind ≡ 10 → (r : Skip) → r ≡ skipTo (pair (formatAt (depth - 1) t a) (formatAt (depth - 1) t b)) s at → r ≡ skipTo (formatAt depth t n) s at
-  node-pair h r e = rw (by-kind, h) e
+    -- a choice: byte 0 or byte 1
+    module _ (k : kind ≡ 9) (c : ℕ) (e : c ≡ tagAt s at) where
+      pub choice-0 : c ≡ 0 → (x : Skip) → x ≡ skipTo (formatAt (depth - 1) t a) s (at + 1) → x ≡ skipTo (formatAt depth t n) s at
+      choice-0 i x f =
+          let h = tag-at s at c e (omega arith) in
+          rw (node-choice depth t n z kind a b ek ea eb k, opened s at c (h .0) (h .1), i) (f ∙ moved s inl (read (formatAt (depth - 1) t a) (drop (at + 1) s)))
 
-  pub node-never : 8 ≤ kind → (kind ≡ 8 → ⊥) → (kind ≡ 9 → ⊥) → (kind ≡ 10 → ⊥) → Broken ≡ skipTo (formatAt depth t n) s at
-  node-never l z₈ z₉ z₁₀ = rw (by-kind, node-over kind a b (formatAt (depth - 1) t) l z₈ z₉ z₁₀) refl
+      pub choice-1 : c ≡ 1 → (x : Skip) → x ≡ skipTo (formatAt (depth - 1) t b) s (at + 1) → x ≡ skipTo (formatAt depth t n) s at
+      choice-1 i x f =
+          let h = tag-at s at c e (omega arith) in
+          rw (node-choice depth t n z kind a b ek ea eb k, opened s at c (h .0) (h .1), i) (f ∙ moved s inr (read (formatAt (depth - 1) t b) (drop (at + 1) s)))
 
-pub node-none : (depth : ℕ) (t : List ℕ) (n : ℕ) (s : List ℕ) (at : ℕ) → depth ≡ 0 → Broken ≡ skipTo (formatAt depth t n) s at
-node-none depth t n s at z = rw z refl
+      pub choice-2 : (c ≡ 0 → ⊥) → (c ≡ 1 → ⊥) → Broken ≡ skipTo (formatAt depth t n) s at
+      choice-2 i j = rw (node-choice depth t n z kind a b ek ea eb k) (go (ltb at (length s)) refl)
+        where
+          go : (q : Bool) → ltb at (length s) ≡ q → Broken ≡ skipTo (choice (formatAt (depth - 1) t a) (formatAt (depth - 1) t b)) s at
+          go true q = rw (opened s at c (ltb-true at (length s) q) (rw (q, tagAt) at e), ne-eqb c 0 i, ne-eqb c 1 j) refl
+          go false q = rw (drop-of-length-le s (ltb-false at (length s) q)) refl
+
+    -- one after the other
+    module _ (k : kind ≡ 10) (r : Skip) (e : r ≡ skipTo (formatAt (depth - 1) t a) s at) where
+      pub pair-bad : r ≡ Broken → Broken ≡ skipTo (formatAt depth t n) s at
+      pair-bad h = rw (node-pair depth t n z kind a b ek ea eb k, broken s (read (formatAt (depth - 1) t a) (drop at s)) (sym e ∙ h)) refl
+
+      pub pair-good : (p : ℕ) → r ≡ At p → (x : Skip) → x ≡ skipTo (formatAt (depth - 1) t b) s p → x ≡ skipTo (formatAt depth t n) s at
+      pair-good p h x f =
+          let y = at-place (law (formatAt (depth - 1) t a)) s at p (sym e ∙ h) in
+          rw (node-pair depth t n z kind a b ek ea eb k, y .1) (f ∙ moved s (λ v. (y .0, v)) (read (formatAt (depth - 1) t b) (drop p s)))
+
+    pub pass-never : 8 ≤ kind → (kind ≡ 8 → ⊥) → (kind ≡ 9 → ⊥) → (kind ≡ 10 → ⊥) → Broken ≡ skipTo (formatAt depth t n) s at
+    pass-never l z₈ z₉ z₁₀ = rw (node-never depth t n z kind a b ek ea eb l z₈ z₉ z₁₀) refl

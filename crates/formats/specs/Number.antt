@@ -1,12 +1,16 @@
--- NUMBER: groups of seven bits, low first, top bit set when another follows, shortest form, below 2^64.
-use mathlib.Core.Path.{_≡_, refl, sym, ap, _∙_, subst}
-use mathlib.Core.List.{List, [], _∷_, _++_, append-assoc}
+-- Numbers in bytes: groups of seven bits, low first, top bit set when another follows, shortest form, below 2^64;
+-- signed numbers by them (zigzag); and a fixed number of whole bytes, low first (little endian).
+use mathlib.Core.Path.{_≡_, refl, ap, _∙_}
+use mathlib.Core.List.{List, [], _∷_, _++_}
 use mathlib.Core.Option.{Option, none, some}
-use mathlib.Core.Logic.{_⊎_, inl, inr, ⊎-elim}
+use mathlib.Core.Logic.{⊎-elim}
 use mathlib.Core.Bool.{Bool, true, false}
 use Prim.Native.Nat.{ℕ, zero, suc, _+_, _-_, _*_, _/_, _%_, _^_, _≤_, _<_}
 use native.Mathlib.Omega.{arith}
-use lib.Dec.{leb, ltb, eqb}
+use native.Mathlib.Nat.{pow-succ'}
+use lib.IntN.{ℤ, pos, negsuc}
+use lib.ListN.{length}
+use lib.Dec.{ltb, eqb}
 use borrow.Author.Tests.{lt-ltb, le-ltb, ltb-true, ltb-false, eqb-true, eqb-false, eq-eqb, ne-eqb}
 use Rattle.formats.specs.Law.{Reader, Law, pick, bind, bind-some, pick-some, none-some, found, headed}
 
@@ -87,5 +91,65 @@ numberW n = groupsW 9 n
 abbrev pub numberR : Reader ℕ
 numberR s = groupsR 9 s
 
+pub number-some : (n : ℕ) → 0 < length (numberW n)
+number-some n = go (ltb n 128) refl
+  where
+    go : (t : Bool) → ltb n 128 ≡ t → 0 < length (numberW n)
+    go true e = rw e (omega arith)
+    go false e = rw e (omega arith)
+
 pub numberLaw : Law numberW numberR (λ n. n < 2 ^ 64)
 numberLaw = groupsLaw 9
+
+-- signed n is 2n, or -2n-1 below zero
+abbrev pub zig : ℤ → ℕ
+zig (pos n) = 2 * n
+zig (negsuc n) = 2 * n + 1
+
+abbrev pub zag : ℕ → ℤ
+zag n = pick (eqb (n % 2) 0) (pos (n / 2)) (negsuc (n / 2))
+
+pub zag-zig : (z : ℤ) → zag (zig z) ≡ z
+zag-zig (pos n) = rw (eq-eqb (2 * n % 2) 0 (omega arith)) (ap pos (omega arith))
+zag-zig (negsuc n) = rw (ne-eqb ((2 * n + 1) % 2) 0 (omega arith)) (ap negsuc (omega arith))
+
+pub zig-zag : (n : ℕ) → zig (zag n) ≡ n
+zig-zag n = go (eqb (n % 2) 0) refl
+  where
+    go : (t : Bool) → eqb (n % 2) 0 ≡ t → zig (zag n) ≡ n
+    go true e = rw e (omega (arith, eqb-true (n % 2) 0 e))
+    go false e = rw e (omega (arith, eqb-false (n % 2) 0 e))
+
+-- k bytes, low first
+abbrev pub littleW : ℕ → ℕ → List ℕ
+littleW zero n = []
+littleW (suc k) n = n % 256 ∷ littleW k (n / 256)
+
+abbrev pub littleR : ℕ → Reader ℕ
+littleR zero s = some (0, s)
+littleR (suc k) [] = none
+littleR (suc k) (b ∷ s) = pick (ltb b 256) (bind (littleR k s) (λ h t. some (b + 256 * h, t))) none
+
+little-there : (k n : ℕ) (rest : List ℕ) → n < 256 ^ k → littleR k (littleW k n ++ rest) ≡ some (n, rest)
+little-there zero n rest h = let e : n ≡ 0 = omega arith in rw e refl
+little-there (suc k) n rest h =
+    rw (lt-ltb (n % 256) 256 (omega arith), little-there k (n / 256) rest (omega (arith, pow-succ' 256 k)))
+    (ap {B = Option (ℕ × List ℕ)} (λ x. some (x, rest)) (omega arith))
+
+little-back : (k : ℕ) (s : List ℕ) (n : ℕ) (rest : List ℕ) → littleR k s ≡ some (n, rest) → (s ≡ littleW k n ++ rest) × (n < 256 ^ k)
+little-back zero s n rest e = found (λ n rest. (s ≡ rest) × (n < 1)) e (refl, omega arith)
+little-back (suc k) [] n rest e = none-some e
+little-back (suc k) (b ∷ s) n rest e =
+    ⊎-elim
+    (λ h.
+    let (p, ek, e′) = bind-some (littleR k s) _ _ (h .1) in
+    let ih = little-back k s (p .0) (p .1) ek in
+    let l = ltb-true b 256 (h .0) in
+    found (λ n rest. (b ∷ s ≡ littleW (suc k) n ++ rest) × (n < 256 ^ suc k)) e′ (
+      headed (omega arith) (ih .0 ∙ ap (λ h. littleW k h ++ p .1) (omega arith)),
+      omega (arith, ih .1, pow-succ' 256 k),
+    ))
+    (λ h. none-some (h .1)) (pick-some (ltb b 256) _ _ _ e)
+
+pub littleLaw : (k : ℕ) → Law (littleW k) (littleR k) (λ n. n < 256 ^ k)
+littleLaw k = record { there = little-there k; back = little-back k }

@@ -1,17 +1,16 @@
 -- What a reader finds, as a place in the whole: how the interpreter's answers are said.
-use mathlib.Core.Path.{_≡_, refl, sym, ap, _∙_, subst}
-use mathlib.Core.List.{List, [], _∷_, _++_, append-assoc}
+use mathlib.Core.Path.{_≡_, refl, sym, ap, _∙_}
+use mathlib.Core.List.{List, _++_, append-assoc}
 use mathlib.Core.Option.{Option, none, some}
-use mathlib.Core.Logic.{_⊎_, inl, inr, ⊎-elim}
-use mathlib.Core.Bool.{Bool, true, false, _&&_}
-use Prim.Native.Nat.{ℕ, zero, suc, _+_, _-_, _*_, _/_, _%_, _^_, _≤_, _<_}
+use Prim.Native.Nat.{ℕ, zero, suc, _+_, _-_, _*_}
 use native.Mathlib.Omega.{arith}
 use lib.ListN.{length, take, drop, getD, length-append, take-append-drop}
 use lib.Seq.{drop-append-seam}
-use lib.Dec.{leb, ltb, eqb}
-use borrow.Author.Tests.{eq-eqb, ne-eqb, eqb-true, eqb-false}
-use Rattle.formats.specs.Law.{Reader, Law, none-some, pick, bind, manyR}
-use Rattle.formats.specs.Format.{Format, never, empty, number, signed, small, text, float, constant, list, choice, pair, Class, any, name, printable, Value, read, write, Fits, law}
+use lib.Dec.{ltb}
+use Rattle.formats.specs.Law.{Reader, Law, pick, manyR}
+use Rattle.formats.specs.Number.{zag}
+use Rattle.formats.specs.Class.{Class, any, printable, token, utf8}
+use Rattle.formats.specs.Format.{Format, never, empty, number, signed, small, text, float, constant, list, choice, _&_, read, element}
 use Rattle.formats.specs.declared.Numeral.{Numeral}
 use Rattle.formats.specs.declared.Numeral.the-variants.{Got, Bad}
 use Rattle.formats.specs.declared.Skip.{Skip}
@@ -30,26 +29,27 @@ abbrev pub skipTo : Format → List ℕ → ℕ → Skip
 skipTo f s at = skipped s (read f (drop at s))
 
 abbrev pub skipMany : Format → ℕ → List ℕ → ℕ → Skip
-skipMany f n s at = skipped s (manyR (read f) n (drop at s))
+skipMany f n s at = skipped s (manyR (element f) n (drop at s))
 
 abbrev pub classOf : ℕ → Class
 classOf zero = any
-classOf (suc zero) = name
-classOf (suc (suc n)) = printable
+classOf (suc zero) = printable
+classOf (suc (suc zero)) = token
+classOf (suc (suc (suc n))) = utf8
 
--- the format of a node: four words to a node, the kind and two more, and one to spare
+-- the format of a node: four words to a node, the kind and two more, and one to spare. A signed number's bounds stand as they are written
 abbrev pub nodeFormat : ℕ → ℕ → ℕ → (ℕ → Format) → Format
 nodeFormat zero a b sub = never
 nodeFormat (suc zero) a b sub = empty
 nodeFormat (suc (suc zero)) a b sub = number a b
-nodeFormat (suc (suc (suc zero))) a b sub = signed a b
+nodeFormat (suc (suc (suc zero))) a b sub = signed (zag a) (zag b)
 nodeFormat (suc (suc (suc (suc zero)))) a b sub = small a
 nodeFormat (suc (suc (suc (suc (suc zero))))) a b sub = text a (classOf b)
 nodeFormat (suc (suc (suc (suc (suc (suc zero)))))) a b sub = float
 nodeFormat (suc (suc (suc (suc (suc (suc (suc zero))))))) a b sub = constant a
 nodeFormat (suc (suc (suc (suc (suc (suc (suc (suc zero)))))))) a b sub = list a (sub b)
 nodeFormat (suc (suc (suc (suc (suc (suc (suc (suc (suc zero))))))))) a b sub = choice (sub a) (sub b)
-nodeFormat (suc (suc (suc (suc (suc (suc (suc (suc (suc (suc zero)))))))))) a b sub = pair (sub a) (sub b)
+nodeFormat (suc (suc (suc (suc (suc (suc (suc (suc (suc (suc zero)))))))))) a b sub = sub a & sub b
 nodeFormat (suc (suc (suc (suc (suc (suc (suc (suc (suc (suc (suc k))))))))))) a b sub = never
 
 abbrev pub formatAt : ℕ → List ℕ → ℕ → Format
@@ -57,8 +57,8 @@ formatAt zero t n = never
 formatAt (suc d) t n = nodeFormat (getD t (4 * n + 0) 0) (getD t (4 * n + 1) 0) (getD t (4 * n + 2) 0) (formatAt d t)
 
 -- a format that has no parts, of the kinds below 8
-abbrev pub leafFormat : ℕ → ℕ → Format
-leafFormat kind a = nodeFormat kind a 0 (λ n. never)
+abbrev pub leafFormat : ℕ → ℕ → ℕ → Format
+leafFormat kind a b = nodeFormat kind a b (λ n. never)
 
 abbrev pub tagAt : List ℕ → ℕ → ℕ
 tagAt s at = pick (ltb at (length s)) (getD s at 0) 2

@@ -1,8 +1,9 @@
+// Reading by a format: numbers, and an interpreter that passes over a value of the format that a table holds.
 ghost use mathlib.Core.Path.{_≡_};
-ghost use Prim.Native.Nat.{ℕ, _+_, _*_, _<_, _≤_};
+ghost use Prim.Native.Nat.{_+_, _*_, _<_, _≤_};
 ghost use lib.ListN.{length, getD, drop};
 ghost use Rattle.formats.specs.Law.{bytesR, constR};
-ghost use Rattle.formats.specs.Number.{groupsR, numberR};
+ghost use Rattle.formats.specs.Number.{groupsR, numberR, littleR};
 ghost use Rattle.formats.specs.Outcome.{numbered, skipped, skipTo, skipMany, formatAt, leafFormat, tagAt};
 
 // What reading a number finds: the number and the place past it.
@@ -11,6 +12,7 @@ pub enum Numeral {
     Bad,
 }
 
+// What passing over a value finds: the place past it.
 pub enum Skip {
     At(usize),
     Broken,
@@ -51,10 +53,46 @@ pub fn groups(k: u32, s: &[u8], at: usize) -> Numeral
     }
 }
 
+// A number at `at`. Most have one group: that case stands in front.
 pub fn number(s: &[u8], at: usize) -> Numeral
     ensures { λ r. ⌜ r ≡ numbered (now (s .entry)) (numberR (drop at (now (s .entry)))) ⌝ }
 {
+    if s.len() <= at {
+        return Numeral::Bad;
+    }
+    let b = wide(s[at]);
+    if b < 128 {
+        return Numeral::Got(b, at + 1);
+    }
     groups(9, s, at)
+}
+
+// A number of k whole bytes at `at`, low byte first.
+fn little(k: u32, s: &[u8], at: usize) -> Numeral
+    requires { ⌜ (k ≤ 8) × (at ≤ length (now s)) ⌝ }
+    ensures { λ r. ⌜ r ≡ numbered (now (s .entry)) (littleR k (drop at (now (s .entry)))) ⌝ }
+{
+    if k == 0 {
+        return Numeral::Got(0, at);
+    }
+    if s.len() <= at {
+        return Numeral::Bad;
+    }
+    let b = wide(s[at]);
+    match little(k - 1, s, at + 1) {
+        Numeral::Got(h, next) => Numeral::Got(b + 256 * h, next),
+        Numeral::Bad => Numeral::Bad,
+    }
+}
+
+// The eight bytes of a float at `at`, as a number.
+pub fn float(s: &[u8], at: usize) -> Numeral
+    ensures { λ r. ⌜ r ≡ numbered (now (s .entry)) (littleR 8 (drop at (now (s .entry)))) ⌝ }
+{
+    if s.len() <= at {
+        return Numeral::Bad;
+    }
+    little(8, s, at)
 }
 
 // n bytes as they are
@@ -115,7 +153,7 @@ pub fn tag(s: &[u8], at: usize) -> u64
 // Past the value at `at` of a format that has no parts.
 fn leaf(kind: u64, a: u64, s: &[u8], at: usize) -> Skip
     requires { ⌜ (kind < 8) × (at ≤ length (now s)) ⌝ }
-    ensures { λ r. ⌜ r ≡ skipTo (leafFormat kind a) (now (s .entry)) at ⌝ }
+    ensures { λ r. ⌜ r ≡ skipTo (leafFormat kind a 0) (now (s .entry)) at ⌝ }
 {
     if kind == 0 {
         return Skip::Broken;
@@ -124,26 +162,27 @@ fn leaf(kind: u64, a: u64, s: &[u8], at: usize) -> Skip
         return Skip::At(at);
     }
     if kind == 6 {
-        return raw(s, at, 8);
+        let Numeral::Got(_, p) = float(s, at) else {
+            return Skip::Broken;
+        };
+        return Skip::At(p);
     }
     if kind == 7 {
         return given(s, at, a);
     }
-    match number(s, at) {
-        Numeral::Got(n, p) => {
-            if kind == 4 {
-                if a < n {
-                    return Skip::Broken;
-                }
-                return Skip::At(p);
-            }
-            if kind == 5 {
-                return raw(s, p, n);
-            }
-            Skip::At(p)
+    let Numeral::Got(n, p) = number(s, at) else {
+        return Skip::Broken;
+    };
+    if kind == 4 {
+        if a < n {
+            return Skip::Broken;
         }
-        Numeral::Bad => Skip::Broken,
+        return Skip::At(p);
     }
+    if kind == 5 {
+        return raw(s, p, n);
+    }
+    Skip::At(p)
 }
 
 // Past the value at `at` of the format that the table has at `node`, `depth` levels deep at most.
@@ -165,6 +204,9 @@ pub fn pass(t: &[u64], depth: u32, node: u64, s: &[u8], at: usize) -> Skip
         let Numeral::Got(n, p) = number(s, at) else {
             return Skip::Broken;
         };
+        if s.len() - p < n as usize {
+            return Skip::Broken;
+        }
         return pass_many(t, d, b, n, s, p);
     }
     if kind == 9 {
@@ -186,7 +228,7 @@ pub fn pass(t: &[u64], depth: u32, node: u64, s: &[u8], at: usize) -> Skip
     Skip::Broken
 }
 
-// Past n values of one format.
+// Past n values of one format, each of a byte or more.
 fn pass_many(t: &[u64], depth: u32, node: u64, n: u64, s: &[u8], at: usize) -> Skip
     requires { ⌜ at ≤ length (now s) ⌝ }
     ensures { λ r. ⌜ r ≡ skipMany (formatAt depth (now (t .entry)) node) n (now (s .entry)) at ⌝ }
@@ -197,6 +239,9 @@ fn pass_many(t: &[u64], depth: u32, node: u64, n: u64, s: &[u8], at: usize) -> S
         let Skip::At(q) = pass(t, depth, node, s, p) else {
             return Skip::Broken;
         };
+        if q <= p {
+            return Skip::Broken;
+        }
         p = q;
         left -= 1;
     }

@@ -1,64 +1,83 @@
--- The rules 5, 6 and 7, judged beside the form: one function for all, with the rule's number.
-use mathlib.Core.Path.{_≡_, refl, sym, ap, _∙_}
-use mathlib.Core.List.{List, [], _∷_, _++_}
+-- Document 01's questions 5, 6 and 7 on a value of a format: one predicate with the question's number, and the verdict, the first that fails.
+use mathlib.Core.List.{List}
 use mathlib.Core.Option.{Option, none, some}
 use mathlib.Core.Logic.{_⊎_, inl, inr}
 use mathlib.Core.Bool.{Bool, true, false, _&&_}
-use Prim.Native.Nat.{ℕ, zero, suc, _+_, _-_, _*_, _/_, _%_, _≤_, _<_}
-use native.Mathlib.Omega.{arith}
+use Prim.Native.Nat.{ℕ, zero, suc, _-_}
 use lib.IntN.{ℤ, pos, negsuc}
-use lib.ListN.{length, take, drop, getD}
-use lib.Dec.{leb, ltb, eqb}
-use Rattle.formats.specs.Law.{Reader, Law, pick, bind, manyR}
-use Rattle.formats.specs.Format.{Format, never, empty, number, signed, small, text, float, constant, list, choice, pair, Class, any, name, printable, Value, read, zig, inClass, all, both}
-use Rattle.formats.specs.Outcome.{nodeFormat, formatAt, classOf}
+use lib.ListN.{length, drop}
+use lib.Dec.{leb, eqb}
+use Rattle.formats.specs.Law.{pick, manyR}
+use Rattle.formats.specs.Class.{Class, inClass, all}
+use Rattle.formats.specs.Format.{Format, never, empty, number, signed, small, text, float, constant, list, choice, _&_, Value, read, element}
 use Rattle.judging.specs.declared.Judge.{Judge}
 use Rattle.judging.specs.declared.Judge.the-variants.{At, Broken}
 
-abbrev pub rangeOk : ℕ → ℕ → ℕ → ℕ → Bool
-rangeOk w lo hi n = pick (eqb w 6) (leb lo n && leb n hi) true
+abbrev pub atMost : ℤ → ℤ → Bool
+atMost (pos m) (pos n) = leb m n
+atMost (pos m) (negsuc n) = false
+atMost (negsuc m) (pos n) = true
+atMost (negsuc m) (negsuc n) = leb n m
 
--- at least -lo, and at most hi
-abbrev pub within : ℕ → ℕ → ℤ → Bool
-within lo hi (pos n) = leb n hi
-within lo hi (negsuc n) = ltb n lo
+-- a question that is not the one that is put is answered yes
+abbrev pub put : ℕ → ℕ → Bool → Bool
+put q mine x = pick (eqb q mine) x true
 
-abbrev pub signedOk : ℕ → ℕ → ℕ → ℤ → Bool
-signedOk w lo hi z = pick (eqb w 6) (within lo hi z) true
+abbrev pub either : {A B : Type 0} → (A → Bool) → (B → Bool) → (A ⊎ B) → Bool
+either p q (inl a) = p a
+either p q (inr b) = q b
 
-abbrev pub textOk : ℕ → ℕ → Class → List ℕ → Bool
-textOk w l c v = pick (eqb w 5) (leb (length v) l && all (inClass c) v) true
-
-abbrev pub countOk : ℕ → ℕ → ℕ → Bool
-countOk w l n = pick (eqb w 7) (leb n l) true
-
+-- whether question q has the answer yes for every part of a value: 5 for texts, 6 for ranges, 7 for counts
 abbrev pub ok : ℕ → (f : Format) → Value f → Bool
-ok w never = λ v. true
-ok w empty = λ v. true
-ok w (number lo hi) = λ v. rangeOk w lo hi v
-ok w (signed lo hi) = λ v. signedOk w lo hi v
-ok w (small k) = λ v. true
-ok w (text l c) = λ v. textOk w l c v
-ok w float = λ v. true
-ok w (constant c) = λ v. true
-ok w (list l f) = λ v. countOk w l (length v) && all (ok w f) v
-ok w (choice a b) = both (ok w a) (ok w b)
-ok w (pair a b) = λ v. ok w a (v .0) && ok w b (v .1)
+ok q never = λ v. true
+ok q empty = λ v. true
+ok q (number lo hi) = λ n. put q 6 (leb lo n && leb n hi)
+ok q (signed lo hi) = λ z. put q 6 (atMost lo z && atMost z hi)
+ok q (small k) = λ v. true
+ok q (text l c) = λ v. put q 5 (leb (length v) l && inClass c v)
+ok q float = λ v. true
+ok q (constant c) = λ v. true
+ok q (list l f) = λ v. put q 7 (leb (length v) l) && all (ok q f) v
+ok q (choice a b) = either (ok q a) (ok q b)
+ok q (a & b) = λ v. ok q a (v .0) && ok q b (v .1)
 
-abbrev pub judged : {A : Type 0} → (A → Bool) → List ℕ → Option (A × List ℕ) → Judge
+-- 0 for yes, else the question's number
+abbrev pub answer : ℕ → Bool → ℕ
+answer q x = pick x 0 q
+
+-- a text, for every limit
+abbrev pub textAnswer : ℕ → Class → List ℕ → ℕ
+textAnswer limit c v = answer 5 (leb (length v) limit && inClass c v)
+
+-- 0 where all hold, else the number of the first that does not
+abbrev pub first : Bool → Bool → Bool → ℕ
+first five six seven = pick five (pick six (answer 7 seven) 6) 5
+
+-- each question is put to the whole value before the next is put to any part
+abbrev pub verdict : (f : Format) → Value f → ℕ
+verdict f v = first (ok 5 f v) (ok 6 f v) (ok 7 f v)
+
+abbrev pub verdicts : (f : Format) → List (Value f) → ℕ
+verdicts f v = first (all (ok 5 f) v) (all (ok 6 f) v) (all (ok 7 f) v)
+
+-- of two verdicts the one that comes first, where 0 is none
+abbrev pub sooner : ℕ → ℕ → ℕ
+sooner zero y = y
+sooner (suc x) zero = suc x
+sooner (suc x) (suc y) = pick (leb (suc x) (suc y)) (suc x) (suc y)
+
+-- what the judge answers: the place past the value, and its verdict
+abbrev pub judged : {A : Type 0} → (A → ℕ) → List ℕ → Option (A × List ℕ) → Judge
 judged p s none = Broken
 judged p s (some x) = At (length s - length (x .1)) (p (x .0))
 
-abbrev pub judgeTo : ℕ → Format → List ℕ → ℕ → Judge
-judgeTo w f s at = judged (ok w f) s (read f (drop at s))
+abbrev pub judgeTo : Format → List ℕ → ℕ → Judge
+judgeTo f s at = judged (verdict f) s (read f (drop at s))
 
-abbrev pub judgeMany : ℕ → Format → ℕ → List ℕ → ℕ → Judge
-judgeMany w f n s at = judged (all (ok w f)) s (manyR (read f) n (drop at s))
+abbrev pub judgeMany : Format → ℕ → List ℕ → ℕ → Judge
+judgeMany f n s at = judged (verdicts f) s (manyR (element f) n (drop at s))
 
-abbrev pub andThen : Bool → Judge → Judge
-andThen x Broken = Broken
-andThen x (At p y) = At p (x && y)
-
--- a format that has no parts, of the kinds below 8
-abbrev pub leafFormat : ℕ → ℕ → ℕ → Format
-leafFormat kind a b = nodeFormat kind a b (λ n. never)
+-- a verdict that was reached before, and what the judge answers
+abbrev pub after : ℕ → Judge → Judge
+after x Broken = Broken
+after x (At p y) = At p (sooner x y)

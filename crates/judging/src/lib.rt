@@ -1,155 +1,150 @@
+// Document 01's questions 5, 6 and 7, put to a value of the format that a table holds, in one pass over it.
 use formats::Numeral;
 use formats::Skip;
 ghost use mathlib.Core.Path.{_≡_};
-ghost use mathlib.Core.Bool.{_&&_, true, false};
-ghost use Prim.Native.Nat.{ℕ, _+_, _-_, _*_, _<_, _≤_};
-ghost use lib.ListN.{length, getD};
-ghost use lib.Seq.{slice};
-ghost use Rattle.formats.specs.Outcome.{classOf, formatAt};
-ghost use Rattle.formats.specs.Format.{all, inClass, zag};
-ghost use Rattle.judging.specs.Judged.{rangeOk, signedOk, textOk, countOk, judgeTo, judgeMany, leafFormat};
+ghost use mathlib.Core.Bool.{_&&_};
+ghost use Prim.Native.Nat.{_<_, _≤_};
+ghost use lib.ListN.{length, drop};
+ghost use lib.Dec.{leb};
+ghost use Rattle.formats.specs.Number.{zag};
+ghost use Rattle.formats.specs.Law.{bytesR};
+ghost use Rattle.formats.specs.Outcome.{classOf, formatAt, leafFormat};
+ghost use Rattle.judging.specs.Judged.{atMost, answer, textAnswer, sooner, judged, judgeTo, judgeMany, after};
 
-// Past a value, and whether it keeps the rule; or no value.
+// Past a value, and its verdict: 0, or the first question that has the answer no; or no value.
 pub enum Judge {
-    At(usize, bool),
+    At(usize, u32),
     Broken,
 }
 
-fn and(x: bool, y: bool) -> bool
-    ensures { λ r. ⌜ r ≡ (x && y) ⌝ }
+fn sooner(x: u32, y: u32) -> u32
+    ensures { λ r. ⌜ r ≡ sooner x y ⌝ }
 {
-    if x { y } else { false }
+    if x == 0 {
+        return y;
+    }
+    if y == 0 {
+        return x;
+    }
+    if x <= y { x } else { y }
 }
 
-fn range(w: u32, lo: u64, hi: u64, n: u64) -> bool
-    ensures { λ r. ⌜ r ≡ rangeOk w lo hi n ⌝ }
+fn range(lo: u64, hi: u64, n: u64) -> u32
+    ensures { λ r. ⌜ r ≡ answer 6 (leb lo n && leb n hi) ⌝ }
 {
-    if w == 6 {
-        if lo <= n {
-            return n <= hi;
+    if n < lo {
+        return 6;
+    }
+    if hi < n {
+        return 6;
+    }
+    0
+}
+
+// The order of the signed numbers that m and n stand for: 2z, or -2z-1 below zero.
+fn at_most(m: u64, n: u64) -> bool
+    ensures { λ r. ⌜ r ≡ atMost (zag m) (zag n) ⌝ }
+{
+    if m % 2 == 0 {
+        if n % 2 == 0 {
+            return m / 2 <= n / 2;
         }
         return false;
     }
-    true
-}
-
-// the same of the number that n stands for: 2z, or -2z-1 below zero
-fn signed_range(w: u32, lo: u64, hi: u64, n: u64) -> bool
-    ensures { λ r. ⌜ r ≡ signedOk w lo hi (zag n) ⌝ }
-{
-    if w == 6 {
-        let h = n / 2;
-        if n % 2 == 0 {
-            return h <= hi;
-        }
-        return h < lo;
-    }
-    true
-}
-
-fn count(w: u32, limit: u64, n: u64) -> bool
-    ensures { λ r. ⌜ r ≡ countOk w limit n ⌝ }
-{
-    if w == 7 {
-        return n <= limit;
-    }
-    true
-}
-
-fn in_class(c: u64, b: u64) -> bool
-    ensures { λ r. ⌜ r ≡ inClass (classOf c) b ⌝ }
-{
-    if c == 0 {
+    if n % 2 == 0 {
         return true;
     }
-    if c == 1 {
-        if 97 <= b {
-            return b <= 122;
-        }
-        return false;
-    }
-    if 32 <= b {
-        return b <= 126;
-    }
-    false
+    n / 2 <= m / 2
 }
 
-// whether the bytes from `from` to `to` are of the class
-fn all_in(c: u64, s: &[u8], from: usize, to: usize) -> bool
-    requires { ⌜ (from ≤ to) × (to ≤ length (now s)) ⌝ }
-    ensures { λ r. ⌜ r ≡ all (inClass (classOf c)) (slice from to (now (s .entry))) ⌝ }
+fn signed_range(lo: u64, hi: u64, n: u64) -> u32
+    ensures { λ r. ⌜ r ≡ answer 6 (atMost (zag lo) (zag n) && atMost (zag n) (zag hi)) ⌝ }
 {
-    let mut i = from;
-    while i < to {
-        if !in_class(c, formats::wide(s[i])) {
-            return false;
+    if at_most(lo, n) {
+        if at_most(n, hi) {
+            return 0;
         }
-        i += 1;
     }
-    true
+    6
 }
 
-fn text_ok(w: u32, limit: u64, c: u64, s: &[u8], from: usize, to: usize) -> bool
-    requires { ⌜ (from ≤ to) × (to ≤ length (now s)) ⌝ }
-    ensures { λ r. ⌜ r ≡ textOk w limit (classOf c) (slice from to (now (s .entry))) ⌝ }
+fn count(limit: u64, n: u64) -> u32
+    ensures { λ r. ⌜ r ≡ answer 7 (leb n limit) ⌝ }
 {
-    if w == 5 {
-        let n = (to - from) as u64;
-        if n <= limit {
-            return all_in(c, s, from, to);
-        }
-        return false;
-    }
-    true
+    if n <= limit { 0 } else { 7 }
 }
 
-fn leaf(w: u32, kind: u64, a: u64, b: u64, s: &[u8], at: usize) -> Judge
+// A text, whatever its limit.
+pub fn text(limit: u64, c: u64, v: &[u8]) -> u32
+    ensures { λ r. ⌜ r ≡ textAnswer limit (classOf c) (now (v .entry)) ⌝ }
+{
+    if v.len() as u64 <= limit {
+        if texts::in_class(c, v) {
+            return 0;
+        }
+    }
+    5
+}
+
+// Past n bytes at `at`, judged as a text.
+fn bytes(limit: u64, c: u64, s: &[u8], at: usize, n: u64) -> Judge
+    requires { ⌜ at ≤ length (now s) ⌝ }
+    ensures { λ r. ⌜ r ≡ judged (textAnswer limit (classOf c)) (now (s .entry)) (bytesR n (drop at (now (s .entry)))) ⌝ }
+{
+    let left = s.len() - at;
+    let m = n as usize;
+    if left < m {
+        return Judge::Broken;
+    }
+    let end = at + m;
+    Judge::At(end, text(limit, c, &s[at..end]))
+}
+
+// Past the value at `at` of a format that has no parts.
+fn leaf(kind: u64, a: u64, b: u64, s: &[u8], at: usize) -> Judge
     requires { ⌜ (kind < 8) × (at ≤ length (now s)) ⌝ }
-    ensures { λ r. ⌜ r ≡ judgeTo w (leafFormat kind a b) (now (s .entry)) at ⌝ }
+    ensures { λ r. ⌜ r ≡ judgeTo (leafFormat kind a b) (now (s .entry)) at ⌝ }
 {
     if kind == 0 {
         return Judge::Broken;
     }
     if kind == 1 {
-        return Judge::At(at, true);
+        return Judge::At(at, 0);
     }
     if kind == 6 {
-        let Skip::At(q) = formats::raw(s, at, 8) else {
+        let Numeral::Got(_, q) = formats::float(s, at) else {
             return Judge::Broken;
         };
-        return Judge::At(q, true);
+        return Judge::At(q, 0);
     }
     if kind == 7 {
         let Skip::At(q) = formats::given(s, at, a) else {
             return Judge::Broken;
         };
-        return Judge::At(q, true);
+        return Judge::At(q, 0);
     }
     let Numeral::Got(n, p) = formats::number(s, at) else {
         return Judge::Broken;
     };
     if kind == 2 {
-        return Judge::At(p, range(w, a, b, n));
+        return Judge::At(p, range(a, b, n));
+    }
+    if kind == 3 {
+        return Judge::At(p, signed_range(a, b, n));
     }
     if kind == 4 {
         if a < n {
             return Judge::Broken;
         }
-        return Judge::At(p, true);
+        return Judge::At(p, 0);
     }
-    if kind == 5 {
-        let Skip::At(q) = formats::raw(s, p, n) else {
-            return Judge::Broken;
-        };
-        return Judge::At(q, text_ok(w, a, b, s, p, q));
-    }
-    Judge::At(p, signed_range(w, a, b, n))
+    bytes(a, b, s, p, n)
 }
 
-// Past the value at `at` of the format that the table has at `node`, `depth` levels deep at most, and whether it keeps the rule w.
-pub fn look(w: u32, t: &[u64], depth: u32, node: u64, s: &[u8], at: usize) -> Judge
+// Past the value at `at` of the format that the table has at `node`, `depth` levels deep at most.
+pub fn judge_value(t: &[u64], depth: u32, node: u64, s: &[u8], at: usize) -> Judge
     requires { ⌜ at ≤ length (now s) ⌝ }
-    ensures { λ r. ⌜ r ≡ judgeTo w (formatAt depth (now (t .entry)) node) (now (s .entry)) at ⌝ }
+    ensures { λ r. ⌜ r ≡ judgeTo (formatAt depth (now (t .entry)) node) (now (s .entry)) at ⌝ }
 {
     if depth == 0 {
         return Judge::Broken;
@@ -159,54 +154,57 @@ pub fn look(w: u32, t: &[u64], depth: u32, node: u64, s: &[u8], at: usize) -> Ju
     let a = formats::word(t, node, 1);
     let b = formats::word(t, node, 2);
     if kind < 8 {
-        return leaf(w, kind, a, b, s, at);
+        return leaf(kind, a, b, s, at);
     }
     if kind == 8 {
         let Numeral::Got(n, p) = formats::number(s, at) else {
             return Judge::Broken;
         };
-        let Judge::At(q, x) = look_many(w, t, d, b, n, s, p) else {
+        if s.len() - p < n as usize {
             return Judge::Broken;
-        };
-        return Judge::At(q, and(count(w, a, n), x));
+        }
+        return judge_many(t, d, b, n, s, p, count(a, n));
     }
     if kind == 9 {
         let c = formats::tag(s, at);
         if c == 0 {
-            return look(w, t, d, a, s, at + 1);
+            return judge_value(t, d, a, s, at + 1);
         }
         if c == 1 {
-            return look(w, t, d, b, s, at + 1);
+            return judge_value(t, d, b, s, at + 1);
         }
         return Judge::Broken;
     }
     if kind == 10 {
-        let Judge::At(p, x) = look(w, t, d, a, s, at) else {
+        let Judge::At(p, x) = judge_value(t, d, a, s, at) else {
             return Judge::Broken;
         };
-        let Judge::At(q, y) = look(w, t, d, b, s, p) else {
+        let Judge::At(q, y) = judge_value(t, d, b, s, p) else {
             return Judge::Broken;
         };
-        return Judge::At(q, and(x, y));
+        return Judge::At(q, sooner(x, y));
     }
     Judge::Broken
 }
 
-// Past n values of one format, and whether each keeps the rule.
-fn look_many(w: u32, t: &[u64], depth: u32, node: u64, n: u64, s: &[u8], at: usize) -> Judge
+// Past n values of one format, each of a byte or more, after a verdict.
+fn judge_many(t: &[u64], depth: u32, node: u64, n: u64, s: &[u8], at: usize, x: u32) -> Judge
     requires { ⌜ at ≤ length (now s) ⌝ }
-    ensures { λ r. ⌜ r ≡ judgeMany w (formatAt depth (now (t .entry)) node) n (now (s .entry)) at ⌝ }
+    ensures { λ r. ⌜ r ≡ after x (judgeMany (formatAt depth (now (t .entry)) node) n (now (s .entry)) at) ⌝ }
 {
     let mut p = at;
     let mut left = n;
-    let mut good = true;
+    let mut found = x;
     while 0 < left {
-        let Judge::At(q, x) = look(w, t, depth, node, s, p) else {
+        let Judge::At(q, y) = judge_value(t, depth, node, s, p) else {
             return Judge::Broken;
         };
+        if q <= p {
+            return Judge::Broken;
+        }
         p = q;
-        good = and(good, x);
+        found = sooner(found, y);
         left -= 1;
     }
-    Judge::At(p, good)
+    Judge::At(p, found)
 }

@@ -1,0 +1,4 @@
+pub mod Characters
+pub mod Searching
+pub mod Patterns
+pub mod Naming

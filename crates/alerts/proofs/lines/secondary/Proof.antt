@@ -1,0 +1,18 @@
+-- `alerts::lines::secondary` meets its contract.
+use borrow.Author.Needs.{needs}
+use Rattle.alerts.proofs.Naming.{secondary-near, secondary-not, secondary-all}
+use Rattle.alerts.proofs.lines.secondary.Statement.{statement}
+use Rattle.alerts.proofs.lines.secondary.Tie as tie
+
+pub secondary-spec : {M : Type 1} → statement M
+secondary-spec =
+    tie.close
+    (tie.spec
+    (λ c. search needs)
+    (λ c κs. search needs)
+    (λ c. search (secondary-near))
+    (λ c κs. search needs)
+    (λ c. search (secondary-not))
+    (λ c. search needs)
+    (λ c κs. search needs)
+    (λ c. search (secondary-all)))

@@ -1,0 +1,16 @@
+pub mod Lists
+pub mod Text
+pub mod Alert
+pub mod Index
+pub mod Applies
+pub mod Label
+pub mod Reduced
+pub mod ListLaws
+pub mod TextLaws
+pub mod Candidates
+pub mod Implied
+pub mod ProductCodes
+pub mod Found
+pub mod Tables
+pub mod Vectors
+pub mod LabelLaws

@@ -1,0 +1,63 @@
+-- The keys of a trip record, as `insert_trip` and `incomplete_trip_key` make them. Each stands without the feed and ':' in front. Assumes
+-- nothing: these are definitions.
+use Prim.Native.Nat.{ℕ, zero, suc, _+_, _-_, _/_, _%_}
+use mathlib.Core.Bool.{Bool, true, false, cond, _&&_, _||_, not}
+use mathlib.Core.List.{List, [], _∷_, _++_}
+use mathlib.Core.Logic.{inl, inr}
+use lib.Dec.{ltb, leb}
+use lib.ListN.{length, take, drop}
+use Rattle.formats.specs.Class.{printable, inClass}
+use Rattle.slices.specs.Lists.{lexOf}
+use Rattle.realtime.specs.Tree.{Tree}
+use Rattle.decode.specs.Trip.{Trip, Maybe, dateOf, routeOf, directionOf, timeOf}
+use Rattle.decode.specs.Map.{isSame}
+use Rattle.decode.specs.Record.{deletedIn, rawIn, tripIn}
+
+abbrev pub empty : List ℕ → Bool
+empty [] = true
+empty (b ∷ s) = false
+
+-- a number below ten to the k in decimal
+abbrev pub decimalOf : ℕ → ℕ → List ℕ
+decimalOf zero n = []
+decimalOf (suc k) n = cond (ltb n 10) ((48 + n) ∷ []) (decimalOf k (n / 10) ++ (48 + n % 10) ∷ [])
+
+abbrev pub decimal : ℕ → List ℕ
+decimal n = decimalOf 10 n
+
+abbrev pub shown : Maybe ℕ → List ℕ
+shown (inl a) = []
+shown (inr n) = decimal n
+
+-- feed:x, and nothing where x is absent
+abbrev pub prefixed : List ℕ → List ℕ → List ℕ
+prefixed feed x = cond (empty x) [] (feed ++ 58 ∷ x)
+
+-- raw@date
+abbrev pub datedKey : List ℕ → List ℕ → List ℕ
+datedKey raw date = raw ++ 64 ∷ date
+
+-- #r=feed:route&d=direction&sd=date&st=time
+unfoldable pub incompleteKey : List ℕ → Trip → List ℕ
+incompleteKey feed t =
+    35 ∷ 114 ∷ 61 ∷ (prefixed feed (routeOf t)
+    ++ 38 ∷ 100 ∷ 61 ∷ (shown (directionOf t) ++ 38 ∷ 115 ∷ 100 ∷ 61 ∷ (dateOf t ++ 38 ∷ 115 ∷ 116 ∷ 61 ∷ timeOf t)))
+
+-- what `insert_trip` puts where, by the raw trip id: nothing without a trip id and a route
+abbrev pub inserts : List ℕ → List ℕ → Trip → List (List ℕ × Trip)
+inserts feed [] t = cond (empty (routeOf t)) [] ((incompleteKey feed t, t) ∷ [])
+inserts feed (b ∷ raw) t = cond (empty (dateOf t)) ((b ∷ raw, t) ∷ []) ((datedKey (b ∷ raw) (dateOf t), t) ∷ (b ∷ raw, t) ∷ [])
+
+-- and of an entity: a deleted one is passed over
+unfoldable pub entriesIn : List ℕ → Tree → List (List ℕ × Trip)
+entriesIn feed e = cond (deletedIn e) [] (inserts feed (rawIn e) (tripIn e))
+
+-- Which keys a record may have: that of some raw id, that id with its date, or the incomplete one
+abbrev pub rawOk : List ℕ → Bool
+rawOk x = not (empty x) && (leb (length x) 64 && inClass printable x)
+
+abbrev pub datedOk : List ℕ → List ℕ → Bool
+datedOk d x = let n = length x - suc (length d) in not (empty d) && (rawOk (take n x) && isSame (lexOf x (datedKey (take n x) d)))
+
+unfoldable pub keyOk : List ℕ → List ℕ → Trip → Bool
+keyOk feed x t = rawOk x || (datedOk (dateOf t) x || isSame (lexOf x (incompleteKey feed t)))

@@ -1,0 +1,42 @@
+-- What a message leaves of a feed's trips. Assumes nothing: these are definitions.
+use Prim.Native.Nat.{ℕ, suc}
+use mathlib.Core.Bool.{Bool, true, false, cond, _||_}
+use mathlib.Core.List.{List, [], _∷_, _++_}
+use mathlib.Core.Option.{Option, none, some}
+use lib.IntN.{ℤ}
+use lib.Dec.{eqb}
+use Rattle.realtime.specs.Tree.{Tree, lastNumber, sub, rep}
+use Rattle.decode.specs.Typed.{int64}
+use Rattle.decode.specs.Trip.{Trip, Maybe}
+use Rattle.decode.specs.Map.{puts}
+use Rattle.decode.specs.Order.{texts}
+use Rattle.decode.specs.Record.{when, isAt}
+use Rattle.decode.specs.Key.{entriesIn}
+
+-- the trips of a feed, by the rest of their keys after the feed and ':'
+abbrev pub Trips : Type 0
+Trips = List (List ℕ × Trip)
+
+-- FeedMessage: header 1, entity 2. FeedHeader: incrementality 2 (DIFFERENTIAL 1), timestamp 3
+unfoldable pub differential : Tree → Bool
+differential m = eqb (isAt 2 1 (sub 1 m)) 1
+
+unfoldable pub timestampIn : Tree → Maybe ℤ
+timestampIn m = when int64 (lastNumber 3 (sub 1 m))
+
+unfoldable pub entries : List ℕ → List Tree → Trips
+entries feed [] = []
+entries feed (e ∷ l) = entriesIn feed e ++ entries feed l
+
+-- WHAT A MESSAGE LEAVES
+unfoldable pub leaves : List ℕ → Tree → Trips → Trips
+leaves feed m old = puts texts (entries feed (rep 2 m)) (cond (differential m) old [])
+
+-- `trip_update_count` after a message: the keys without '@', the feed's id included
+abbrev pub has : ℕ → List ℕ → Bool
+has c [] = false
+has c (b ∷ s) = eqb b c || has c s
+
+unfoldable pub countOf : List ℕ → Trips → ℕ
+countOf feed [] = 0
+countOf feed (e ∷ m) = cond (has 64 (feed ++ 58 ∷ e .0)) (countOf feed m) (suc (countOf feed m))

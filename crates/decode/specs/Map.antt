@@ -1,0 +1,81 @@
+-- A map is a list of keys and values, strictly ascending by key. Assumes nothing: these are definitions.
+use mathlib.Core.Path.{_≡_}
+use mathlib.Core.Bool.{Bool, true, false, _&&_}
+use mathlib.Core.List.{List, [], _∷_}
+use mathlib.Core.Option.{Option, none, some}
+use Rattle.realtime.specs.Tree.{orElse}
+use Rattle.slices.specs.declared.Order.{Order}
+use Rattle.slices.specs.declared.Order.the-variants.{Less, Same, More}
+
+-- keys with an order
+pub record Ordered (K : Type 0) : Type 0 where
+  pub compare : K → K → Order
+  pub itself : (a : K) → compare a a ≡ Same
+  pub same : (a b : K) → compare a b ≡ Same → a ≡ b
+  pub less : (a b : K) → compare a b ≡ More → compare b a ≡ Less
+  pub more : (a b : K) → compare a b ≡ Less → compare b a ≡ More
+  pub through : (a b c : K) → compare a b ≡ Less → compare b c ≡ Less → compare a c ≡ Less
+
+abbrev pub isLess : Order → Bool
+isLess Less = true
+isLess Same = false
+isLess More = false
+
+abbrev pub isSame : Order → Bool
+isSame Less = false
+isSame Same = true
+isSame More = false
+
+abbrev pub isMore : Order → Bool
+isMore Less = false
+isMore Same = false
+isMore More = true
+
+-- by an order: one of three
+abbrev pub byOrder : {A : Type 0} → Order → A → A → A → A
+byOrder Less a b c = a
+byOrder Same a b c = b
+byOrder More a b c = c
+
+abbrev pub ifNone : {A B : Type 0} → Option A → B → B → B
+ifNone none b c = b
+ifNone (some a) b c = c
+
+module _ {K : Type 0} (O : Ordered K) {A : Type 0} where
+  -- k's value, where there is one
+  abbrev pub get : K → List (K × A) → Option A
+  get k [] = none
+  get k (e ∷ m) = byOrder (O .compare k (e .0)) (get k m) (some (e .1)) (get k m)
+
+  -- k's value becomes v
+  abbrev pub put : K → A → List (K × A) → List (K × A)
+  put k v [] = (k, v) ∷ []
+  put k v (e ∷ m) = byOrder (O .compare k (e .0)) ((k, v) ∷ e ∷ m) ((k, v) ∷ m) (e ∷ put k v m)
+
+  -- one after the other, over old ones
+  abbrev pub puts : List (K × A) → List (K × A) → List (K × A)
+  puts [] m = m
+  puts (e ∷ l) m = puts l (put (e .0) (e .1) m)
+
+  -- the keys ascend from above k; they ascend
+  abbrev pub above : K → List (K × A) → Bool
+  above k [] = true
+  above k (e ∷ m) = isLess (O .compare k (e .0)) && above (e .0) m
+
+  abbrev pub ascending : List (K × A) → Bool
+  ascending [] = true
+  ascending (e ∷ m) = above (e .0) m
+
+  -- k's value becomes v where there was none
+  abbrev pub keep : K → A → List (K × A) → List (K × A)
+  keep k v m = ifNone (get k m) (put k v m) m
+
+  -- from the last to the first, where there was none
+  abbrev pub keeps : List (K × A) → List (K × A) → List (K × A)
+  keeps [] m = m
+  keeps (e ∷ l) m = keep (e .0) (e .1) (keeps l m)
+
+  -- k's value in the last of the entries that has k
+  abbrev pub lastAt : K → List (K × A) → Option A
+  lastAt k [] = none
+  lastAt k (e ∷ l) = orElse (lastAt k l) (byOrder (O .compare k (e .0)) none (some (e .1)) none)
