@@ -24,24 +24,22 @@ pub const DEFINITIONS: &[Definition] = &[
     Definition { name: "primary_context", cases: AtRandom(200, primary_context), ..OF_APPLIES },
     Definition {
         name: "candidates",
-        crates: CRATES,
+        of: "alerts",
         preamble: "use Rattle.alerts.specs.Index.{alert-candidates-for-leg}\n",
         cases: AtRandom(300, candidates),
     },
     Definition {
         name: "label",
-        crates: CRATES,
+        of: "alerts",
         preamble: "use Rattle.alerts.specs.Label.{label}\n",
         cases: AtRandom(150, label),
     },
 ];
 
-const CRATES: &[&str] = &["formats", "alerts"];
-
 /// What the definitions of one module have in common.
 const OF_APPLIES: Definition = Definition {
     name: "",
-    crates: CRATES,
+    of: "alerts",
     preamble: "use Rattle.alerts.specs.Applies.{
   is-rail-like-mode, is-road-traffic-alert, product-code-token, idfm-product-to-short, route-refs-match, fold-alert-blob,
   commercial-lines-in-text, is-secondary-line-context, is-primary-context, alert-text-compatible-with-leg,

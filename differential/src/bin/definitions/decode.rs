@@ -11,7 +11,7 @@ use differential::random::Random;
 pub const DEFINITIONS: &[Definition] = &[
     Definition {
         name: "judgement",
-        crates: &["wire", "realtime"],
+        of: "realtime",
         preamble: "\
 use Rattle.realtime.specs.Tree.{tree}
 use Rattle.realtime.specs.Schema.{feed}
@@ -22,7 +22,7 @@ use Rattle.realtime.specs.declared.Verdict.{Verdict}
     },
     Definition {
         name: "leaves",
-        crates: &["slices", "wire", "formats", "realtime", "decode"],
+        of: "decode",
         preamble: "\
 use Rattle.realtime.specs.Tree.{Tree, tree, bindO}
 use Rattle.realtime.specs.Schema.{feed}

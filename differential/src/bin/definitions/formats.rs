@@ -9,13 +9,13 @@ use differential::random::Random;
 pub const DEFINITIONS: &[Definition] = &[
     Definition {
         name: "write_signed",
-        crates: &["formats"],
+        of: "formats",
         preamble: "use Rattle.formats.specs.Format.{Format, signed, write}\n",
         cases: AtRandom(100, write_signed),
     },
     Definition {
         name: "read_number",
-        crates: &["formats"],
+        of: "formats",
         preamble: "use Rattle.formats.specs.Format.{Format, number, read}\n",
         cases: AtRandom(200, read_number),
     },

@@ -9,7 +9,7 @@ use differential::random::Random;
 
 pub const DEFINITIONS: &[Definition] = &[Definition {
     name: "enrich",
-    crates: CRATES,
+    of: "journey",
     preamble: "\
 use Rattle.formats.specs.Format.{Value}
 use Rattle.overlay.specs.State.{State}
@@ -22,11 +22,6 @@ finished s v = cardValue (enrich-with-realtime (shown s) (cardOf v))
 ",
     cases: AtRandom(500, enrich),
 }];
-
-const CRATES: &[&str] = &[
-    "slices", "wire", "realtime", "formats", "texts", "judging", "decode", "alerts", "calendar", "overlay",
-    "journey",
-];
 
 fn enrich(random: &mut Random) -> Equation {
     let (original, card) = (state(random), card(random));

@@ -1,6 +1,6 @@
 //! Writes crates of antt, one for each definition, in which each case is an equation, closed by `refl`,
 //! between the definition at closed inputs and the original's answer. The checker then computes it.
-//! usage: definitions DIRECTORY SEED CRATE.. (in the repository; the crates that there are)
+//! usage: definitions DIRECTORY SEED (in the repository's folder)
 mod alerts;
 mod decode;
 mod formats;
@@ -10,7 +10,7 @@ mod overlay;
 mod panel;
 
 use differential::random::Random;
-use opened::opened;
+use opened::{opened, stands_on};
 use std::collections::BTreeSet;
 use std::iter::repeat_with;
 use std::panic::{catch_unwind, AssertUnwindSafe};
@@ -24,8 +24,8 @@ const BATCH: usize = 50;
 pub struct Definition {
     /// What is computed; also its crate's name.
     pub name: &'static str,
-    /// What it stands on; the definitions there that are marked unfoldable are seen through.
-    pub crates: &'static [&'static str],
+    /// Its crate. What is marked unfoldable there, and in all that it stands on, is seen through.
+    pub of: &'static str,
     /// The `use` lines beside the common ones, and what the cases share.
     pub preamble: &'static str,
     pub cases: Cases,
@@ -60,7 +60,6 @@ fn main() {
     let mut words = env::args().skip(1);
     let directory = PathBuf::from(words.next().expect("a directory"));
     let seed: u64 = words.next().and_then(|word| word.parse().ok()).expect("a seed");
-    let there: Vec<String> = words.collect();
     std::panic::set_hook(Box::new(|_| ()));
     let known = [
         formats::DEFINITIONS,
@@ -70,21 +69,22 @@ fn main() {
         journey::DEFINITIONS,
         panel::DEFINITIONS,
     ];
-    let mut crates: BTreeSet<&str> = BTreeSet::new();
+    let mut needed = BTreeSet::new();
     for definition in known.into_iter().flatten() {
-        if definition.crates.iter().all(|name| there.iter().any(|there| there == name)) {
-            write_cases(&directory.join("cases").join(definition.name), definition, seed);
-            crates.extend(definition.crates);
+        let crates = stands_on(definition.of);
+        if crates.is_empty() {
+            println!("{}: left out, there is no crate {}", definition.name, definition.of);
         } else {
-            println!("{}: left out, it stands on {}", definition.name, definition.crates.join(", "));
+            write_cases(&directory.join("cases").join(definition.name), definition, &crates, seed);
+            needed.extend(crates);
         }
     }
-    let crates: String = crates.iter().map(|name| format!("{name}\n")).collect();
-    write(&directory.join("crates"), &crates);
+    let needed: String = needed.iter().map(|name| format!("{name}\n")).collect();
+    write(&directory.join("crates"), &needed);
 }
 
 /// The definition's crate: a file for each batch of cases, and what there is of them.
-fn write_cases(folder: &Path, definition: &Definition, seed: u64) {
+fn write_cases(folder: &Path, definition: &Definition, crates: &BTreeSet<String>, seed: u64) {
     let cases = match definition.cases {
         Cases::Listed(cases) => cases(),
         Cases::AtRandom(count, case) => {
@@ -92,15 +92,15 @@ fn write_cases(folder: &Path, definition: &Definition, seed: u64) {
             // Where the original panics (a window's edge inside a character) there is no answer: the next.
             let answered = repeat_with(|| catch_unwind(AssertUnwindSafe(|| case(&mut random))));
             let mut missed = 0;
-            // Look-ups mostly miss: one miss in four is a case.
+            // Look-ups mostly miss: one miss in sixteen is a case.
             let telling = |case: &Equation| {
                 missed += usize::from(case.right == "none");
-                case.right != "none" || missed % 4 == 0
+                case.right != "none" || missed % 16 == 0
             };
             answered.filter_map(Result::ok).filter(telling).take(count).collect()
         }
     };
-    let (uses, unfolding) = opened(definition.crates);
+    let (uses, unfolding) = opened(crates);
     let mut modules = String::new();
     for (batch, cases) in cases.chunks(BATCH).enumerate() {
         let mut text = format!("-- Cases of {}.\n{COMMON}{uses}{}", definition.name, definition.preamble);

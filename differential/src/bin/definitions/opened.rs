@@ -1,9 +1,22 @@
 //! The definitions of a crate that are marked `unfoldable`: a case names them on its `unfolding` line, so
 //! that they compute. They are found in the crates' own files, in the folder of the repository.
+use std::collections::BTreeSet;
 use std::fs;
 
+/// The crate and all that it stands on, by crates.txt; none where it is not listed.
+pub fn stands_on(name: &str) -> BTreeSet<String> {
+    let listed = fs::read_to_string("crates.txt").expect("crates.txt");
+    let Some((_, below)) = listed.lines().filter_map(|line| line.split_once(':')).find(|(of, _)| *of == name)
+    else {
+        return BTreeSet::new();
+    };
+    let mut crates: BTreeSet<String> = below.split_whitespace().flat_map(stands_on).collect();
+    crates.insert(name.into());
+    crates
+}
+
 /// The `use` lines and the `unfolding` line for all that these crates mark.
-pub fn opened(crates: &[&str]) -> (String, String) {
+pub fn opened(crates: &BTreeSet<String>) -> (String, String) {
     let mut uses = String::new();
     let mut names = String::new();
     for name in crates {

@@ -15,8 +15,8 @@ use differential::rt::overlay::RealtimeOverlay;
 pub const DEFINITIONS: &[Definition] = &[
     Definition {
         name: "paris_date",
-        crates: &["calendar"],
-        preamble: "use Rattle.calendar.specs.Paris.{paris-date}\n",
+        of: "calendar",
+        preamble: "use Rattle.calendar.specs.Paris.{parisDigits}\n",
         cases: Listed(paris_dates),
     },
     Definition { name: "resolve_trip", cases: AtRandom(300, resolve_trip), ..OF_LOOKUP },
@@ -24,19 +24,16 @@ pub const DEFINITIONS: &[Definition] = &[
     Definition { name: "vehicle_for_trip", cases: AtRandom(150, vehicle_for_trip), ..OF_LOOKUP },
     Definition {
         name: "state_of_buffer",
-        crates: CRATES,
+        of: "overlay",
         preamble: "use Rattle.overlay.specs.Image.{stateOf}\n",
         cases: AtRandom(200, state_of_buffer),
     },
 ];
 
-const CRATES: &[&str] =
-    &["slices", "wire", "realtime", "formats", "texts", "judging", "decode", "alerts", "overlay"];
-
 /// What the look-ups have in common.
 const OF_LOOKUP: Definition = Definition {
     name: "",
-    crates: CRATES,
+    of: "overlay",
     preamble: "\
 use Rattle.overlay.specs.Records.{shown}
 use Rattle.overlay.specs.Lookup.{resolve-trip-rt, find-stop-update, get-vehicle-for-trip}
@@ -67,7 +64,7 @@ fn paris_dates() -> Vec<Equation> {
         }
     }
     seconds.retain(|second| (FIRST..=LAST).contains(second));
-    let case = |second: &i64| equation("paris-date", &[second.to_string()], date(*second).literal());
+    let case = |second: &i64| equation("parisDigits", &[second.to_string()], date(*second).literal());
     seconds.iter().map(case).collect()
 }
 

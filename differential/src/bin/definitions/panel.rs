@@ -16,10 +16,7 @@ pub const DEFINITIONS: &[Definition] = &[
 /// What lists of calls have in common.
 const OF_PANEL: Definition = Definition {
     name: "",
-    crates: &[
-        "slices", "wire", "realtime", "formats", "texts", "judging", "decode", "alerts", "calendar", "overlay",
-        "journey", "panel",
-    ],
+    of: "panel",
     preamble: "\
 use mathlib.Core.List.{map}
 use Rattle.panel.specs.Questions.{Lengths}
