@@ -1,11 +1,11 @@
 -- Worked examples, on trees. Assumes nothing.
 use mathlib.Core.Path.{_≡_, refl}
-use mathlib.Core.List.{List, [], _∷_}
+use mathlib.Core.List.{[], _∷_}
 use mathlib.Core.Bool.{true, false}
-use mathlib.Core.Option.{Option, none, some}
+use mathlib.Core.Option.{some}
 use lib.IntN.{negsuc}
 use Rattle.realtime.specs.Tree.{Tree, end, num, txt, msg}
-use Rattle.merged.specs.Views.{HeaderView, header, deleted, trip, stopUpdate}
+use Rattle.merged.specs.Views.{header, deleted, trip, stopUpdate}
 
 -- an entity with one trip_update, 3, whose one trip, 1, has these fields
 descriptor : Tree → Tree

@@ -16,7 +16,6 @@ use merged::Timestamp;
 use merged::Trip;
 use realtime::FEED_MESSAGE;
 use realtime::Verdict;
-ghost use mathlib.Core.Path.{_≡_};
 ghost use Prim.Native.Nat.{_+_, _≤_, _<_};
 ghost use lib.ListN.{length};
 ghost use Rattle.io.specs.Counts.{Counts};
