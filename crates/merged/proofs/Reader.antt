@@ -1,9 +1,9 @@
 -- A turn of the loop of a reader that answers positions, on plain values. Assumes nothing.
-use Prim.Native.Nat.{ℕ, zero, suc, _+_, _-_, _≤_, _<_}
+use Prim.Native.Nat.{ℕ, zero, suc, _+_, _-_, _≤_}
 use mathlib.Core.Path.{_≡_, refl, sym, ap, subst, _∙_}
-use mathlib.Core.List.{List, [], _∷_}
+use mathlib.Core.List.{List}
 use mathlib.Core.Bool.{Bool, true, false}
-use mathlib.Core.Option.{Option, none, some}
+use mathlib.Core.Option.{none}
 use native.Mathlib.Omega.{arith}
 use native.Mathlib.Numerals.{sub-one}
 use lib.ListN.{length, take, drop, length-take}
@@ -12,9 +12,9 @@ use borrow.Author.Tests.{eq-eqb, ne-eqb}
 use Rattle.wire.specs.Wire.{choose}
 use Rattle.realtime.specs.Tree.{Schema, Tree, tree}
 use Rattle.realtime.specs.Steps.{Stepped}
-use Rattle.merged.specs.Fold.{inside, Takes, folded, Made, Walked, walk-starts, walk-ends, walk-breaks, walk-number, walk-text, walk-message}
+use Rattle.merged.specs.Fold.{inside, Takes, folded, Walked, walk-starts, walk-ends, walk-breaks, walk-number, walk-text, walk-message}
 use Rattle.merged.specs.Reading.{Lens, Ready, Reads, front-rest}
-use Rattle.merged.specs.Scalars.{Slot, fieldOf, at, said, Lying, Lasts, nothing, scalars, kept, kept-at, blank, own, path, takesAlong, along, along-last, Lasting}
+use Rattle.merged.specs.Scalars.{Slot, fieldOf, at, said, Lying, Lasts, nothing, scalars, kept, kept-at, blank, own, path, takesAlong, along-last, Lasting}
 use Rattle.merged.specs.declared.Scalar.{Scalar}
 use Rattle.merged.specs.declared.Scalars.{Scalars}
 use Rattle.realtime.specs.declared.Step.{Step}

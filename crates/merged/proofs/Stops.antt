@@ -1,6 +1,6 @@
 -- A turn of the loop over a stop_time_update: three readings in one walk. Assumes nothing.
 use Prim.Native.Nat.{ℕ, _+_, _≤_}
-use mathlib.Core.Path.{_≡_, refl, sym, subst, _∙_}
+use mathlib.Core.Path.{_≡_, refl, sym, subst}
 use mathlib.Core.List.{List, [], _∷_}
 use native.Mathlib.Omega.{arith}
 use lib.ListN.{length, take}
@@ -8,12 +8,12 @@ use Rattle.realtime.specs.Tree.{Schema}
 use Rattle.realtime.specs.Schema.{stopTimeUpdate}
 use Rattle.realtime.specs.Steps.{Stepped}
 use Rattle.realtime.specs.declared.Step.{Step}
-use Rattle.merged.specs.Reading.{Ready, Reads}
+use Rattle.merged.specs.Reading.{Reads}
 use Rattle.merged.specs.Scalars.{scalars, kept, blank, own, takesAlong, StopReads, StopLasting}
 use Rattle.merged.specs.declared.Scalar.{Scalar}
 use Rattle.merged.specs.declared.Scalars.{Scalars}
 use Rattle.merged.specs.declared.StopScalars.{StopScalars}
-use Rattle.merged.proofs.Reader.{Reading, begins, says, stops, on-number, on-text, past-message, ready, taken, passed, keep-number, keep-text, blank-start, lasting}
+use Rattle.merged.proofs.Reader.{Reading, begins, says, stops, on-number, on-text, past-message, taken, passed, keep-number, keep-text, blank-start, lasting}
 
 pub record Stops (σ : Schema) (s : List ℕ) (from at : ℕ) (o a d : Scalars) : Type 0 where
   pub stop : Reading scalars own σ stopTimeUpdate s from blank at o

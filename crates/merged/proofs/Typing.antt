@@ -1,20 +1,19 @@
 -- What the typed answers of the scalars say is what the trees say. Assumes nothing.
-use Prim.Native.Nat.{ℕ, _+_, _≤_}
+use Prim.Native.Nat.{ℕ}
 use mathlib.Core.Path.{_≡_, refl, sym, ap, subst, _∙_}
 use mathlib.Core.List.{List, [], _∷_}
 use mathlib.Core.Bool.{Bool}
-use mathlib.Core.Option.{Option, none, some}
 use native.Mathlib.Omega.{arith}
 use lib.Dec.{eqb}
-use lib.ListN.{length, take, drop}
+use lib.ListN.{length}
 use lib.Seq.{take-length}
 use Rattle.wire.specs.Wire.{mapO}
 use Rattle.realtime.specs.Tree.{Schema, Tree, last, sub, tree}
 use Rattle.realtime.specs.Schema.{feedMessage, feedEntity}
-use Rattle.merged.specs.Scalars.{Slot, one, two, three, four, five, six, said, Lying, Lasting, StopLasting}
+use Rattle.merged.specs.Scalars.{one, two, three, four, five, six, said, Lying, Lasting, StopLasting}
 use Rattle.merged.specs.Typed.{uint32, int32, int64, bool, enum, number, text, given, orZero}
 use Rattle.merged.specs.Narrow.{toSpan, toTimestamp, toDirection, toDelay, toTime, toSequence, toBool, isValue, toHeader, toTrip, toEvent, toStop}
-use Rattle.merged.specs.Views.{header, deleted, trip, EventView, event, stopUpdate, spanIn, viewTimestamp, viewDirection, viewDelay, viewTime, viewHeader, viewEvent, SpanInside, HeaderRead, DeletedRead, TripRead, StopRead}
+use Rattle.merged.specs.Views.{event, spanIn, viewTimestamp, viewDirection, viewDelay, viewTime, viewEvent, SpanInside, HeaderRead, DeletedRead, TripRead, StopRead}
 use Rattle.merged.specs.declared.Scalar.{Scalar}
 use Rattle.merged.specs.declared.Scalars.{Scalars}
 use Rattle.merged.specs.declared.StopScalars.{StopScalars}

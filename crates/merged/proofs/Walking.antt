@@ -1,8 +1,8 @@
 -- A turn of the loop of `next_item`, on plain values. Assumes nothing.
-use Prim.Native.Nat.{ℕ, zero, suc, _+_, _-_, _≤_, _<_}
-use mathlib.Core.Path.{_≡_, refl, sym, ap, subst, _∙_}
-use mathlib.Core.List.{List, [], _∷_}
-use mathlib.Core.Bool.{Bool, true, false}
+use Prim.Native.Nat.{ℕ, _+_, _-_, _≤_}
+use mathlib.Core.Path.{_≡_, refl, sym, ap, _∙_}
+use mathlib.Core.List.{List, _∷_}
+use mathlib.Core.Bool.{true, false}
 use mathlib.Core.Option.{Option, none, some}
 use native.Mathlib.Omega.{arith}
 use lib.Dec.{eqb}
@@ -14,7 +14,7 @@ use Rattle.realtime.specs.Tree.{aMessage, Schema, Tree, end, num, txt, msg, bin
 use Rattle.realtime.specs.Steps.{Stepped}
 use Rattle.realtime.specs.Schema.{rows, feed, feedMessage, feedEntity, tripUpdate}
 use Rattle.merged.specs.Reading.{front-part, front-rest}
-use Rattle.merged.specs.Walks.{leftOf, left, Sound, ahead, Walks, typeOf, Yield, Yields, NextEntity, NextUpdate}
+use Rattle.merged.specs.Walks.{leftOf, left, Sound, ahead, Walks, typeOf, Yields, NextEntity, NextUpdate}
 use Rattle.merged.specs.declared.Walk.{Walk}
 use Rattle.merged.specs.declared.Item.{Item}
 use Rattle.realtime.specs.declared.Step.{Step}

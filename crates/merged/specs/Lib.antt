@@ -6,3 +6,4 @@ pub mod Narrow
 pub mod Views
 pub mod Walks
 pub mod Starts
+pub mod Examples

@@ -1,13 +1,12 @@
 -- A 64-bit number by its type in Protocol Buffers, and a text: what the last scalar of a field says. Assumes nothing: these are definitions.
-use Prim.Native.Nat.{ℕ, _%_, _^_}
+use Prim.Native.Nat.{ℕ, _%_}
 use mathlib.Core.List.{List, []}
-use mathlib.Core.Bool.{Bool, true, false, not}
+use mathlib.Core.Bool.{Bool, false, not}
 use mathlib.Core.Option.{Option, none, some}
 use lib.Dec.{eqb}
 use lib.IntN.{ℤ}
 use mir.Syntax.{w32, w64}
 use mir.Val.{toZ}
-use Rattle.wire.specs.Wire.{mapO}
 use Rattle.realtime.specs.Tree.{Leaf, count, words}
 
 -- the narrower ones keep the low bits

@@ -1,6 +1,6 @@
 -- `merged::bool_of` meets its contract, by the kind of the scalar. Assumes nothing.
 use borrow.Author.Needs.{needs}
-use mathlib.Core.Path.{_≡_, sym, ap, _∙_}
+use mathlib.Core.Path.{sym, ap}
 use Rattle.merged.specs.Narrow.{toBool}
 use Rattle.merged.proofs.bool_of.Statement.{statement}
 use Rattle.merged.proofs.bool_of.Tie as tie

@@ -1,6 +1,6 @@
 -- `merged::direction_of` meets its contract, by the kind of the scalar. Assumes nothing.
 use borrow.Author.Needs.{needs}
-use mathlib.Core.Path.{_≡_, sym, ap, _∙_}
+use mathlib.Core.Path.{sym, ap, _∙_}
 use Rattle.merged.specs.Narrow.{toDirection}
 use Rattle.merged.specs.declared.Direction.{Direction}
 use Rattle.merged.proofs.direction_of.Statement.{statement}

@@ -1,6 +1,6 @@
 -- `merged::int64` meets its contract: below the half as it stands, above it by the bits that are lacking. Assumes nothing.
 use borrow.Author.Needs.{needs}
-use Prim.Native.Nat.{_-_, _%_}
+use Prim.Native.Nat.{_-_}
 use native.Mathlib.Omega.{arith}
 use mir.Syntax.{w64}
 use Rattle.merged.proofs.Signed.{upper-fits, upper-is}

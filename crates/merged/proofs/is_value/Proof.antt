@@ -1,6 +1,6 @@
 -- `merged::is_value` meets its contract, by the kind of the scalar. Assumes nothing.
 use borrow.Author.Needs.{needs}
-use mathlib.Core.Path.{_≡_, sym, ap, _∙_}
+use mathlib.Core.Path.{sym, ap}
 use Rattle.merged.specs.Narrow.{isValue}
 use Rattle.merged.proofs.is_value.Statement.{statement}
 use Rattle.merged.proofs.is_value.Tie as tie

@@ -1,7 +1,7 @@
 -- `merged::next_item` meets its contract. The invariant: what was left at the start is left here. The measure: the bytes behind both places, outside and inside.
 -- Assumes nothing.
 use borrow.Author.Needs.{needs}
-use Prim.Native.Nat.{ℕ, _+_, _-_}
+use Prim.Native.Nat.{_+_, _-_}
 use native.Mathlib.Omega.{arith}
 use denote.Ref.{now}
 use lib.ListN.{length}

@@ -1,7 +1,7 @@
 -- `merged::over_message` meets its contract. The invariant: what is left, over what is known now, makes what the whole makes. Assumes nothing.
 use borrow.Author.Needs.{needs}
-use Prim.Native.Nat.{ℕ, _-_}
-use mathlib.Core.Path.{_≡_, refl}
+use Prim.Native.Nat.{_-_}
+use mathlib.Core.Path.{refl}
 use native.Mathlib.Omega.{arith}
 use lib.ListN.{length}
 use Rattle.realtime.specs.Schema.{feed}

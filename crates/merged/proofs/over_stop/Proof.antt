@@ -1,6 +1,6 @@
 -- `merged::over_stop` meets its contract. The invariant: of each of the three, what is left, over what is known now, makes what the whole makes. Assumes nothing.
 use borrow.Author.Needs.{needs}
-use Prim.Native.Nat.{ℕ, _-_}
+use Prim.Native.Nat.{_-_}
 use native.Mathlib.Omega.{arith}
 use denote.Ref.{now}
 use lib.ListN.{length}

@@ -1,6 +1,6 @@
 -- `merged::sequence_of` meets its contract, by the kind of the scalar. Assumes nothing.
 use borrow.Author.Needs.{needs}
-use mathlib.Core.Path.{_≡_, sym, ap, _∙_}
+use mathlib.Core.Path.{sym, ap, _∙_}
 use Rattle.merged.specs.Narrow.{toSequence}
 use Rattle.merged.proofs.sequence_of.Statement.{statement}
 use Rattle.merged.proofs.sequence_of.Tie as tie

@@ -1,6 +1,6 @@
 -- `merged::time_of` meets its contract, by the kind of the scalar. Assumes nothing.
 use borrow.Author.Needs.{needs}
-use mathlib.Core.Path.{_≡_, sym, ap, _∙_}
+use mathlib.Core.Path.{sym, ap, _∙_}
 use native.Mathlib.Omega.{arith}
 use mir.Syntax.{w64}
 use Rattle.merged.proofs.Signed.{held}
