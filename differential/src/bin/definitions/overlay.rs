@@ -117,6 +117,9 @@ fn find_stop_update(random: &mut Random) -> Equation {
     let sequence: Option<u64> = random.maybe(|_| leg.from_sequence);
     let wanted = sequence.map(|sequence| sequence.try_into().unwrap());
     let answer = trip.find_stop_update(wanted, Some(&leg.from.string()));
+    if answer.is_none() && !random.once_in(SELDOM) {
+        return find_stop_update(random);
+    }
     let right = option(&answer.map(|update| layout::stop_update(feed, update)));
     let inputs = [feed.literal(), sequence.literal(), leg.from.literal(), layout::trip(feed, trip).literal()];
     equation("find-stop-update", &inputs, right)
