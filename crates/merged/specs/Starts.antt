@@ -1,6 +1,6 @@
 -- Where a walk starts: at all the messages at field a merged, or at one message alone. Assumes nothing.
 use Prim.Native.Nat.{ℕ, _+_, _≤_}
-use mathlib.Core.Path.{_≡_, refl, sym, ap, _∙_}
+use mathlib.Core.Path.{_≡_, refl, sym, ap, subst, _∙_}
 use mathlib.Core.List.{List, []}
 use mathlib.Core.Option.{Option, none, some}
 use native.Mathlib.Omega.{arith}
@@ -11,7 +11,7 @@ use Rattle.realtime.specs.Tree.{Schema, Tree, end, num, txt, msg, tree, join, s
 use Rattle.realtime.specs.Laws.{tree-nil}
 use Rattle.merged.specs.Reading.{front-rest}
 use Rattle.realtime.specs.Schema.{feed, feedMessage, feedEntity, tripUpdate}
-use Rattle.merged.specs.Walks.{leftOf, left, leftEntities, leftUpdates, Entering}
+use Rattle.merged.specs.Walks.{leftOf, left, leftEntities, leftUpdates, Sound}
 use Rattle.merged.specs.declared.Walk.{Walk}
 
 -- from `from` on, where no message is open
@@ -45,13 +45,16 @@ left-plain σ t a u k s =
     go none = refl
     go (some m) = ap (λ j. some (rep k j)) (join-end m)
 
--- THE ENTITIES of a message, and THE STOP TIME UPDATES of an entity
-pub entities-start : (s : List ℕ) → Entering s (atPlain s) (mapO (rep 2) (tree feed feedMessage s)) (leftEntities s (atPlain s))
-entities-start s = record { all = left-plain feed feedMessage 0 feedMessage 2 s; sound = record { ahead = omega arith; behind = omega arith; inside = omega arith } }
+pub plain-sound : {s : List ℕ} {w : Walk} → w ≡ atPlain s → Sound s (w .outer) (w .end) (w .at)
+plain-sound {s} e = subst (λ w. Sound s (w .outer) (w .end) (w .at)) (sym e) (record { ahead = omega arith; behind = omega arith; inside = omega arith })
 
-pub updates-start : (s : List ℕ) (i l : ℕ) → i + l ≤ length s
-    → Entering (take (i + l) s) (atMerged i) (mapO (λ e. rep 2 (sub 3 e)) (tree feed feedEntity (take l (drop i s)))) (leftUpdates (take (i + l) s) (atMerged i))
-updates-start s i l h = record {
-  all = left-merged feed feedEntity 3 tripUpdate 2 s i l h;
-  sound = record { ahead = omega arith; behind = omega arith; inside = omega (arith, length-take (i + l) s) };
-}
+pub merged-sound : {s : List ℕ} {w : Walk} (i : ℕ) → i ≤ length s → w ≡ atMerged i → Sound s (w .outer) (w .end) (w .at)
+merged-sound {s} i h e = subst (λ w. Sound s (w .outer) (w .end) (w .at)) (sym e) (record { ahead = omega arith; behind = omega arith; inside = omega arith })
+
+-- THE ENTITIES of a message, and THE STOP TIME UPDATES of an entity: where a walk starts, all are left
+pub entities-left : (s : List ℕ) {w : Walk} → w ≡ atPlain s → leftEntities s w ≡ mapO (rep 2) (tree feed feedMessage s)
+entities-left s e = ap (leftEntities s) e ∙ left-plain feed feedMessage 0 feedMessage 2 s
+
+pub updates-left : (s : List ℕ) (i l : ℕ) {w : Walk} → i + l ≤ length s → w ≡ atMerged i
+    → leftUpdates (take (i + l) s) w ≡ mapO (λ e. rep 2 (sub 3 e)) (tree feed feedEntity (take l (drop i s)))
+updates-left s i l h e = ap (leftUpdates (take (i + l) s)) e ∙ left-merged feed feedEntity 3 tripUpdate 2 s i l h

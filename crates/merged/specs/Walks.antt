@@ -1,6 +1,6 @@
--- The messages at a repeated field k, of all the messages at field a merged, one after the other. Assumes nothing: these are definitions.
+-- The messages at a repeated field k, of all the messages at field a merged, one after the other. Assumes nothing.
 use Prim.Native.Nat.{ℕ, _+_, _-_, _≤_, _<_}
-use mathlib.Core.Path.{_≡_}
+use mathlib.Core.Path.{_≡_, subst}
 use mathlib.Core.List.{List, [], _∷_}
 use mathlib.Core.Option.{Option, none, some}
 use lib.ListN.{length, take, drop}
@@ -61,6 +61,14 @@ pub record Yields (σ : Schema) (t a u k v : ℕ) (s : List ℕ) (w : Walk) (r :
   pub of : (l : List Tree) → left σ t a u k s w ≡ some l → Yield σ t a u k v s l r
   pub lying : Lying s w r
 
+-- what is known of an item, and that none is left, by what the answer was taken apart to
+module _ {σ : Schema} {t a u k v : ℕ} {s : List ℕ} {w : Walk} {r : Item} (Y : Yields σ t a u k v s w r) where
+  pub found : {i n : ℕ} {w′ : Walk} → r ≡ Item.At i n w′ → Found s w i n w′
+  found e = subst (Lying s w) e (Y .lying)
+
+  pub yielded : {q : Item} → r ≡ q → (l : List Tree) → left σ t a u k s w ≡ some l → Yield σ t a u k v s l q
+  yielded e l h = subst (Yield σ t a u k v s l) e (Y .of l h)
+
 -- of a message: its entities, 2. Of an entity, whose last byte is the last of s: the stop_time_updates, 2, of all its trip_updates, 3
 abbrev pub leftEntities : List ℕ → Walk → Option (List Tree)
 leftEntities s w = left feed feedMessage 0 feedMessage 2 s w
@@ -73,8 +81,3 @@ leftUpdates s w = left feed feedEntity 3 tripUpdate 2 s w
 
 abbrev pub NextUpdate : List ℕ → Walk → Item → Type 0
 NextUpdate s w r = Yields feed feedEntity 3 tripUpdate 2 stopTimeUpdate s w r
-
--- where a walk w starts, all are left
-pub record Entering (s : List ℕ) (w : Walk) (every here : Option (List Tree)) : Type 0 where
-  pub all : here ≡ every
-  pub sound : Sound s (w .outer) (w .end) (w .at)

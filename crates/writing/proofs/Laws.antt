@@ -1,11 +1,11 @@
 -- What each writer adds, by the tests that the code makes.
 use mathlib.Core.Path.{_≡_, refl, sym, ap, _∙_}
-use mathlib.Core.List.{List, [], _∷_, _++_}
+use mathlib.Core.List.{List, [], _∷_}
 use mathlib.Core.Logic.{_⊎_, inl, inr}
 use Prim.Native.Nat.{ℕ, zero, suc, _+_, _-_, _/_, _%_, _≤_, _<_}
 use native.Mathlib.Omega.{arith}
 use lib.ListN.{length, take, drop, set}
-use lib.Seq.{sets, length-sets, sets-eq, slice, length-slice, take-all}
+use lib.Seq.{length-sets, sets-eq, slice, length-slice}
 use borrow.Author.Tests.{lt-ltb, le-ltb}
 use Rattle.slices.specs.Lists.{pasted}
 use Rattle.formats.specs.Number.{groupsW, numberW, top, littleW}
@@ -45,17 +45,17 @@ no-room {l} {r} {at} x e s = record {
 }
 
 -- room for n bytes
-pub room : {l m : List ℕ} {r : Put} {at : ℕ} (n : ℕ) (x : List ℕ) → length x ≡ n → r ≡ At at → at + n ≤ length l → m ≡ sets l at x → Adds l r m (At (at + n)) x
+pub room : {l m : List ℕ} {r : Put} {at : ℕ} (n : ℕ) (x : List ℕ) → length x ≡ n → r ≡ At at → at + n ≤ length l → m ≡ pasted l at x → Adds l r m (At (at + n)) x
 room {l} {m} {r} {at} n x c e s k = record {
-  size = ap length k ∙ length-sets l at x;
+  size = ap length (k ∙ sym (sets-eq x l at (omega arith))) ∙ length-sets l at x;
   full = λ i. at-full (sym e ∙ i);
   next = λ p i h. let z : at ≡ p = at-at (sym e ∙ i) in ap At (omega arith);
-  holds = λ p i h. let z : at ≡ p = at-at (sym e ∙ i) in k ∙ ap (λ p. sets l p x) z;
+  holds = λ p i h. let z : at ≡ p = at-at (sym e ∙ i) in k ∙ ap (λ p. pasted l p x) z;
   over = λ p i h o. let z : at ≡ p = at-at (sym e ∙ i) in absurd (omega arith);
 }
 
 pub byte-in : {l : List ℕ} {r : Put} {at b : ℕ} → r ≡ At at → at < length l → Adds l r (set l at b) (At (at + 1)) (b ∷ [])
-byte-in {b} e s = room 1 (b ∷ []) refl e (omega arith) refl
+byte-in {l} {at} {b} e s = room 1 (b ∷ []) refl e (omega arith) (sets-eq (b ∷ []) l at (omega arith))
 
 pub byte-out : {l : List ℕ} {r : Put} {at b : ℕ} → r ≡ At at → length l ≤ at → Adds l r l Full (b ∷ [])
 byte-out {b} e s = no-room (b ∷ []) e (omega arith)
@@ -96,12 +96,6 @@ little-more zero n z f g e = absurd (z refl)
 little-more (suc k) n z f g e = let i : suc k - 1 ≡ k = omega arith in same (then f g) (rw (i, e) refl)
 
 -- a stretch
-copied : (l s : List ℕ) (at a e : ℕ) → a ≤ e → e ≤ length s → at + (e - a) ≤ length l → pasted l at (take (e - a) (drop a s)) (e - a) ≡ sets l at (slice a e s)
-copied l s at a e h k o =
-    let c : length (slice a e s) ≡ e - a = length-slice a e s k in
-    rw (slice-is a e s h k, take-all (e - a) (slice a e s) (omega arith))
-    (sym (sets-eq (slice a e s) l at (omega arith) ∙ ap (λ n. take at l ++ slice a e s ++ drop (at + n) l) c))
-
 module _ {l : List ℕ} {r : Put} {at : ℕ} (s : List ℕ) (a e : ℕ) (i : r ≡ At at) (h : a ≤ e) (k : e ≤ length s) where
   pub stretch-past : length l < at → Adds l r l Full (slice a e s)
   stretch-past o = no-room (slice a e s) i (omega arith)
@@ -109,8 +103,8 @@ module _ {l : List ℕ} {r : Put} {at : ℕ} (s : List ℕ) (a e : ℕ) (i : r �
   pub stretch-out : at ≤ length l → length l - at < e - a → Adds l r l Full (slice a e s)
   stretch-out p o = no-room (slice a e s) i (omega (arith, length-slice a e s k))
 
-  pub stretch-in : {m : List ℕ} → at ≤ length l → e - a ≤ length l - at → m ≡ pasted l at (take (e - a) (drop a s)) (e - a) → Adds l r m (At (at + (e - a))) (slice a e s)
-  stretch-in p o j = room (e - a) (slice a e s) (length-slice a e s k) i (omega arith) (j ∙ copied l s at a e h k (omega arith))
+  pub stretch-in : {m : List ℕ} → at ≤ length l → e - a ≤ length l - at → m ≡ pasted l at (take (e - a) (drop a s)) → Adds l r m (At (at + (e - a))) (slice a e s)
+  stretch-in p o j = room (e - a) (slice a e s) (length-slice a e s k) i (omega arith) (j ∙ ap (pasted l at) (slice-is a e s h k))
 
 -- a text
 pub text-is : {l m o : List ℕ} {r k j : Put} (s : List ℕ) (a e : ℕ) → a ≤ e → e ≤ length s → Adds l r m k (numberW (e - a)) → (a ≤ e → e ≤ length s → Adds m k o j (slice a e s))

@@ -1,5 +1,5 @@
 -- An output that is written from its start on, and may be too short: what a writer adds to it, and what it leaves as it was.
-use mathlib.Core.Path.{_≡_, refl, ap, _∙_}
+use mathlib.Core.Path.{_≡_, refl, sym, ap, _∙_}
 use mathlib.Core.List.{List, [], _∷_, _++_}
 use mathlib.Core.Bool.{Bool, true, false}
 use Prim.Native.Nat.{ℕ, zero, suc, _+_, _-_, _≤_, _<_}
@@ -9,6 +9,7 @@ use lib.Dec.{leb}
 use borrow.Author.Tests.{leb-true, leb-false}
 use lib.ListN.{length, drop, set, replicate, length-append, length-replicate}
 use lib.Seq.{sets, sets-eq}
+use Rattle.slices.specs.Lists.{pasted}
 use Rattle.writing.specs.declared.Put.{Put}
 use Rattle.writing.specs.declared.Put.the-variants.{At, Full}
 
@@ -18,7 +19,7 @@ pub record Adds (l : List ℕ) (r : Put) (m : List ℕ) (q : Put) (x : List ℕ)
   pub size : length m ≡ length l
   pub full : r ≡ Full → q ≡ Full
   pub next : (p : ℕ) → r ≡ At p → p + length x ≤ length l → q ≡ At (p + length x)
-  pub holds : (p : ℕ) → r ≡ At p → p + length x ≤ length l → m ≡ sets l p x
+  pub holds : (p : ℕ) → r ≡ At p → p + length x ≤ length l → m ≡ pasted l p x
   pub over : (p : ℕ) → r ≡ At p → p ≤ length l → length l < p + length x → q ≡ Full
 
 -- one run of stores after another
@@ -32,7 +33,7 @@ none {l} {r} = record {
   size = refl;
   full = λ e. e;
   next = λ p e h. rw add-zero e;
-  holds = λ p e h. refl;
+  holds = λ p e h. sets-eq [] l p h;
   over = λ p e h k. absurd (omega arith);
 }
 
@@ -50,10 +51,12 @@ module _ {l m n : List ℕ} {r q o : Put} {x y : List ℕ} (f : Adds l r m q x) 
         let j : p + length x + length y ≡ p + length (x ++ y) = omega (arith, both) in
         g .next (p + length x) (past k .0) (omega (arith, both, f .size)) ∙ ap At j
 
-    then-holds : p + length (x ++ y) ≤ length l → n ≡ sets l p (x ++ y)
+    then-holds : p + length (x ++ y) ≤ length l → n ≡ pasted l p (x ++ y)
     then-holds h =
         let k : p + length x ≤ length l = omega (arith, both) in
-        g .holds (p + length x) (past k .0) (omega (arith, both, f .size)) ∙ ap (λ l. sets l (p + length x) y) (f .holds p e k) ∙ sets-append x y l p
+        let i : p + length x + length y ≤ length m = omega (arith, both, f .size) in
+        let j : m ≡ sets l p x = f .holds p e k ∙ sym (sets-eq x l p k) in
+        g .holds (p + length x) (past k .0) i ∙ sym (sets-eq y m (p + length x) i) ∙ ap (λ m. sets m (p + length x) y) j ∙ sets-append x y l p ∙ sets-eq (x ++ y) l p h
 
     then-over : p ≤ length l → length l < p + length (x ++ y) → o ≡ Full
     then-over h k = go (leb (p + length x) (length l)) refl
@@ -81,7 +84,7 @@ pub wrote : {l m : List ℕ} {q : Put} {x : List ℕ} → Adds l (At 0) m q x �
 wrote {l} {m} {q} {x} a = record {
   size = a .size;
   next = λ h. let z : length x ≡ 0 + length x = omega arith in rw z (a .next 0 refl (omega arith));
-  holds = λ h. let z : 0 + length x ≡ length x = omega arith in a .holds 0 refl (omega arith) ∙ sets-eq x l 0 (omega arith) ∙ ap (λ k. x ++ drop k l) z;
+  holds = λ h. let z : 0 + length x ≡ length x = omega arith in a .holds 0 refl (omega arith) ∙ ap (λ k. x ++ drop k l) z;
   full = λ h. a .over 0 refl (omega arith) (omega arith);
 }
 

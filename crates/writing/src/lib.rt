@@ -122,7 +122,7 @@ pub fn stretch(out: &mut [u8], w: Put, s: &[u8], a: usize, e: usize) -> Put
     if out.len() - at < n {
         return Put::Full;
     }
-    slices::copy(out, at, &s[a..e], n);
+    slices::copy(out, at, &s[a..e]);
     Put::At(at + n)
 }
 
