@@ -26,6 +26,14 @@ fn main() {
     fs::write(out.join("original.rs"), modules.join("\n")).unwrap();
     let schema = found(&here.join("schema/transit_realtime.rs"));
     fs::copy(schema, out.join("transit_realtime.rs")).unwrap();
+
+    if env::var("CARGO_FEATURE_PORT").is_ok() {
+        let library = found(&directory("PORT_LIBRARY"));
+        let name = library.file_stem().unwrap().to_str().unwrap().strip_prefix("lib").unwrap();
+        println!("cargo:rerun-if-env-changed=PORT_LIBRARY");
+        println!("cargo:rustc-link-search=native={}", library.parent().unwrap().display());
+        println!("cargo:rustc-link-lib=static={name}");
+    }
 }
 
 fn mount(name: &str, file: &Path) -> String {

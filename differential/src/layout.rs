@@ -183,14 +183,18 @@ fn valid_trip(trip: &Trip) -> bool {
 /// A key that `insert_trip` gives for the record and some raw id.
 fn valid_key(feed: &Text, entry: &TripEntry) -> bool {
     let raw = |rest: &[u8]| !rest.is_empty() && printable(rest, 64);
-    let Trip { date, route, direction, time, .. } = &entry.trip;
     let rest = entry.rest.0.as_slice();
-    let dated = [b"@", date.0.as_slice()].concat();
+    let date = &entry.trip.date.0;
+    let dated = [b"@", date.as_slice()].concat();
+    raw(rest)
+        || (!date.is_empty() && rest.strip_suffix(dated.as_slice()).is_some_and(raw))
+        || entry.rest == incomplete_rest(feed, &entry.trip)
+}
+
+/// What `incomplete_trip_key` gives after the feed and ':'.
+pub fn incomplete_rest(feed: &Text, trip: &Trip) -> Text {
+    let Trip { date, route, direction, time, .. } = trip;
     let route = if route.0.is_empty() { vec![] } else { [&feed.0, b":".as_slice(), &route.0].concat() };
     let direction = direction.map_or(String::new(), |direction| direction.to_string());
-    let incomplete =
-        [b"#r=", route.as_slice(), b"&d=", direction.as_bytes(), b"&sd=", &date.0, b"&st=", &time.0].concat();
-    raw(rest)
-        || (!date.0.is_empty() && rest.strip_suffix(dated.as_slice()).is_some_and(raw))
-        || rest == incomplete
+    Text([b"#r=", &*route, b"&d=", direction.as_bytes(), b"&sd=", &date.0, b"&st=", &time.0].concat())
 }

@@ -85,6 +85,14 @@ pub fn tree(message: Type, bytes: &[u8], deepest_group: usize) -> Option<Vec<Fie
     Some(fields)
 }
 
+/// Where the field that begins at a place ends, whatever it holds; none where it is broken.
+pub fn field_end(bytes: &[u8], at: usize) -> Option<usize> {
+    let mut left = bytes.get(at..)?;
+    let (number, wire_type) = key(&mut left)?;
+    skip(&mut left, number, wire_type, DEEPEST_GROUP)?;
+    Some(bytes.len() - left.len())
+}
+
 fn varint(left: &mut &[u8]) -> Option<u64> {
     let length = left.iter().take(10).position(|byte| *byte < 128)? + 1;
     let (bytes, rest) = left.split_at(length);

@@ -91,13 +91,7 @@ fn write_cases(folder: &Path, definition: &Definition, crates: &BTreeSet<String>
             let mut random = Random::new(seed);
             // Where the original panics (a window's edge inside a character) there is no answer: the next.
             let answered = repeat_with(|| catch_unwind(AssertUnwindSafe(|| case(&mut random))));
-            let mut missed = 0;
-            // Look-ups mostly miss: one miss in sixteen is a case.
-            let telling = |case: &Equation| {
-                missed += usize::from(case.right == "none");
-                case.right != "none" || missed % 16 == 0
-            };
-            answered.filter_map(Result::ok).filter(telling).take(count).collect()
+            answered.filter_map(Result::ok).take(count).collect()
         }
     };
     let (uses, unfolding) = opened(crates);

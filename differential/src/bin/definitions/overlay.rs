@@ -41,6 +41,9 @@ use Rattle.overlay.specs.Lookup.{resolve-trip-rt, find-stop-update, get-vehicle
     cases: Listed(Vec::new),
 };
 
+/// Look-ups mostly miss: one miss in so many is a case.
+const SELDOM: usize = 32;
+
 /// The date in Paris, as the original writes it.
 pub fn date(seconds: i64) -> String {
     service_date_in_tz(instant(seconds), "Europe/Paris").format("%Y%m%d").to_string()
@@ -90,6 +93,9 @@ fn resolve_trip(random: &mut Random) -> Equation {
     let departure = instant(leg.scheduled_departure);
     let direction = leg.direction.map(|direction| direction.try_into().unwrap());
     let record = original.0.resolve_trip_rt(None, &trip, &route, direction, departure);
+    if record.is_none() && !random.once_in(SELDOM) {
+        return resolve_trip(random);
+    }
     // The feed that it was found in stands beside the record.
     let by = if original.0.get_trip(&trip).is_some() { &trip } else { &route };
     let feed = RealtimeOverlay::feed_of(by).expect("a feed");
@@ -111,6 +117,9 @@ fn find_stop_update(random: &mut Random) -> Equation {
     let sequence: Option<u64> = random.maybe(|_| leg.from_sequence);
     let wanted = sequence.map(|sequence| sequence.try_into().unwrap());
     let answer = trip.find_stop_update(wanted, Some(&leg.from.string()));
+    if answer.is_none() && !random.once_in(SELDOM) {
+        return find_stop_update(random);
+    }
     let right = option(&answer.map(|update| layout::stop_update(feed, update)));
     let inputs = [feed.literal(), sequence.literal(), leg.from.literal(), layout::trip(feed, trip).literal()];
     equation("find-stop-update", &inputs, right)
@@ -120,6 +129,9 @@ fn vehicle_for_trip(random: &mut Random) -> Equation {
     let original = state(random);
     let trip = transit(random).trip;
     let answer = original.0.get_vehicle_for_trip(&trip.string());
+    if answer.is_none() && !random.once_in(SELDOM) {
+        return vehicle_for_trip(random);
+    }
     let right = answer.map_or("none".into(), |place| {
         let Vehicle { trip, latitude, longitude, updated, .. } = layout::vehicle("", place);
         let place = [trip.literal(), latitude.literal(), longitude.literal(), updated.literal()];
