@@ -2,7 +2,6 @@ pub mod Trip
 pub mod Map
 pub mod Order
 pub mod Laws
-pub mod Typed
 pub mod Record
 pub mod Key
 pub mod Written
