@@ -1,17 +1,20 @@
 -- What the writers of a key add. Assumes nothing.
-use Prim.Native.Nat.{ℕ, zero, suc, _+_, _-_, _/_, _%_, _≤_, _<_}
+use Prim.Native.Nat.{ℕ, zero, suc, _+_, _-_, _*_, _/_, _%_, _≤_, _<_}
 use mathlib.Core.Path.{_≡_, refl, sym, ap, _∙_}
 use mathlib.Core.Bool.{Bool, true, false, cond}
 use mathlib.Core.List.{List, [], _∷_, _++_, append-assoc}
 use native.Mathlib.Numerals.{add-one}
 use native.Mathlib.Omega.{arith}
 use lib.Dec.{ltb}
-use lib.ListN.{length, take, drop, set, length-append}
-use lib.Seq.{take-length, set-split}
+use lib.ListN.{length, take, drop, set, length-append, length-drop}
+use lib.Seq.{take-length, set-split, length-take-le}
 use borrow.Author.Tests.{lt-ltb, le-ltb, ltb-true}
 use Rattle.slices.specs.Lists.{pasted}
-use Rattle.decode.specs.Key.{decimalOf}
-use Rattle.decode.specs.Written.{Added, none, then}
+use Rattle.merged.specs.Views.{spanIn, SpanInside}
+use Rattle.merged.specs.declared.Span.{Span}
+use Rattle.decode.specs.Key.{empty, decimalOf, prefixed}
+use Rattle.decode.specs.Written.{Added, none, then, written-there, written-before, written-whole}
+use Rattle.decode.specs.Entity.{Keyed}
 
 pub added-text : (out : List ℕ) (at : ℕ) (x out′ : List ℕ) → at + length x ≤ length out → out′ ≡ pasted out at x (length x) → Added out at x out′ (at + length x)
 added-text out at x out′ h e =
@@ -44,3 +47,39 @@ module _ {out : List ℕ} {at : ℕ} (k n : ℕ) where
       let m : decimalOf k n ≡ decimalOf (k - 1) (n / 10) ++ d ∷ [] =
       ap (λ j. decimalOf j n) s ∙ rw (le-ltb n 10 h, e) in
       rw m (then a b)
+
+pub span-length : (s x : List ℕ) (i l : ℕ) → x ≡ take l (drop i s) → i + l ≤ length s → length x ≡ l
+span-length s x i l e h = ap length e ∙ length-take-le l (drop i s) (omega (arith, length-drop i s))
+
+-- what was added at slot n is its key
+pub keyed : {keys keys′ k : List ℕ} {n p : ℕ} → Added keys (137 * n) k keys′ p → length k ≤ 137 → Keyed keys n k keys′ (p - 137 * n)
+keyed {keys} {keys′} {k} {n} {p} a h =
+    let l : p - 137 * n ≡ length k = omega (arith, a .next) in
+    record {
+      key = ap (λ i. take i (drop (137 * n) keys′)) l ∙ written-there a;
+      before = written-before a;
+      long = written-whole a;
+      short = omega arith;
+    }
+
+-- two texts with a byte between them
+pub joined : {o₀ o₁ o₂ o₃ x y : List ℕ} {at p q r : ℕ} (b : ℕ) → Added o₀ at x o₁ p → Added o₁ p (b ∷ []) o₂ q → Added o₂ q y o₃ r → Added o₀ at (x ++ b ∷ y) o₃ r
+joined {o₀} {o₁} {o₂} {o₃} {x} {y} {at} {p} {q} {r} b f g h = rw (append-assoc x (b ∷ []) y) at (then (then f g) h)
+
+pub nonempty : (x : List ℕ) → (length x ≡ 0 → ⊥) → empty x ≡ false
+nonempty [] h = absurd (h refl)
+nonempty (b ∷ x) h = refl
+
+pub nothing : (x : List ℕ) → length x ≡ 0 → empty x ≡ true
+nothing [] h = refl
+nothing (b ∷ x) h = absurd (omega arith)
+
+-- a route, with the feed in front
+pub routed : {o₀ o₁ o₂ o₃ : List ℕ} {at p q r : ℕ} (feed s x : List ℕ) (route : Span) → SpanInside (length s) route → (route .len ≡ 0 → ⊥) → x ≡ spanIn s route
+    → Added o₀ at feed o₁ p → Added o₁ p (58 ∷ []) o₂ q → Added o₂ q x o₃ r → Added o₀ at (prefixed feed (spanIn s route)) o₃ r
+routed feed s x route i z e f g h =
+    let l : length (spanIn s route) ≡ route .len = span-length s (spanIn s route) (route .start) (route .len) refl i in
+    rw (nonempty (spanIn s route) (λ q. z (sym l ∙ q)), ← e) (joined 58 f g h)
+
+pub unrouted : (out feed s : List ℕ) (at : ℕ) (route : Span) → route .len ≡ 0 → at ≤ length out → Added out at (prefixed feed (spanIn s route)) out at
+unrouted out feed s at route z h = rw z (none out at h)

@@ -9,9 +9,10 @@ use lib.ListN.{length, take, drop}
 use Rattle.formats.specs.Class.{printable, inClass}
 use Rattle.slices.specs.Lists.{lexOf}
 use Rattle.realtime.specs.Tree.{Tree}
+use Rattle.merged.specs.Views.{trip, deleted}
 use Rattle.decode.specs.Trip.{Trip, Maybe, dateOf, routeOf, directionOf, timeOf}
 use Rattle.decode.specs.Map.{isSame}
-use Rattle.decode.specs.Record.{deletedIn, rawIn, tripIn}
+use Rattle.decode.specs.Record.{tripIn}
 
 abbrev pub empty : List ℕ → Bool
 empty [] = true
@@ -50,7 +51,7 @@ inserts feed (b ∷ raw) t = cond (empty (dateOf t)) ((b ∷ raw, t) ∷ []) ((d
 
 -- and of an entity: a deleted one is passed over
 unfoldable pub entriesIn : List ℕ → Tree → List (List ℕ × Trip)
-entriesIn feed e = cond (deletedIn e) [] (inserts feed (rawIn e) (tripIn e))
+entriesIn feed e = cond (deleted e) [] (inserts feed (trip e .id) (tripIn e))
 
 -- Which keys a record may have: that of some raw id, that id with its date, or the incomplete one
 abbrev pub rawOk : List ℕ → Bool

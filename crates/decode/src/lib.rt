@@ -1,4 +1,7 @@
 // What a message leaves of a feed's trips: each entity's record and keys, and the index of the keys that are left.
+use merged::Direction;
+use merged::Span;
+use merged::Trip;
 use slices::Order;
 ghost use mathlib.Core.Path.{_≡_};
 ghost use Prim.Native.Nat.{_+_, _*_, _≤_, _<_};
@@ -9,8 +12,11 @@ ghost use lib.ListN.{length, getD, set};
 ghost use Rattle.slices.specs.Lists.{lexOf};
 ghost use Rattle.decode.specs.Map.{isSame, isMore};
 ghost use Rattle.decode.specs.Order.{texts, numbers};
-ghost use Rattle.decode.specs.Key.{decimalOf};
+ghost use Rattle.decode.specs.Key.{decimalOf, datedKey, prefixed, shown};
+ghost use Rattle.merged.specs.Views.{spanIn, SpanInside, viewDirection};
+ghost use Rattle.decode.specs.Record.{maybe};
 ghost use Rattle.decode.specs.Written.{Added};
+ghost use Rattle.decode.specs.Entity.{Room, Short, Keyed};
 ghost use Rattle.decode.specs.Index.{keyAt, keyIn, index, Sound, Settled, rankOf, inserted, remarked, three, laid, Lined, Noted};
 
 fn wide(x: u32) -> usize
@@ -239,4 +245,51 @@ fn note(updates: &mut [u32], n: usize, sequence: u32, from: u32, till: u32) -> u
     }
     line(updates, n, r, sequence, from, till);
     n + 1
+}
+
+// The raw trip id of an entity in slot n: how long the key is.
+fn write_base(keys: &mut [u8], n: usize, s: &[u8], t: Trip) -> usize
+    requires { ⌜ Room (now keys) n ⌝ }
+    requires { ⌜ Short (now s) t ⌝ }
+    ensures { λ r. ⌜ Keyed (now (keys .entry)) n (spanIn (now (s .entry)) (t .id)) (now (keys .exit)) r ⌝ }
+{
+    let id = t.id;
+    add(keys, 137 * n, wire::part(s, id.start, id.len)) - 137 * n
+}
+
+// And with its date.
+fn write_dated(keys: &mut [u8], n: usize, s: &[u8], t: Trip) -> usize
+    requires { ⌜ Room (now keys) n ⌝ }
+    requires { ⌜ Short (now s) t ⌝ }
+    ensures { λ r. ⌜ Keyed (now (keys .entry)) n (datedKey (spanIn (now (s .entry)) (t .id)) (spanIn (now (s .entry)) (t .date))) (now (keys .exit)) r ⌝ }
+{
+    let id = t.id;
+    let date = t.date;
+    let p = add(keys, 137 * n, wire::part(s, id.start, id.len));
+    let q = add_byte(keys, p, 64);
+    add(keys, q, wire::part(s, date.start, date.len)) - 137 * n
+}
+
+// feed:route, and nothing where there is no route.
+fn write_route(keys: &mut [u8], at: usize, feed: &[u8], s: &[u8], route: Span) -> usize
+    requires { ⌜ (at + 81 ≤ length (now keys)) × (length (now feed) ≤ 16) ⌝ }
+    requires { ⌜ SpanInside (length (now s)) route × (route .len ≤ 64) ⌝ }
+    ensures { λ r. ⌜ Added (now (keys .entry)) at (prefixed (now (feed .entry)) (spanIn (now (s .entry)) route)) (now (keys .exit)) r ⌝ }
+{
+    if route.len == 0 {
+        return at;
+    }
+    let p = add(keys, at, feed);
+    let q = add_byte(keys, p, 58);
+    add(keys, q, wire::part(s, route.start, route.len))
+}
+
+fn write_direction(keys: &mut [u8], at: usize, direction: Direction) -> usize
+    requires { ⌜ at + 10 ≤ length (now keys) ⌝ }
+    ensures { λ r. ⌜ Added (now (keys .entry)) at (shown (maybe (viewDirection direction))) (now (keys .exit)) r ⌝ }
+{
+    match direction {
+        Direction::Given(d) => decimal(10, keys, at, d),
+        Direction::Absent => at,
+    }
 }
