@@ -1,0 +1,158 @@
+// The texts of an alert as they are searched: in capitals, and with accents folded, written one after the other into a lent buffer.
+ghost use mathlib.Core.Path.{_≡_};
+ghost use Prim.Native.Nat.{_+_, _<_, _≤_};
+ghost use lib.ListN.{length, getD};
+ghost use Rattle.alerts.specs.Text.{upperByte};
+ghost use Rattle.alerts.specs.Applies.{unaccented};
+ghost use Rattle.alerts.specs.Blob.{letterOf, Stepped, Written};
+
+// What a place of a text gives: a byte, and the next place.
+pub struct Step {
+    pub byte: u8,
+    pub next: usize,
+}
+
+// The plain capital of C3 and the byte 128 + k, or 0.
+const PLAIN: [u8; 64] = [
+    65,
+    65,
+    65,
+    0,
+    65,
+    0,
+    0,
+    67,
+    69,
+    69,
+    69,
+    69,
+    0,
+    73,
+    73,
+    73,
+    0,
+    0,
+    0,
+    79,
+    79,
+    0,
+    79,
+    0,
+    0,
+    85,
+    85,
+    85,
+    85,
+    0,
+    0,
+    0,
+    65,
+    65,
+    65,
+    0,
+    65,
+    0,
+    0,
+    67,
+    69,
+    69,
+    69,
+    69,
+    0,
+    73,
+    73,
+    73,
+    0,
+    0,
+    0,
+    79,
+    79,
+    0,
+    79,
+    0,
+    0,
+    85,
+    85,
+    85,
+    85,
+    0,
+    0,
+    0,
+];
+
+fn upper(b: u8) -> u8
+    ensures { λ r. ⌜ r ≡ upperByte b ⌝ }
+{
+    if b < 97 {
+        return b;
+    }
+    if 122 < b {
+        return b;
+    }
+    b - 32
+}
+
+// The plain capital of an accented letter's two bytes, or 0.
+fn plain(a: u8, b: u8) -> u8
+    ensures { λ r. ⌜ r ≡ letterOf (unaccented a b) ⌝ }
+{
+    if a != 0xc3 {
+        return 0;
+    }
+    if b < 128 {
+        return 0;
+    }
+    if 191 < b {
+        return 0;
+    }
+    let k = (b - 128) as usize;
+    PLAIN[k]
+}
+
+// A place that gives one byte, in capitals.
+fn single(s: &[u8], i: usize) -> Step
+    requires { ⌜ i < length (now s) ⌝ }
+    ensures { λ r. ⌜ (r .byte ≡ upperByte (getD (now (s .entry)) i 0)) × (r .next ≡ i + 1) ⌝ }
+{
+    Step {
+        byte: upper(s[i]),
+        next: i + 1,
+    }
+}
+
+fn read(s: &[u8], i: usize, fold: bool) -> Step
+    requires { ⌜ i < length (now s) ⌝ }
+    ensures { λ r. ⌜ Stepped (now (s .entry)) i fold (r .byte) (r .next) ⌝ }
+{
+    if !fold {
+        return single(s, i);
+    }
+    let j = i + 1;
+    if s.len() <= j {
+        return single(s, i);
+    }
+    let letter = plain(s[i], s[j]);
+    if letter == 0 {
+        return single(s, i);
+    }
+    Step {
+        byte: letter,
+        next: j + 1,
+    }
+}
+
+// The text s, in capitals or folded too, goes into out from `at` on.
+pub fn write(out: &mut [u8], at: usize, s: &[u8], fold: bool) -> usize
+    requires { ⌜ at + length (now s) ≤ length (now out) ⌝ }
+    ensures { λ r. ⌜ Written (now (out .entry)) (now (out .exit)) at (now (s .entry)) fold r ⌝ }
+{
+    let mut i = 0;
+    let mut k = at;
+    while i < s.len() {
+        let t = read(s, i, fold);
+        out[k] = t.byte;
+        k += 1;
+        i = t.next;
+    }
+    k
+}
