@@ -7,15 +7,16 @@ use Prim.Native.Nat.{ℕ, zero, suc, _+_, _-_, _≤_, _<_}
 use native.Mathlib.Numerals.{add-one}
 use native.Mathlib.Omega.{arith}
 use lib.Dec.{leb, eqb}
-use lib.ListN.{length, getD, take, drop, set, length-set, drop-of-length-le}
-use lib.Seq.{drop-cons, take-suc-set}
+use lib.ListN.{length, getD, take, drop, set, length-set, length-append, length-map, drop-of-length-le, take-append-drop}
+use lib.Seq.{drop-cons, take-suc-set, take-append-seam, take-at, drop-at, length-take-le}
 use borrow.Author.Tests.{le-leb, lt-leb, leb-true, eq-eqb, ne-eqb, eqb-true, eqb-false, not-true, not-false}
 use Rattle.formats.specs.Law.{pick, none-some}
 use Rattle.formats.specs.Class.{all}
 use Rattle.alerts.specs.Lists.{member}
-use Rattle.alerts.specs.Text.{upperByte, upper}
-use Rattle.alerts.specs.Applies.{accents, plain, unaccented, folded, fold-alert-blob}
-use Rattle.alerts.specs.Blob.{letterOf, searched, Stepped, Written}
+use Rattle.alerts.specs.Text.{text, upperByte, upper}
+use Rattle.alerts.specs.Applies.{accents, plain, unaccented, folded, fold-alert-blob, commercial-lines-in-text}
+use Rattle.alerts.specs.Reduced.{textOk}
+use Rattle.alerts.specs.Blob.{letterOf, searched, Stepped, Written, Blob, okAt, fitsOf, Fitted}
 use Rattle.alerts.specs.ListLaws.{and-true}
 
 -- capitals
@@ -177,3 +178,77 @@ written old out at s fold i k w h = record {
     nothing : (fold : Bool) → searched fold [] ≡ []
     nothing true = refl
     nothing false = refl
+
+-- the space between header and description is part of no letter
+fold-joined : (h d : List ℕ) → fold-alert-blob (h ++ (32 ∷ d)) ≡ fold-alert-blob h ++ (32 ∷ fold-alert-blob d)
+fold-joined [] [] = refl
+fold-joined [] (x ∷ d) = refl
+fold-joined (a ∷ []) d = ap (λ o. folded o a (fold-alert-blob d) (fold-alert-blob (32 ∷ d))) (no-letter (eqb a 0xc3)) ∙ ap (λ l. upperByte a ∷ l) (fold-joined [] d)
+  where
+    no-letter : (t : Bool) → pick t (plain (32 + 64) accents) none ≡ none
+    no-letter true = refl
+    no-letter false = refl
+fold-joined (a ∷ b ∷ h) d = go (unaccented a b) (fold-joined h d) (fold-joined (b ∷ h) d)
+  where
+    go : (o : Option ℕ) → fold-alert-blob (h ++ (32 ∷ d)) ≡ fold-alert-blob h ++ (32 ∷ fold-alert-blob d)
+        → fold-alert-blob ((b ∷ h) ++ (32 ∷ d)) ≡ fold-alert-blob (b ∷ h) ++ (32 ∷ fold-alert-blob d)
+        → folded o a (fold-alert-blob (h ++ (32 ∷ d))) (fold-alert-blob ((b ∷ h) ++ (32 ∷ d)))
+        ≡ folded o a (fold-alert-blob h) (fold-alert-blob (b ∷ h)) ++ (32 ∷ fold-alert-blob d)
+    go none past next = ap (λ l. upperByte a ∷ l) next
+    go (some l) past next = ap (λ t. l ∷ t) past
+
+-- header, space, description
+pub blob-made : (old one two h d : List ℕ) (a r : ℕ) → length h + length d < length old → Written old one 0 h true a → Written (set one a 32) two (a + 1) d true r → Blob old two h d r
+blob-made old one two h d a r room w v = record {
+  kept = v .kept ∙ length-set one a 32 ∙ w .kept;
+  within = omega (arith, v .within, w .within);
+  made = v .made ∙ ap (λ l. l ++ fold-alert-blob d) spaced ∙ append-assoc (fold-alert-blob h) (32 ∷ []) (fold-alert-blob d)
+      ∙ sym (ap fold-alert-blob (append-assoc h (32 ∷ []) d) ∙ fold-joined h d);
+}
+  where
+    spaced : take (a + 1) (set one a 32) ≡ fold-alert-blob h ++ (32 ∷ [])
+    spaced = rw (add-one a) (take-suc-set one a 32 (omega (arith, w .within, w .kept)) ∙ ap (λ l. l ++ (32 ∷ [])) (w .made))
+
+-- the short name stands behind the folded texts
+pub fits-empty : (old h d short : List ℕ) → length short ≡ 0 → Fitted old old h d short true
+fits-empty old h d [] e = record { kept = refl; answer = refl }
+fits-empty old h d (b ∷ short) e = absurd (omega (arith, e))
+
+module _ (old one two h d short : List ℕ) (n e : ℕ) (room : length h + length d + length short < length old) (b : Blob old one h d n) (w : Written one two n short false e) where
+  name-ends : e ≡ n + length short
+  name-ends =
+      omega (
+        arith,
+        ap length (w .made),
+        length-append (take n one) (upper short),
+        length-take-le n one (omega (arith, b .within, b .kept)),
+        length-take-le e two (omega (arith, w .within, w .kept, b .within, b .kept)),
+        length-map short upperByte,
+      )
+
+  pub name-room : (n ≤ e) × (e ≤ length two)
+  name-room = (omega (arith, name-ends), omega (arith, w .within, w .kept, b .within, b .kept))
+
+  name-stands : take (e - n) (drop n two) ≡ upper short
+  name-stands =
+      let whole : two ≡ (take n one ++ upper short) ++ drop e two = sym (take-append-drop e two) ∙ ap (λ l. l ++ drop e two) (w .made) in
+      let front : length (take n one) ≡ n = length-take-le n one (omega (arith, b .within, b .kept)) in
+      let size : e - n ≡ length (upper short) = omega (arith, name-ends, length-map short upperByte) in
+      let rest : drop n two ≡ upper short ++ drop e two =
+      ap (drop n) (whole ∙ append-assoc (take n one) (upper short) (drop e two)) ∙ drop-at (take n one) (upper short ++ drop e two) n front in
+      rw (rest, size) (take-append-seam (upper short) (drop e two))
+
+  blob-stands : take n two ≡ fold-alert-blob (h ++ text " " ++ d)
+  blob-stands =
+      let whole : two ≡ take n one ++ (upper short ++ drop e two) =
+      sym (take-append-drop e two) ∙ ap (λ l. l ++ drop e two) (w .made) ∙ append-assoc (take n one) (upper short) (drop e two) in
+      let front : length (take n one) ≡ n = length-take-le n one (omega (arith, b .within, b .kept)) in
+      ap (take n) whole ∙ take-at (take n one) (upper short ++ drop e two) n front ∙ b .made
+
+  pub fits-text : (t : Bool) → (length short ≡ 0 → ⊥) → t ≡ okAt two n e → Fitted old two h d short t
+  fits-text t z x = record { kept = w .kept ∙ b .kept; answer = x ∙ rw (name-stands, blob-stands) (go short z) }
+    where
+      go : (s : List ℕ) → (length s ≡ 0 → ⊥)
+          → textOk (fold-alert-blob (h ++ text " " ++ d)) (commercial-lines-in-text (fold-alert-blob (h ++ text " " ++ d))) (upper s) ≡ fitsOf h d s
+      go [] z = absurd (z refl)
+      go (b ∷ s) z = refl

@@ -4,7 +4,7 @@ ghost use Prim.Native.Nat.{_+_, _<_, _≤_};
 ghost use lib.ListN.{length, getD};
 ghost use Rattle.alerts.specs.Text.{upperByte};
 ghost use Rattle.alerts.specs.Applies.{unaccented};
-ghost use Rattle.alerts.specs.Blob.{letterOf, Stepped, Written};
+ghost use Rattle.alerts.specs.Blob.{letterOf, Stepped, Written, Blob, okAt, Fitted};
 
 // What a place of a text gives: a byte, and the next place.
 pub struct Step {
@@ -155,4 +155,36 @@ pub fn write(out: &mut [u8], at: usize, s: &[u8], fold: bool) -> usize
         i = t.next;
     }
     k
+}
+
+// Header and description with a space between, folded, at the front of out.
+pub fn write_folded(out: &mut [u8], header: &[u8], description: &[u8]) -> usize
+    requires { ⌜ length (now header) + length (now description) < length (now out) ⌝ }
+    ensures { λ r. ⌜ Blob (now (out .entry)) (now (out .exit)) (now (header .entry)) (now (description .entry)) r ⌝ }
+{
+    let a = write(out, 0, header, true);
+    out[a] = b' ';
+    let b = a + 1;
+    write(out, b, description, true)
+}
+
+// Whether the folded text that ends at n may be about the line whose name ends at e.
+fn text_ok_at(s: &[u8], n: usize, e: usize) -> bool
+    requires { ⌜ (n ≤ e) × (e ≤ length (now s)) ⌝ }
+    ensures { λ r. ⌜ r ≡ okAt (now (s .entry)) n e ⌝ }
+{
+    crate::lines::text_ok(&s[..n], &s[n..e])
+}
+
+// Whether the alert's texts may be about the line; out is what they are folded into.
+pub fn text_fits(out: &mut [u8], header: &[u8], description: &[u8], short: &[u8]) -> bool
+    requires { ⌜ length (now header) + length (now description) + length (now short) < length (now out) ⌝ }
+    ensures { λ r. ⌜ Fitted (now (out .entry)) (now (out .exit)) (now (header .entry)) (now (description .entry)) (now (short .entry)) r ⌝ }
+{
+    if short.len() == 0 {
+        return true;
+    }
+    let n = write_folded(out, header, description);
+    let e = write(out, n, short, false);
+    text_ok_at(out, n, e)
 }
