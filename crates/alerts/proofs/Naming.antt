@@ -5,8 +5,8 @@ use mathlib.Core.Option.{Option, none, some}
 use mathlib.Core.Bool.{Bool, true, false, not, _&&_, _||_}
 use Prim.Native.Nat.{ℕ, zero, suc, _+_, _-_, _≤_, _<_}
 use native.Mathlib.Omega.{arith}
-use lib.Dec.{leb, eqb}
-use lib.ListN.{length, getD, take, drop, length-append, length-take, length-drop}
+use lib.Dec.{leb}
+use lib.ListN.{length, getD, take, drop, length-append, length-drop}
 use lib.Seq.{take-all, length-take-le}
 use borrow.Author.Tests.{le-leb, lt-leb, leb-true, leb-false, eq-eqb, ne-eqb, not-true, not-false}
 use Rattle.formats.specs.Law.{pick, none-some}
@@ -20,7 +20,7 @@ use Rattle.alerts.specs.declared.lines.Ask.the-variants.{Named, Own, Oth
 use Rattle.alerts.specs.declared.text.Found.{Found}
 use Rattle.alerts.specs.declared.text.Found.the-variants.{At, Nowhere}
 use Rattle.alerts.specs.Found.{foundOf}
-use Rattle.alerts.specs.ListLaws.{false-true, or-false, or-comm, and-true, both-ways, any-append, any-same, same-refl, same-true}
+use Rattle.alerts.specs.ListLaws.{or-false, both-ways, any-append, any-same, same-refl, same-true}
 use Rattle.alerts.specs.TextLaws.{begins-true}
 use Rattle.alerts.proofs.Patterns.{filled-none, filled-here, tail-whole}
 
