@@ -15,8 +15,8 @@ use Rattle.formats.specs.Class.{all}
 use Rattle.alerts.specs.Lists.{member}
 use Rattle.alerts.specs.Text.{text, upperByte, upper}
 use Rattle.alerts.specs.Applies.{accents, plain, unaccented, folded, fold-alert-blob, commercial-lines-in-text}
-use Rattle.alerts.specs.Reduced.{textOk}
-use Rattle.alerts.specs.Blob.{letterOf, searched, Stepped, Written, Blob, okAt, fitsOf, Fitted}
+use Rattle.alerts.specs.Reduced.{textOk, road}
+use Rattle.alerts.specs.Blob.{letterOf, searched, Stepped, Written, Answered, okAt, fitsOf, roadOf}
 use Rattle.alerts.specs.ListLaws.{and-true}
 
 -- capitals
@@ -197,58 +197,106 @@ fold-joined (a ∷ b ∷ h) d = go (unaccented a b) (fold-joined h d) (fold-join
     go none past next = ap (λ l. upperByte a ∷ l) next
     go (some l) past next = ap (λ t. l ∷ t) past
 
--- header, space, description
-pub blob-made : (old one two h d : List ℕ) (a r : ℕ) → length h + length d < length old → Written old one 0 h true a → Written (set one a 32) two (a + 1) d true r → Blob old two h d r
-blob-made old one two h d a r room w v = record {
-  kept = v .kept ∙ length-set one a 32 ∙ w .kept;
-  within = omega (arith, v .within, w .within);
-  made = v .made ∙ ap (λ l. l ++ fold-alert-blob d) spaced ∙ append-assoc (fold-alert-blob h) (32 ∷ []) (fold-alert-blob d)
-      ∙ sym (ap fold-alert-blob (append-assoc h (32 ∷ []) d) ∙ fold-joined h d);
+-- a text behind a space, and two texts with a space between
+searched-joined : (f : Bool) (h d : List ℕ) → searched f (h ++ (32 ∷ d)) ≡ searched f h ++ (32 ∷ searched f d)
+searched-joined true h d = fold-joined h d
+searched-joined false h d = upper-joined h
+  where
+    upper-joined : (h : List ℕ) → upper (h ++ (32 ∷ d)) ≡ upper h ++ (32 ∷ upper d)
+    upper-joined [] = refl
+    upper-joined (a ∷ h) = ap (λ l. upperByte a ∷ l) (upper-joined h)
+
+none-searched : (f : Bool) → searched f [] ≡ []
+none-searched true = refl
+none-searched false = refl
+
+searched-space : (f : Bool) (d : List ℕ) → searched f (32 ∷ d) ≡ 32 ∷ searched f d
+searched-space f d = searched-joined f [] d ∙ ap (λ l. l ++ (32 ∷ searched f d)) (none-searched f)
+
+pub next-written : (old new s : List ℕ) (f : Bool) (at r : ℕ) → at + length s < length old → Written (set old at 32) new (at + 1) s f r → Written old new at (32 ∷ s) f r
+next-written old new s f at r room w = record {
+  kept = w .kept ∙ length-set old at 32;
+  within = omega (arith, w .within);
+  made = w .made ∙ ap (λ l. l ++ searched f s) spaced ∙ append-assoc (take at old) (32 ∷ []) (searched f s)
+      ∙ ap (λ l. take at old ++ l) (sym (searched-space f s));
 }
   where
-    spaced : take (a + 1) (set one a 32) ≡ fold-alert-blob h ++ (32 ∷ [])
-    spaced = rw (add-one a) (take-suc-set one a 32 (omega (arith, w .within, w .kept)) ∙ ap (λ l. l ++ (32 ∷ [])) (w .made))
+    spaced : take (at + 1) (set old at 32) ≡ take at old ++ (32 ∷ [])
+    spaced = rw (add-one at) (take-suc-set old at 32 (omega arith))
 
--- the short name stands behind the folded texts
-pub fits-empty : (old h d short : List ℕ) → length short ≡ 0 → Fitted old old h d short true
-fits-empty old h d [] e = record { kept = refl; answer = refl }
+pub both-written : (old one two s t : List ℕ) (f : Bool) (at a r : ℕ) → Written old one at s f a → Written one two a (32 ∷ t) f r → Written old two at (s ++ (32 ∷ t)) f r
+both-written old one two s t f at a r w v = record {
+  kept = v .kept ∙ w .kept;
+  within = omega (arith, w .within, v .within, length-append s (32 ∷ t));
+  made = v .made ∙ ap (λ l. l ++ searched f (32 ∷ t)) (w .made) ∙ append-assoc (take at old) (searched f s) (searched f (32 ∷ t))
+      ∙ ap (λ l. take at old ++ l) (ap (λ l. searched f s ++ l) (searched-space f t) ∙ sym (searched-joined f s t));
+}
+
+pub fits-empty : (old h d short : List ℕ) → length short ≡ 0 → Answered old old true (fitsOf h d short)
+fits-empty old h d [] e = record { kept = refl; is = refl }
 fits-empty old h d (b ∷ short) e = absurd (omega (arith, e))
 
-module _ (old one two h d short : List ℕ) (n e : ℕ) (room : length h + length d + length short < length old) (b : Blob old one h d n) (w : Written one two n short false e) where
+-- the short name stands behind the folded texts
+pub short-room : (old one h d short : List ℕ) (n : ℕ) → length h + length d + length short < length old → Written old one 0 (h ++ (32 ∷ d)) true n → n + length short ≤ length one
+short-room old one h d short n room b = omega (arith, b .within, b .kept, length-append h (32 ∷ d))
+
+module _ (old one two h d short : List ℕ) (n e : ℕ) (room : length h + length d + length short < length old)
+    (b : Written old one 0 (h ++ (32 ∷ d)) true n) (w : Written one two n short false e) where
+  size : length (h ++ (32 ∷ d)) ≡ length h + 1 + length d
+  size = omega (arith, length-append h (32 ∷ d))
+
+  front : length (take n one) ≡ n
+  front = length-take-le n one (omega (arith, b .within, b .kept, size))
+
   name-ends : e ≡ n + length short
   name-ends =
       omega (
         arith,
         ap length (w .made),
         length-append (take n one) (upper short),
-        length-take-le n one (omega (arith, b .within, b .kept)),
-        length-take-le e two (omega (arith, w .within, w .kept, b .within, b .kept)),
+        front,
+        length-take-le e two (omega (arith, w .within, w .kept, b .within, b .kept, size)),
         length-map short upperByte,
       )
 
   pub name-room : (n ≤ e) × (e ≤ length two)
-  name-room = (omega (arith, name-ends), omega (arith, w .within, w .kept, b .within, b .kept))
+  name-room = (omega (arith, name-ends), omega (arith, w .within, w .kept, b .within, b .kept, size))
+
+  whole : two ≡ take n one ++ (upper short ++ drop e two)
+  whole = sym (take-append-drop e two) ∙ ap (λ l. l ++ drop e two) (w .made) ∙ append-assoc (take n one) (upper short) (drop e two)
 
   name-stands : take (e - n) (drop n two) ≡ upper short
   name-stands =
-      let whole : two ≡ (take n one ++ upper short) ++ drop e two = sym (take-append-drop e two) ∙ ap (λ l. l ++ drop e two) (w .made) in
-      let front : length (take n one) ≡ n = length-take-le n one (omega (arith, b .within, b .kept)) in
-      let size : e - n ≡ length (upper short) = omega (arith, name-ends, length-map short upperByte) in
-      let rest : drop n two ≡ upper short ++ drop e two =
-      ap (drop n) (whole ∙ append-assoc (take n one) (upper short) (drop e two)) ∙ drop-at (take n one) (upper short ++ drop e two) n front in
-      rw (rest, size) (take-append-seam (upper short) (drop e two))
+      let long : e - n ≡ length (upper short) = omega (arith, name-ends, length-map short upperByte) in
+      let rest : drop n two ≡ upper short ++ drop e two = ap (drop n) whole ∙ drop-at (take n one) (upper short ++ drop e two) n front in
+      rw (rest, long) (take-append-seam (upper short) (drop e two))
 
   blob-stands : take n two ≡ fold-alert-blob (h ++ text " " ++ d)
   blob-stands =
-      let whole : two ≡ take n one ++ (upper short ++ drop e two) =
-      sym (take-append-drop e two) ∙ ap (λ l. l ++ drop e two) (w .made) ∙ append-assoc (take n one) (upper short) (drop e two) in
-      let front : length (take n one) ≡ n = length-take-le n one (omega (arith, b .within, b .kept)) in
-      ap (take n) whole ∙ take-at (take n one) (upper short ++ drop e two) n front ∙ b .made
+      ap (take n) whole ∙ take-at (take n one) (upper short ++ drop e two) n front ∙ b .made ∙ ap fold-alert-blob (sym (append-assoc h (32 ∷ []) d))
 
-  pub fits-text : (t : Bool) → (length short ≡ 0 → ⊥) → t ≡ okAt two n e → Fitted old two h d short t
-  fits-text t z x = record { kept = w .kept ∙ b .kept; answer = x ∙ rw (name-stands, blob-stands) (go short z) }
+  pub fits-text : (t : Bool) → (length short ≡ 0 → ⊥) → t ≡ okAt two n e → Answered old two t (fitsOf h d short)
+  fits-text t z x = record { kept = w .kept ∙ b .kept; is = x ∙ rw (name-stands, blob-stands) (go short z) }
     where
       go : (s : List ℕ) → (length s ≡ 0 → ⊥)
           → textOk (fold-alert-blob (h ++ text " " ++ d)) (commercial-lines-in-text (fold-alert-blob (h ++ text " " ++ d))) (upper s) ≡ fitsOf h d s
       go [] z = absurd (z refl)
       go (b ∷ s) z = refl
+
+-- the three texts of the road test
+module _ (old one h d c : List ℕ) (a : ℕ) (room : length h + length d + length c + 1 < length old)
+    (b : Written old one 0 (h ++ (32 ∷ d)) false a) where
+  pub cause-room : a + length c < length one
+  cause-room = omega (arith, b .within, b .kept, length-append h (32 ∷ d))
+
+  module _ (two : List ℕ) (n : ℕ) (w : Written one two a (32 ∷ c) false n) where
+    pub road-room : n ≤ length two
+    road-room = omega (arith, w .within, w .kept, b .within, b .kept, length-append h (32 ∷ d))
+
+    pub road-answer : (t : Bool) → t ≡ road (take n two) → Answered old two t (roadOf h d c)
+    road-answer t x =
+        let all-three = both-written old one two (h ++ (32 ∷ d)) c false 0 a n b w in
+        record { kept = all-three .kept; is = x ∙ ap road (all-three .made ∙ ap upper joined) }
+      where
+        joined : (h ++ (32 ∷ d)) ++ (32 ∷ c) ≡ h ++ text " " ++ d ++ text " " ++ c
+        joined = rw (append-assoc (h ++ text " " ++ d) (32 ∷ []) c, append-assoc h (32 ∷ []) d) refl

@@ -9,7 +9,7 @@ use Rattle.formats.specs.Law.{pick}
 use Rattle.alerts.specs.Lists.{isEmpty}
 use Rattle.alerts.specs.Text.{text, upper}
 use Rattle.alerts.specs.Applies.{fold-alert-blob, commercial-lines-in-text}
-use Rattle.alerts.specs.Reduced.{textOk}
+use Rattle.alerts.specs.Reduced.{textOk, road}
 
 abbrev pub letterOf : Option ℕ → ℕ
 letterOf none = 0
@@ -30,20 +30,18 @@ pub record Written (old new : List ℕ) (at : ℕ) (s : List ℕ) (fold : Bool) 
   pub within : r ≤ at + length s
   pub made : take r new ≡ take at old ++ searched fold s
 
--- the buffer up to r is header, space and description, folded
-pub record Blob (old new h d : List ℕ) (r : ℕ) : Type 0 where
-  pub kept : length new ≡ length old
-  pub within : r ≤ length h + 1 + length d
-  pub made : take r new ≡ fold-alert-blob (h ++ text " " ++ d)
-
 -- the answer for a folded text that ends at n and a name that ends at e
 abbrev pub okAt : List ℕ → ℕ → ℕ → Bool
 okAt s n e = textOk (take n s) (commercial-lines-in-text (take n s)) (take (e - n) (drop n s))
 
--- the answer of the text test, for a trimmed short name
+-- the answers of the text test, for a trimmed short name, and of the road test
 abbrev pub fitsOf : List ℕ → List ℕ → List ℕ → Bool
 fitsOf h d short = let b = fold-alert-blob (h ++ text " " ++ d) in isEmpty short || textOk b (commercial-lines-in-text b) (upper short)
 
-pub record Fitted (old new h d short : List ℕ) (r : Bool) : Type 0 where
+abbrev pub roadOf : List ℕ → List ℕ → List ℕ → Bool
+roadOf h d c = road (upper (h ++ text " " ++ d ++ text " " ++ c))
+
+-- the answer, from a buffer that keeps its length
+pub record Answered (old new : List ℕ) (r answer : Bool) : Type 0 where
   pub kept : length new ≡ length old
-  pub answer : r ≡ fitsOf h d short
+  pub is : r ≡ answer

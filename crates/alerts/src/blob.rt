@@ -1,10 +1,12 @@
 // The texts of an alert as they are searched: in capitals, and with accents folded, written one after the other into a lent buffer.
 ghost use mathlib.Core.Path.{_≡_};
 ghost use Prim.Native.Nat.{_+_, _<_, _≤_};
-ghost use lib.ListN.{length, getD};
+ghost use lib.ListN.{length, getD, take};
+ghost use mathlib.Core.List.{_∷_, _++_};
+ghost use Rattle.alerts.specs.Reduced.{road};
 ghost use Rattle.alerts.specs.Text.{upperByte};
 ghost use Rattle.alerts.specs.Applies.{unaccented};
-ghost use Rattle.alerts.specs.Blob.{letterOf, Stepped, Written, Blob, okAt, Fitted};
+ghost use Rattle.alerts.specs.Blob.{letterOf, Stepped, Written, Answered, okAt, fitsOf, roadOf};
 
 // What a place of a text gives: a byte, and the next place.
 pub struct Step {
@@ -157,15 +159,23 @@ pub fn write(out: &mut [u8], at: usize, s: &[u8], fold: bool) -> usize
     k
 }
 
-// Header and description with a space between, folded, at the front of out.
-pub fn write_folded(out: &mut [u8], header: &[u8], description: &[u8]) -> usize
-    requires { ⌜ length (now header) + length (now description) < length (now out) ⌝ }
-    ensures { λ r. ⌜ Blob (now (out .entry)) (now (out .exit)) (now (header .entry)) (now (description .entry)) r ⌝ }
+// A space and then s go into out from `at` on.
+fn write_next(out: &mut [u8], at: usize, s: &[u8], fold: bool) -> usize
+    requires { ⌜ at + length (now s) < length (now out) ⌝ }
+    ensures { λ r. ⌜ Written (now (out .entry)) (now (out .exit)) at (32 ∷ now (s .entry)) fold r ⌝ }
 {
-    let a = write(out, 0, header, true);
-    out[a] = b' ';
-    let b = a + 1;
-    write(out, b, description, true)
+    out[at] = b' ';
+    let next = at + 1;
+    write(out, next, s, fold)
+}
+
+// Two texts with a space between go to the front of out.
+pub fn write_both(out: &mut [u8], s: &[u8], t: &[u8], fold: bool) -> usize
+    requires { ⌜ length (now s) + length (now t) < length (now out) ⌝ }
+    ensures { λ r. ⌜ Written (now (out .entry)) (now (out .exit)) 0 (now (s .entry) ++ (32 ∷ now (t .entry))) fold r ⌝ }
+{
+    let a = write(out, 0, s, fold);
+    write_next(out, a, t, fold)
 }
 
 // Whether the folded text that ends at n may be about the line whose name ends at e.
@@ -179,12 +189,29 @@ fn text_ok_at(s: &[u8], n: usize, e: usize) -> bool
 // Whether the alert's texts may be about the line; out is what they are folded into.
 pub fn text_fits(out: &mut [u8], header: &[u8], description: &[u8], short: &[u8]) -> bool
     requires { ⌜ length (now header) + length (now description) + length (now short) < length (now out) ⌝ }
-    ensures { λ r. ⌜ Fitted (now (out .entry)) (now (out .exit)) (now (header .entry)) (now (description .entry)) (now (short .entry)) r ⌝ }
+    ensures { λ r. ⌜ Answered (now (out .entry)) (now (out .exit)) r (fitsOf (now (header .entry)) (now (description .entry)) (now (short .entry))) ⌝ }
 {
     if short.len() == 0 {
         return true;
     }
-    let n = write_folded(out, header, description);
+    let n = write_both(out, header, description, true);
     let e = write(out, n, short, false);
     text_ok_at(out, n, e)
+}
+
+fn road_at(s: &[u8], n: usize) -> bool
+    requires { ⌜ n ≤ length (now s) ⌝ }
+    ensures { λ r. ⌜ r ≡ road (take n (now (s .entry))) ⌝ }
+{
+    crate::lines::road_traffic(&s[..n])
+}
+
+// Whether the alert is about road traffic; out is what its texts are written into.
+pub fn road_alert(out: &mut [u8], header: &[u8], description: &[u8], cause: &[u8]) -> bool
+    requires { ⌜ length (now header) + length (now description) + length (now cause) + 1 < length (now out) ⌝ }
+    ensures { λ r. ⌜ Answered (now (out .entry)) (now (out .exit)) r (roadOf (now (header .entry)) (now (description .entry)) (now (cause .entry))) ⌝ }
+{
+    let a = write_both(out, header, description, false);
+    let n = write_next(out, a, cause, false);
+    road_at(out, n)
 }
