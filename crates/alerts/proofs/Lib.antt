@@ -2,3 +2,4 @@ pub mod Characters
 pub mod Searching
 pub mod Patterns
 pub mod Naming
+pub mod Folding

@@ -5,22 +5,22 @@ use mathlib.Core.Option.{Option, none, some}
 use mathlib.Core.Bool.{Bool, true, false, not, _&&_, _||_}
 use Prim.Native.Nat.{ℕ, zero, suc, _+_, _-_, _≤_, _<_}
 use native.Mathlib.Omega.{arith}
-use lib.Dec.{leb, eqb}
-use lib.ListN.{length, getD, take, drop, length-append, length-take, length-drop}
+use lib.Dec.{leb}
+use lib.ListN.{length, getD, take, drop, length-append, length-drop}
 use lib.Seq.{take-all, length-take-le}
 use borrow.Author.Tests.{le-leb, lt-leb, leb-true, leb-false, eq-eqb, ne-eqb, not-true, not-false}
 use Rattle.formats.specs.Law.{pick, none-some}
 use Rattle.alerts.specs.Lists.{any, filter, isEmpty}
 use Rattle.alerts.specs.Text.{text, same, begins, ends, contains, later, find}
-use Rattle.alerts.specs.Applies.{letters, numerals, trams, around, names, letterRows, names-number, names-tram, commercial-lines-in-text, marked, window, near}
-use Rattle.alerts.specs.Reduced.{adviceMarkers, primary, secondary, textOk}
+use Rattle.alerts.specs.Applies.{letters, numerals, trams, around, names, letterRows, names-number, names-tram, commercial-lines-in-text, marked, window, near, railModes}
+use Rattle.alerts.specs.Reduced.{adviceMarkers, primary, secondary, textOk, road}
 use Rattle.alerts.specs.Tables.{upTo, filled, patterns, anyIn, lesser, allLines, mentions, nearMarker, otherSubject, answerOf}
 use Rattle.alerts.specs.declared.lines.Ask.{Ask}
 use Rattle.alerts.specs.declared.lines.Ask.the-variants.{Named, Own, Other, Advised}
 use Rattle.alerts.specs.declared.text.Found.{Found}
 use Rattle.alerts.specs.declared.text.Found.the-variants.{At, Nowhere}
 use Rattle.alerts.specs.Found.{foundOf}
-use Rattle.alerts.specs.ListLaws.{false-true, or-false, or-comm, and-true, both-ways, any-append, any-same, same-refl, same-true}
+use Rattle.alerts.specs.ListLaws.{or-false, both-ways, any-append, any-same, same-refl, same-true}
 use Rattle.alerts.specs.TextLaws.{begins-true}
 use Rattle.alerts.proofs.Patterns.{filled-none, filled-here, tail-whole}
 
@@ -361,3 +361,36 @@ module _ (s u : List ℕ) where
 
           pub ok-last : not x ≡ false → (y : Bool) → y ≡ any (answerOf Other s u) allLines → not y ≡ textOk s (commercial-lines-in-text s) u
           ok-last h y hy = sym (text-is ∙ rw (← hn, not-false n named, ← hm, not-false m own, ← ho, not-false o listed, ← hx, not-false x h, ← hy) refl)
+
+-- road traffic
+module _ (s : List ℕ) (t : Bool) (ht : t ≡ anyIn (text "TRAFIC ROUTIER") s s) where
+  traffic : t ≡ contains (text "TRAFIC ROUTIER") s
+  traffic = ht ∙ or-false (contains (text "TRAFIC ROUTIER") s)
+
+  pub road-named : t ≡ true → true ≡ road s
+  road-named h = sym (rw (← traffic, h) refl)
+
+  module _ (not-named : t ≡ false) (u : Bool) (hu : u ≡ anyIn (text "ARRET") s s) where
+    stop-word : u ≡ contains (text "ARRET") s
+    stop-word = hu ∙ or-false (contains (text "ARRET") s)
+
+    pub road-no-stop : not u ≡ true → false ≡ road s
+    road-no-stop h = sym (rw (← traffic, not-named, ← stop-word, not-true u h) refl)
+
+    module _ (stopped : not u ≡ false) (v : Bool) (hv : v ≡ anyIn (text "DÉPLACÉ|DEPLAC") s s) where
+      moved-word : v ≡ contains (text "DÉPLACÉ") s || contains (text "DEPLAC") s
+      moved-word = hv ∙ ap (λ x. contains (text "DÉPLACÉ") s || x) (or-false (contains (text "DEPLAC") s))
+
+      pub road-unmoved : not v ≡ true → false ≡ road s
+      road-unmoved h = sym (rw (← traffic, not-named, ← stop-word, not-false u stopped, ← moved-word, not-true v h) refl)
+
+      pub road-last : not v ≡ false → (w : Bool) → w ≡ anyIn (text "CIRCULATION") s s → w ≡ road s
+      road-last h w hw =
+          hw ∙ or-false (contains (text "CIRCULATION") s)
+          ∙ sym (rw (← traffic, not-named, ← stop-word, not-false u stopped, ← moved-word, not-false v h) refl)
+
+same-turned : (s t : List ℕ) → same s t ≡ same t s
+same-turned s t = both-ways (same s t) (same t s) (λ e. rw (same-true s t e) (same-refl t)) (λ e. rw (same-true t s e) (same-refl s))
+
+pub rail-mode : (m : List ℕ) (t : Bool) → t ≡ any (answerOf Own m m) railModes → t ≡ any (same m) railModes
+rail-mode m t e = e ∙ any-same (λ x. same x m) (same m) (λ x. same-turned x m) railModes

@@ -3,7 +3,7 @@ use mathlib.Core.Path.{_≡_, refl, sym, ap, _∙_}
 use mathlib.Core.List.{List, [], _∷_, _++_}
 use mathlib.Core.Option.{Option, none, some}
 use mathlib.Core.Bool.{Bool, true, false, not, _&&_, _||_}
-use Prim.Native.Nat.{ℕ, zero, suc, _+_, _-_, _≤_, _<_}
+use Prim.Native.Nat.{ℕ, suc, _+_, _-_, _≤_, _<_}
 use native.Mathlib.Numerals.{add-one}
 use native.Mathlib.Omega.{arith}
 use lib.Dec.{eqb}
@@ -12,7 +12,6 @@ use lib.ListN.{length, getD, drop, drop-of-length-le, length-append, length-drop
 use lib.Seq.{drop-cons, drop-drop}
 use borrow.Author.Tests.{eq-eqb, ne-eqb, not-true, not-false}
 use Rattle.formats.specs.Law.{pick}
-use Rattle.alerts.specs.Lists.{isEmpty}
 use Rattle.alerts.specs.Text.{begins, contains, later, find}
 use Rattle.alerts.specs.Found.{foundOf}
 use Rattle.alerts.specs.declared.text.Found.{Found}

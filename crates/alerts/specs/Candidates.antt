@@ -9,28 +9,8 @@ use Rattle.formats.specs.Law.{pick}
 use Rattle.alerts.specs.Lists.{any, member, join}
 use Rattle.alerts.specs.Text.{same}
 use Rattle.alerts.specs.Alert.{Alert, informed-trip-ids, informed-route-ids, informed-stop-ids}
-use Rattle.alerts.specs.Index.{
-  undated,
-  tripKeys,
-  idKeys,
-  Map,
-  push,
-  get,
-  pushAll,
-  indexed,
-  rebuild-alert-index,
-  legTrips,
-  legRoutes,
-  legStops,
-  distinct,
-  lookups,
-  alert-candidates-for-leg,
-  meets,
-  candidate,
-  numbers,
-  search,
-}
-use Rattle.alerts.specs.ListLaws.{false-true, or-false, or-assoc, or-comm, both-ways, any-append, any-same, any-join, any-swap, same-refl, same-true}
+use Rattle.alerts.specs.Index.{undated, tripKeys, idKeys, Map, push, get, pushAll, indexed, rebuild-alert-index, legTrips, legRoutes, legStops, distinct, alert-candidates-for-leg, meets, numbers, search}
+use Rattle.alerts.specs.ListLaws.{false-true, or-false, or-assoc, or-comm, both-ways, any-append, any-same, any-join, any-swap, same-true}
 
 -- a number is left once where it stood, unless it was seen
 distinct-step : (j i : ℕ) (seen l : List ℕ) (t : Bool) → member i seen ≡ t

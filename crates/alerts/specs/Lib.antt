@@ -11,6 +11,7 @@ pub mod Candidates
 pub mod Implied
 pub mod ProductCodes
 pub mod Found
+pub mod Blob
 pub mod Tables
 pub mod Vectors
 pub mod LabelLaws

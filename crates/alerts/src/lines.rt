@@ -3,9 +3,9 @@ ghost use mathlib.Core.Path.{_≡_};
 ghost use Prim.Native.Nat.{_+_, _-_, _≤_};
 ghost use lib.ListN.{length};
 ghost use Rattle.alerts.specs.Lists.{any};
-ghost use Rattle.alerts.specs.Text.{ends};
-ghost use Rattle.alerts.specs.Applies.{around, names, letterRows, names-number, names-tram, commercial-lines-in-text, marked, window};
-ghost use Rattle.alerts.specs.Reduced.{adviceMarkers, primary, secondary, textOk};
+ghost use Rattle.alerts.specs.Text.{same, ends};
+ghost use Rattle.alerts.specs.Applies.{around, names, letterRows, names-number, names-tram, commercial-lines-in-text, marked, window, railModes};
+ghost use Rattle.alerts.specs.Reduced.{adviceMarkers, primary, secondary, textOk, road};
 ghost use Rattle.alerts.specs.Tables.{filled, patterns, lesser, allLines, mentions, nearMarker, otherSubject, answerOf};
 
 // What is asked of each piece of a table.
@@ -239,4 +239,32 @@ pub fn text_ok(s: &[u8], name: &[u8]) -> bool
         return true;
     }
     !any_line(Ask::Other, s, name)
+}
+
+// Whether a text in capitals is about road traffic.
+pub fn road_traffic(s: &[u8]) -> bool
+    ensures { λ r. ⌜ r ≡ road (now (s .entry)) ⌝ }
+{
+    if crate::text::any_in(b"TRAFIC ROUTIER", s, s) {
+        return true;
+    }
+    if !crate::text::any_in(b"ARRET", s, s) {
+        return false;
+    }
+    if !crate::text::any_in(b"D\xc3\x89PLAC\xc3\x89|DEPLAC", s, s) {
+        return false;
+    }
+    crate::text::any_in(b"CIRCULATION", s, s)
+}
+
+// Whether a mode in capitals is one of rail.
+pub fn rail(mode: &[u8]) -> bool
+    ensures { λ r. ⌜ r ≡ any (same (now (mode .entry))) railModes ⌝ }
+{
+    any_piece(
+        Ask::Own,
+        b"RAIL|TRAIN|METRO|SUBWAY|TRAM|TRAMWAY|RER",
+        mode,
+        mode,
+    )
 }
