@@ -1,5 +1,1 @@
 pub mod Characters
-pub mod Searching
-pub mod Patterns
-pub mod Naming
-pub mod Folding

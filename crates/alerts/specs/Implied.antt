@@ -18,7 +18,7 @@ use Rattle.alerts.specs.Index.{undated, after, tail}
 use Rattle.alerts.specs.Applies.{firstCode, product-code-token, lastOf, segment, stop-tail, decided, tails-match, route-refs-match, short-names-equal, has, roadBlob, road-traffic, is-rail-like-mode, trip-hit, stop-hit, route-hit, by-name, by-product, unaccented, folded, fold-alert-blob, letters, numerals, trams, around, names, letterRows, numberRows, bareRows, names-number, names-tram, commercial-lines-in-text, markers, marked, needleRows, window, near, advised, is-secondary-line-context, is-primary-context, legBlob, text-compatible, alert-text-compatible-with-leg, alert-applies-to-leg-with-mode}
 use Rattle.alerts.specs.Reduced.{firstToken, token, refs, named, hitsRoute, hitsTrip, hitsStop, road, adviceMarkers, secondary, subjectRows, primary, textOk, textFits, hits, applies}
 use Rattle.alerts.specs.ProductCodes.{product-code-never-decides}
-use Rattle.alerts.specs.ListLaws.{false-true, or-false, or-assoc, or-comm, or-true, and-true, pick-or, pick-and, not-true, absorb-left, absorb-right, implied-false, any-append, any-or, any-same, any-implies, same-true}
+use Rattle.alerts.specs.ListLaws.{and-no, false-true, or-false, or-assoc, or-comm, or-true, and-true, pick-or, pick-and, not-true, absorb-left, absorb-right, implied-false, any-append, any-or, any-same, any-implies, same-true}
 use Rattle.alerts.specs.TextLaws.{contains-append, contains-end, contains-trans, begins-contains, ends-append, ends-contains, rsplit-joined}
 
 -- road traffic
@@ -183,11 +183,7 @@ names-absorbed route s h l false e =
 routes-reduced : (route s : List ℕ) → trim s ≡ s → (l : List (List ℕ))
     → not (isEmpty l) && (any (route-refs-match route) l || not (isEmpty s) && any (λ r. by-name s r || by-table route s r) l)
     ≡ any (refs route) l || not (isEmpty s) && any (named s) l
-routes-reduced route s h [] = go (isEmpty s)
-  where
-    go : (t : Bool) → false ≡ not t && false
-    go true = refl
-    go false = refl
+routes-reduced route s h [] = sym (and-no (not (isEmpty s)))
 routes-reduced route s h (r ∷ l) =
     names-absorbed route s h (r ∷ l) (isEmpty s) refl
     ∙ ap (λ x. x || not (isEmpty s) && any (named s) (r ∷ l)) (any-same (route-refs-match route) (refs route) (refs-reduced route) (r ∷ l))

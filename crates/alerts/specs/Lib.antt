@@ -10,8 +10,5 @@ pub mod TextLaws
 pub mod Candidates
 pub mod Implied
 pub mod ProductCodes
-pub mod Found
-pub mod Blob
-pub mod Tables
 pub mod Vectors
 pub mod LabelLaws

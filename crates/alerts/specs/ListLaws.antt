@@ -30,6 +30,14 @@ or-cross true y z w = refl
 or-cross false true z w = sym (or-comm z true)
 or-cross false false z w = refl
 
+pub and-yes : (x : Bool) → x && true ≡ x
+and-yes true = refl
+and-yes false = refl
+
+pub and-no : (x : Bool) → x && false ≡ false
+and-no true = refl
+and-no false = refl
+
 pub false-true : {C : Type 0} → false ≡ true → C
 false-true e = absurd (let z : _≡_ {A = ℕ} 0 1 = cc in omega arith)
 

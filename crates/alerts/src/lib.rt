@@ -1,10 +1,6 @@
-// The label of an alert, as a part of lent bytes; the alert tests.
+// The label of an alert, as a part of lent bytes.
 ghost use mathlib.Core.Path.{_≡_};
 ghost use Rattle.alerts.specs.Label.{continues, Ends, labelOf};
-
-pub mod text; // texts searched for patterns
-pub mod lines; // the lines that a text names
-pub mod blob; // an alert's texts as they are searched
 
 // Whether a byte goes on with a character.
 fn goes_on(b: u8) -> bool

@@ -1,4 +1,5 @@
 -- Lemmas on plain values.
+mod Filing
 mod Gaps
 mod Ranks
 mod Settling

@@ -3,6 +3,7 @@ use Prim.Native.Nat.{ℕ, zero, suc, _+_, _-_, _*_, _/_, _%_, _≤_, _<_}
 use mathlib.Core.Path.{_≡_, refl, sym, ap, _∙_}
 use mathlib.Core.Bool.{Bool, true, false, cond}
 use mathlib.Core.List.{List, [], _∷_, _++_, append-assoc}
+use mathlib.Core.Logic.{inl, inr}
 use native.Mathlib.Numerals.{add-one}
 use native.Mathlib.Omega.{arith}
 use lib.Dec.{ltb}
@@ -10,11 +11,14 @@ use lib.ListN.{length, take, drop, set, length-append, length-drop}
 use lib.Seq.{take-length, set-split, length-take-le}
 use borrow.Author.Tests.{lt-ltb, le-ltb, ltb-true}
 use Rattle.slices.specs.Lists.{pasted}
-use Rattle.merged.specs.Views.{spanIn, SpanInside}
+use Rattle.merged.specs.Views.{spanIn, SpanInside, viewDirection}
+use Rattle.merged.specs.declared.Trip.{Trip}
 use Rattle.merged.specs.declared.Span.{Span}
-use Rattle.decode.specs.Key.{empty, decimalOf, prefixed}
+use Rattle.decode.specs.Trip.{Maybe}
+use Rattle.decode.specs.Key.{empty, decimalOf, shown, prefixed, headOf, tailOf}
 use Rattle.decode.specs.Written.{Added, none, then, written-there, written-before, written-whole}
-use Rattle.decode.specs.Entity.{Keyed}
+use Rattle.decode.specs.Record.{maybe}
+use Rattle.decode.specs.Entity.{Short, Keyed}
 
 pub added-text : (out : List ℕ) (at : ℕ) (x out′ : List ℕ) → at + length x ≤ length out → out′ ≡ pasted out at x (length x) → Added out at x out′ (at + length x)
 added-text out at x out′ h e =
@@ -83,3 +87,47 @@ routed feed s x route i z e f g h =
 
 pub unrouted : (out feed s : List ℕ) (at : ℕ) (route : Span) → route .len ≡ 0 → at ≤ length out → Added out at (prefixed feed (spanIn s route)) out at
 unrouted out feed s at route z h = rw z (none out at h)
+
+-- the lengths of the parts of an incomplete key
+pub prefixed-short : (feed s : List ℕ) (route : Span) → length feed ≤ 16 → SpanInside (length s) route → route .len ≤ 64 → length (prefixed feed (spanIn s route)) ≤ 81
+prefixed-short feed s route h i g = go (empty (spanIn s route))
+  where
+    go : (b : Bool) → length (cond b [] (feed ++ 58 ∷ spanIn s route)) ≤ 81
+    go true = omega arith
+    go false = omega (arith, length-append feed (58 ∷ spanIn s route), span-length s (spanIn s route) (route .start) (route .len) refl i)
+
+shown-short : (d : Maybe ℕ) → length (shown d) ≤ 10
+shown-short (inl u) = omega arith
+shown-short (inr n) = decimal-short 10 n
+
+module _ (feed s : List ℕ) (t : Trip) (f : length feed ≤ 16) (S : Short s t) where
+  pub spans-head : length (headOf feed (spanIn s (t .route)) (maybe (viewDirection (t .direction)))) ≤ 97
+  spans-head =
+      let route = prefixed feed (spanIn s (t .route)) in
+      omega (
+        arith,
+        length-append ((35 ∷ 114 ∷ 61 ∷ []) ++ route ++ (38 ∷ 100 ∷ 61 ∷ [])) (shown (maybe (viewDirection (t .direction)))),
+        length-append ((35 ∷ 114 ∷ 61 ∷ []) ++ route) (38 ∷ 100 ∷ 61 ∷ []),
+        length-append (35 ∷ 114 ∷ 61 ∷ []) route,
+        prefixed-short feed s (t .route) f (S .route .0) (S .route .1),
+        shown-short (maybe (viewDirection (t .direction))),
+      )
+
+  spans-tail : length (tailOf (spanIn s (t .date)) (spanIn s (t .time))) ≤ 40
+  spans-tail =
+      let date = spanIn s (t .date) in
+      let time = spanIn s (t .time) in
+      omega (
+        arith,
+        length-append ((38 ∷ 115 ∷ 100 ∷ 61 ∷ []) ++ date ++ (38 ∷ 115 ∷ 116 ∷ 61 ∷ [])) time,
+        length-append ((38 ∷ 115 ∷ 100 ∷ 61 ∷ []) ++ date) (38 ∷ 115 ∷ 116 ∷ 61 ∷ []),
+        length-append (38 ∷ 115 ∷ 100 ∷ 61 ∷ []) date,
+        span-length s date (t .date .start) (t .date .len) refl (S .date .0),
+        span-length s time (t .time .start) (t .time .len) refl (S .time .0),
+        S .date .1,
+        S .time .1,
+      )
+
+  pub spans-whole : length (headOf feed (spanIn s (t .route)) (maybe (viewDirection (t .direction))) ++ tailOf (spanIn s (t .date)) (spanIn s (t .time))) ≤ 137
+  spans-whole =
+      omega (arith, length-append (headOf feed (spanIn s (t .route)) (maybe (viewDirection (t .direction)))) (tailOf (spanIn s (t .date)) (spanIn s (t .time))), spans-head, spans-tail)

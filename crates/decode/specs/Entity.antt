@@ -5,7 +5,9 @@ use mathlib.Core.List.{List, [], _∷_}
 use lib.ListN.{length, take}
 use Rattle.merged.specs.Views.{SpanInside}
 use Rattle.merged.specs.declared.Trip.{Trip}
-use Rattle.decode.specs.Index.{keyIn}
+use Rattle.decode.specs.Map.{put}
+use Rattle.decode.specs.Order.{texts}
+use Rattle.decode.specs.Index.{keyIn, index, Sound}
 
 -- the texts of an entity lie in the bytes, and are as long as question 5 lets them be
 pub record Short (s : List ℕ) (t : Trip) : Type 0 where
@@ -25,3 +27,8 @@ pub record Keyed (keys : List ℕ) (n : ℕ) (k keys′ : List ℕ) (r : ℕ) : 
   pub before : take (137 * n) keys′ ≡ take (137 * n) keys
   pub long : length keys′ ≡ length keys
   pub short : r ≤ 137
+
+-- key k has gone into the index with its place: the map, and how many slots are in use
+pub record Filed (keys marks order : List ℕ) (n : ℕ) (k : List ℕ) (from till : ℕ) (keys′ marks′ order′ : List ℕ) (r : ℕ) : Type 0 where
+  pub map : index keys′ marks′ order′ r ≡ put texts k (from, till) (index keys marks order n)
+  pub sound : Sound keys′ marks′ order′ r

@@ -6,17 +6,17 @@ use slices::Order;
 ghost use mathlib.Core.Path.{_≡_};
 ghost use Prim.Native.Nat.{_+_, _*_, _≤_, _<_};
 ghost use mathlib.Core.Bool.{_&&_};
-ghost use mathlib.Core.List.{[], _∷_};
+ghost use mathlib.Core.List.{[], _∷_, _++_};
 ghost use lib.Dec.{ltb, eqb};
 ghost use lib.ListN.{length, getD, set};
 ghost use Rattle.slices.specs.Lists.{lexOf};
 ghost use Rattle.decode.specs.Map.{isSame, isMore};
 ghost use Rattle.decode.specs.Order.{texts, numbers};
-ghost use Rattle.decode.specs.Key.{decimalOf, datedKey, prefixed, shown};
+ghost use Rattle.decode.specs.Key.{decimalOf, datedKey, prefixed, shown, headOf, tailOf};
 ghost use Rattle.merged.specs.Views.{spanIn, SpanInside, viewDirection};
 ghost use Rattle.decode.specs.Record.{maybe};
 ghost use Rattle.decode.specs.Written.{Added};
-ghost use Rattle.decode.specs.Entity.{Room, Short, Keyed};
+ghost use Rattle.decode.specs.Entity.{Room, Short, Keyed, Filed};
 ghost use Rattle.decode.specs.Index.{keyAt, keyIn, index, Sound, Settled, rankOf, inserted, remarked, three, laid, Lined, Noted};
 
 fn wide(x: u32) -> usize
@@ -292,4 +292,103 @@ fn write_direction(keys: &mut [u8], at: usize, direction: Direction) -> usize
         Direction::Given(d) => decimal(10, keys, at, d),
         Direction::Absent => at,
     }
+}
+
+fn write_head(keys: &mut [u8], at: usize, feed: &[u8], s: &[u8], t: Trip) -> usize
+    requires { ⌜ (at + 97 ≤ length (now keys)) × (length (now feed) ≤ 16) ⌝ }
+    requires { ⌜ Short (now s) t ⌝ }
+    ensures { λ r. ⌜ Added (now (keys .entry)) at (headOf (now (feed .entry)) (spanIn (now (s .entry)) (t .route)) (maybe (viewDirection (t .direction)))) (now (keys .exit)) r ⌝ }
+{
+    let route = t.route;
+    let direction = t.direction;
+    let a = add(keys, at, b"#r=");
+    let b = write_route(keys, a, feed, s, route);
+    let c = add(keys, b, b"&d=");
+    write_direction(keys, c, direction)
+}
+
+fn write_tail(keys: &mut [u8], at: usize, s: &[u8], date: Span, time: Span) -> usize
+    requires { ⌜ at + 40 ≤ length (now keys) ⌝ }
+    requires { ⌜ SpanInside (length (now s)) date × (date .len ≤ 16) ⌝ }
+    requires { ⌜ SpanInside (length (now s)) time × (time .len ≤ 16) ⌝ }
+    ensures { λ r. ⌜ Added (now (keys .entry)) at (tailOf (spanIn (now (s .entry)) date) (spanIn (now (s .entry)) time)) (now (keys .exit)) r ⌝ }
+{
+    let a = add(keys, at, b"&sd=");
+    let b = add(keys, a, wire::part(s, date.start, date.len));
+    let c = add(keys, b, b"&st=");
+    add(keys, c, wire::part(s, time.start, time.len))
+}
+
+// The key of an entity without a trip id.
+fn write_incomplete(keys: &mut [u8], n: usize, feed: &[u8], s: &[u8], t: Trip) -> usize
+    requires { ⌜ Room (now keys) n ⌝ }
+    requires { ⌜ length (now feed) ≤ 16 ⌝ }
+    requires { ⌜ Short (now s) t ⌝ }
+    ensures { λ r. ⌜ Keyed (now (keys .entry)) n (headOf (now (feed .entry)) (spanIn (now (s .entry)) (t .route)) (maybe (viewDirection (t .direction))) ++ tailOf (spanIn (now (s .entry)) (t .date)) (spanIn (now (s .entry)) (t .time))) (now (keys .exit)) r ⌝ }
+{
+    let p = write_head(keys, 137 * n, feed, s, t);
+    let date = t.date;
+    let time = t.time;
+    write_tail(keys, p, s, date, time) - 137 * n
+}
+
+// The key of an entity goes into the index with its place: by its raw trip id.
+fn file_base(
+    keys: &mut [u8],
+    marks: &mut [u32],
+    order: &mut [u32],
+    n: usize,
+    s: &[u8],
+    t: Trip,
+    from: u32,
+    till: u32,
+) -> usize
+    requires { ⌜ Sound (now keys) (now marks) (now order) n ⌝ }
+    requires { ⌜ n ≤ 2048 ⌝ }
+    requires { ⌜ Short (now s) t ⌝ }
+    ensures { λ r. ⌜ Filed (now (keys .entry)) (now (marks .entry)) (now (order .entry)) n (spanIn (now (s .entry)) (t .id)) from till (now (keys .exit)) (now (marks .exit)) (now (order .exit)) r ⌝ }
+{
+    let len = write_base(keys, n, s, t);
+    settle(keys, marks, order, n, len, from, till)
+}
+
+// By its raw trip id and its date.
+fn file_dated(
+    keys: &mut [u8],
+    marks: &mut [u32],
+    order: &mut [u32],
+    n: usize,
+    s: &[u8],
+    t: Trip,
+    from: u32,
+    till: u32,
+) -> usize
+    requires { ⌜ Sound (now keys) (now marks) (now order) n ⌝ }
+    requires { ⌜ n ≤ 2048 ⌝ }
+    requires { ⌜ Short (now s) t ⌝ }
+    ensures { λ r. ⌜ Filed (now (keys .entry)) (now (marks .entry)) (now (order .entry)) n (datedKey (spanIn (now (s .entry)) (t .id)) (spanIn (now (s .entry)) (t .date))) from till (now (keys .exit)) (now (marks .exit)) (now (order .exit)) r ⌝ }
+{
+    let len = write_dated(keys, n, s, t);
+    settle(keys, marks, order, n, len, from, till)
+}
+
+// And without a trip id.
+fn file_incomplete(
+    keys: &mut [u8],
+    marks: &mut [u32],
+    order: &mut [u32],
+    n: usize,
+    feed: &[u8],
+    s: &[u8],
+    t: Trip,
+    from: u32,
+    till: u32,
+) -> usize
+    requires { ⌜ Sound (now keys) (now marks) (now order) n ⌝ }
+    requires { ⌜ (n ≤ 2048) × (length (now feed) ≤ 16) ⌝ }
+    requires { ⌜ Short (now s) t ⌝ }
+    ensures { λ r. ⌜ Filed (now (keys .entry)) (now (marks .entry)) (now (order .entry)) n (headOf (now (feed .entry)) (spanIn (now (s .entry)) (t .route)) (maybe (viewDirection (t .direction))) ++ tailOf (spanIn (now (s .entry)) (t .date)) (spanIn (now (s .entry)) (t .time))) from till (now (keys .exit)) (now (marks .exit)) (now (order .exit)) r ⌝ }
+{
+    let len = write_incomplete(keys, n, feed, s, t);
+    settle(keys, marks, order, n, len, from, till)
 }
