@@ -1,5 +1,5 @@
 -- A text as it is searched, written into a buffer: in capitals, or with accents folded too; and the answer of the text test.
-use mathlib.Core.Path.{_≡_}
+use mathlib.Core.Path.{_≡_, refl}
 use mathlib.Core.List.{List, _∷_, _++_}
 use mathlib.Core.Option.{Option, none, some}
 use mathlib.Core.Bool.{Bool, _||_}
@@ -8,8 +8,9 @@ use lib.ListN.{length, take, drop}
 use Rattle.formats.specs.Law.{pick}
 use Rattle.alerts.specs.Lists.{isEmpty}
 use Rattle.alerts.specs.Text.{text, upper}
-use Rattle.alerts.specs.Applies.{fold-alert-blob, commercial-lines-in-text}
-use Rattle.alerts.specs.Reduced.{textOk, road}
+use Rattle.alerts.specs.Alert.{Alert, header, description, cause, given}
+use Rattle.alerts.specs.Applies.{fold-alert-blob, commercial-lines-in-text, roadBlob}
+use Rattle.alerts.specs.Reduced.{textOk, textFits, road}
 
 abbrev pub letterOf : Option ℕ → ℕ
 letterOf none = 0
@@ -45,3 +46,10 @@ roadOf h d c = road (upper (h ++ text " " ++ d ++ text " " ++ c))
 pub record Answered (old new : List ℕ) (r answer : Bool) : Type 0 where
   pub kept : length new ≡ length old
   pub is : r ≡ answer
+
+-- of an alert's texts these are the two tests of the reduced form
+pub fits-alert : (a : Alert) (short : List ℕ) → fitsOf (given (header a)) (given (description a)) short ≡ textFits a short
+fits-alert a short = refl
+
+pub road-alert : (a : Alert) → roadOf (given (header a)) (given (description a)) (given (cause a)) ≡ road (roadBlob a)
+road-alert a = refl
