@@ -1,14 +1,14 @@
 -- A key that is written into slot n leaves the index as it was, and then goes in. Assumes nothing.
-use Prim.Native.Nat.{ℕ, suc, _+_, _*_, _≤_, _<_}
+use Prim.Native.Nat.{ℕ, _+_, _*_, _≤_, _<_}
 use mathlib.Core.Path.{_≡_, refl, sym, ap, _∙_}
 use mathlib.Core.List.{List, [], _∷_}
 use native.Mathlib.Omega.{arith}
-use lib.ListN.{length, getD, take, drop}
+use lib.ListN.{getD, take, drop}
 use Rattle.formats.specs.Law.{All}
 use Rattle.merged.specs.Reading.{front-part}
 use Rattle.decode.specs.Map.{put, ascending}
 use Rattle.decode.specs.Order.{texts}
-use Rattle.decode.specs.Index.{Place, keyAt, placeAt, slotted, index, Sound, Settled}
+use Rattle.decode.specs.Index.{keyAt, placeAt, slotted, Sound, Settled}
 use Rattle.decode.specs.Entity.{Keyed, Filed}
 
 module _ {keys marks order k keys′ : List ℕ} {n r : ℕ} (S : Sound keys marks order n) (c : n ≤ 2048) (K : Keyed keys n k keys′ r) where

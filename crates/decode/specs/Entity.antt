@@ -1,7 +1,7 @@
 -- What the code finds of an entity, and where its keys go. Assumes nothing: these are definitions.
-use Prim.Native.Nat.{ℕ, _+_, _*_, _≤_}
+use Prim.Native.Nat.{ℕ, _*_, _≤_}
 use mathlib.Core.Path.{_≡_}
-use mathlib.Core.List.{List, [], _∷_}
+use mathlib.Core.List.{List}
 use lib.ListN.{length, take}
 use Rattle.merged.specs.Views.{SpanInside}
 use Rattle.merged.specs.declared.Trip.{Trip}

@@ -133,7 +133,7 @@ fn enter(marks: &mut [u32], order: &mut [u32], n: usize, r: usize, len: usize, f
 }
 
 // The key in slot n goes in at its rank, over an old one: how many slots are in use then.
-fn settle(
+pub fn settle(
     keys: &[u8],
     marks: &mut [u32],
     order: &mut [u32],
@@ -233,7 +233,7 @@ fn line(updates: &mut [u32], n: usize, r: usize, sequence: u32, from: u32, till:
 }
 
 // An update goes in at its sequence, over an old one: how many are in use then.
-fn note(updates: &mut [u32], n: usize, sequence: u32, from: u32, till: u32) -> usize
+pub fn note(updates: &mut [u32], n: usize, sequence: u32, from: u32, till: u32) -> usize
     requires { ⌜ Lined (now updates) n ⌝ }
     requires { ⌜ n ≤ 128 ⌝ }
     ensures { λ r. ⌜ Noted (now (updates .entry)) n sequence from till (now (updates .exit)) r ⌝ }
@@ -333,7 +333,7 @@ fn write_incomplete(keys: &mut [u8], n: usize, feed: &[u8], s: &[u8], t: Trip) -
 }
 
 // The key of an entity goes into the index with its place: by its raw trip id.
-fn file_base(
+pub fn file_base(
     keys: &mut [u8],
     marks: &mut [u32],
     order: &mut [u32],
@@ -353,7 +353,7 @@ fn file_base(
 }
 
 // By its raw trip id and its date.
-fn file_dated(
+pub fn file_dated(
     keys: &mut [u8],
     marks: &mut [u32],
     order: &mut [u32],
@@ -373,7 +373,7 @@ fn file_dated(
 }
 
 // And without a trip id.
-fn file_incomplete(
+pub fn file_incomplete(
     keys: &mut [u8],
     marks: &mut [u32],
     order: &mut [u32],
