@@ -4,7 +4,7 @@ use crate::form::{Form, Text};
 use crate::messages::*;
 use crate::panel::{Call, Panel};
 use crate::papers::{Alert, Card, Leg, Transit, Vehicle};
-use crate::samples::*;
+use crate::samples::{self, *};
 use crate::wire::{delimited, groups, overlong};
 
 pub struct Bound {
@@ -116,7 +116,21 @@ impl Bounds {
         for (what, change) in broken {
             self.calls(4, &format!("card, {what}"), &whole(), &[card(change)]);
         }
-        self.calls(4, "not empty", &[message_call(&[])], &[Call::Card { card: vec![] }]);
+        let legs = [false, true].map(|cancelled| {
+            let leg = Transit { cancelled, ..leg() };
+            samples::card(vec![Leg::Transit(leg)]).written()
+        });
+        let flag = legs[0].iter().zip(&legs[1]).position(|(one, other)| one != other).unwrap();
+        let mut neither = legs[0].clone();
+        neither[flag] = 2;
+        let within = legs.map(|card| Call::Card { card });
+        self.calls(4, "card, cancelled 1 at most", &within, &[Call::Card { card: neither }]);
+        let sheet = |sheet: &[u8]| Call::AlertSheet { feed: "f".into(), sheet: sheet.into() };
+        let absent = [1, 1, 0, 0, 0, 0, 0, 0];
+        self.calls(4, "sheet, flag 1 at most", &[sheet(&absent)], &[sheet(&[1, 1, 2, 0, 0, 0, 0, 0])]);
+        let count = [[1].as_slice(), &[0x80; 9], &[2]].concat();
+        self.calls(4, "sheet, number below 2^64", &[sheet(&[1, 0])], &[sheet(&count)]);
+        self.calls(4, "not empty", &[message_call(&[])], &[Call::Card { card: vec![] }, sheet(&[])]);
         let keyed = |keys: [&str; 2]| vehicles_call(keys.map(|key| vehicle(key, None, NOON)).into(), NOON);
         let within = [keyed(["a", "aa"]), keyed(["a", "b"])];
         self.calls(

@@ -10,7 +10,7 @@ pub fn history(random: &mut Random, most: usize) -> Vec<Call> {
     calls
 }
 
-pub fn call(random: &mut Random) -> Call {
+fn call(random: &mut Random) -> Call {
     let mut call = match random.below(16) {
         0..=6 => Call::Message { feed: feed(random), message: message(random) },
         7..=9 => Call::AlertSheet { feed: feed(random), sheet: alert_sheet(random).written() },

@@ -6,12 +6,13 @@ mod message;
 mod paper;
 
 pub use alert_text::alert_text;
-pub use call::{call, history};
+pub use call::history;
 pub use message::message;
-pub use paper::{alert, alert_sheet, card, transit, vehicle_sheet};
+pub use paper::{alert, card, transit};
 pub use paper::{wild_alert_sheet, wild_card, wild_vehicle_sheet};
 
 use crate::random::Random;
+use paper::{alert_sheet, vehicle_sheet};
 
 const FEEDS: &[&str] = &["f", "f", "f", "f", "f", "f", "f", "f", "g", "a@b", "ff"];
 const TRIPS: &[&str] =

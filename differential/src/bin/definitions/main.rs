@@ -107,8 +107,10 @@ fn write_cases(folder: &Path, definition: &Definition, crates: &BTreeSet<String>
     write(&folder.join("specs/Lib.antt"), &modules);
     write(&folder.join("src/lib.rt"), "// Only the cases in specs/.\n");
     let answers = |answer: &str| cases.iter().filter(|case| case.right == answer).count();
-    let counted = ["true", "false", "none"].map(|answer| format!("{} {answer}", answers(answer)));
-    write(&folder.join("count"), &format!("{} cases ({})", cases.len(), counted.join(", ")));
+    let counted = ["true", "false", "none"].map(|answer| (answers(answer), answer));
+    let counted =
+        counted.iter().filter(|(count, _)| *count > 0).map(|(count, answer)| format!(", {count} {answer}"));
+    write(&folder.join("count"), &format!("{} cases{}", cases.len(), counted.collect::<String>()));
 }
 
 fn write(file: &Path, text: &str) {

@@ -33,9 +33,9 @@ pub fn opened(crates: &BTreeSet<String>) -> (String, String) {
     (uses, unfolding)
 }
 
-/// The modules that the crate's specs/ list.
+/// The modules that the crate's specs/ list, where it has any.
 fn modules(name: &str) -> Vec<String> {
-    let lib = fs::read_to_string(format!("crates/{name}/specs/Lib.antt")).expect("specs/Lib.antt");
+    let lib = fs::read_to_string(format!("crates/{name}/specs/Lib.antt")).unwrap_or_default();
     lib.lines().filter_map(|line| line.strip_prefix("pub mod ")).map(str::to_string).collect()
 }
 
