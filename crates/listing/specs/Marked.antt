@@ -1,6 +1,6 @@
 -- Texts of a slice that marks point at, in order; and a loop that writes them.
 use mathlib.Core.Path.{_≡_, refl, sym, ap, _∙_}
-use mathlib.Core.List.{List, [], _∷_, _++_, append-nil}
+use mathlib.Core.List.{List, [], _∷_, _++_}
 use Prim.Native.Nat.{ℕ, zero, suc, _+_, _-_, _≤_, _<_}
 use native.Mathlib.Omega.{arith}
 use native.Mathlib.Numerals.{add-one}
@@ -11,7 +11,7 @@ use Rattle.formats.specs.Number.{numberW}
 use Rattle.writing.specs.declared.Put.{Put}
 use Rattle.writing.specs.Adds.{Adds, then, same, none}
 use Rattle.writing.specs.Given.{textW}
-use Rattle.places.specs.Lists.{many-append}
+use Rattle.places.specs.Progress.{one-more}
 
 -- the text that mark i points at
 abbrev pub pointed : List ℕ → List ℕ → List ℕ → ℕ → List ℕ
@@ -31,9 +31,6 @@ marked-length : (s from to : List ℕ) (n : ℕ) → length (marked s from to n)
 marked-length s from to zero = refl
 marked-length s from to (suc n) = length-append (marked s from to n) (pointed s from to n ∷ []) ∙ omega (arith, marked-length s from to n)
 
-one-more : (xs : List (List ℕ)) (x : List ℕ) → manyW textW xs ++ textW x ≡ manyW textW (xs ++ (x ∷ []))
-one-more xs x = sym (many-append textW xs (x ∷ []) ∙ ap (λ l. manyW textW xs ++ l) (append-nil (textW x)))
-
 -- what a loop over the marks has written at i
 pub record Writing (s from to : List ℕ) (n i : ℕ) (l : List ℕ) (r : Put) (m : List ℕ) (k : Put) : Type 0 where
   pub so : Marks s from to n → Adds l r m k (manyW textW (marked s from to i))
@@ -43,7 +40,7 @@ module _ {s from to : List ℕ} {n : ℕ} {l : List ℕ} {r : Put} where
   start = record { so = λ h. none }
 
   pub step : {i : ℕ} {m o : List ℕ} {k j : Put} → Writing s from to n i l r m k → i < n → (getD from i 0 ≤ getD to i 0 → getD to i 0 ≤ length s → Adds m k o j (textW (pointed s from to i))) → Writing s from to n (i + 1) l r o j
-  step {i} L h a = record { so = λ H. same (then (L .so H) (a (H .forward i h) (H .within i h))) (rw add-one (one-more (marked s from to i) (pointed s from to i))) }
+  step {i} L h a = record { so = λ H. same (then (L .so H) (a (H .forward i h) (H .within i h))) (rw add-one (one-more textW (marked s from to i) (pointed s from to i))) }
 
   pub stop : {i : ℕ} {p m : List ℕ} {q k : Put} → Adds p q l r (numberW n) → Writing s from to n i l r m k → i ≤ n → n ≤ i → Marks s from to n → Adds p q m k (numberW (length (marked s from to n)) ++ manyW textW (marked s from to n))
   stop {i} c L u v H = let e : i ≡ n = omega arith in then (same c (ap numberW (sym (marked-length s from to n)))) (same (L .so H) (ap (λ i. manyW textW (marked s from to i)) e))
