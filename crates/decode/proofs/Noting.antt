@@ -8,7 +8,7 @@ use lib.Dec.{ltb, eqb}
 use lib.ListN.{length, getD, take, drop, set, length-set, length-append, length-drop, take-append-drop}
 use lib.Seq.{getD-drop, ext-getD, getD-set-same, getD-set-other, drop-drop, drop-cons, take-at, drop-at, length-take-le}
 use borrow.Author.Tests.{lt-ltb, le-ltb, ltb-true, eqb-true, eqb-false}
-use Rattle.slices.specs.Lists.{lexOf, pick}
+use Rattle.slices.specs.Lists.{lexOf, choose}
 use Rattle.slices.specs.declared.Order.{Order}
 use Rattle.slices.specs.declared.Order.the-variants.{Less, Same, More}
 use Rattle.decode.specs.Map.{isSame, isMore, put, ascending}
@@ -41,7 +41,7 @@ not-more : (x y : ℕ) → x ≤ y → isMore (lexOf (x ∷ []) (y ∷ [])) ≡ 
 unfolding lexOf
 not-more x y h = go (ltb x y) (ltb y x) (le-ltb y x h)
   where
-    go : (a b : Bool) → b ≡ false → isMore (pick a Less (pick b More Same)) ≡ false
+    go : (a b : Bool) → b ≡ false → isMore (choose a Less (choose b More Same)) ≡ false
     go true b e = refl
     go false b e = rw e
 

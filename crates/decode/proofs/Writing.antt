@@ -8,7 +8,7 @@ use native.Mathlib.Numerals.{add-one}
 use native.Mathlib.Omega.{arith}
 use lib.Dec.{ltb}
 use lib.ListN.{length, take, drop, set, length-append, length-drop}
-use lib.Seq.{take-length, set-split, length-take-le}
+use lib.Seq.{set-split, length-take-le}
 use borrow.Author.Tests.{lt-ltb, le-ltb}
 use Rattle.slices.specs.Lists.{pasted}
 use Rattle.merged.specs.Views.{spanIn, SpanInside, viewDirection}
@@ -20,9 +20,9 @@ use Rattle.decode.specs.Written.{Added, none, then, written-there, writt
 use Rattle.decode.specs.Record.{maybe}
 use Rattle.decode.specs.Entity.{Short, Keyed}
 
-pub added-text : (out : List ℕ) (at : ℕ) (x out′ : List ℕ) → at + length x ≤ length out → out′ ≡ pasted out at x (length x) → Added out at x out′ (at + length x)
+pub added-text : (out : List ℕ) (at : ℕ) (x out′ : List ℕ) → at + length x ≤ length out → out′ ≡ pasted out at x → Added out at x out′ (at + length x)
 added-text out at x out′ h e =
-    record { fits = h; next = refl; bytes = e ∙ rw (take-length, append-assoc) }
+    record { fits = h; next = refl; bytes = e ∙ rw append-assoc }
 
 pub added-byte : (out : List ℕ) (at b : ℕ) → at < length out → Added out at (b ∷ []) (set out at b) (at + 1)
 added-byte out at b h = record { fits = omega arith; next = refl; bytes = set-split out at b h ∙ rw add-one }

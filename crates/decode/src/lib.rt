@@ -73,7 +73,7 @@ fn key_order(keys: &[u8], marks: &[u32], n: usize, len: usize, slot: usize) -> O
     ensures { λ r. ⌜ r ≡ lexOf (keyIn (now (keys .entry)) n len) (keyAt (now (keys .entry)) (now (marks .entry)) slot) ⌝ }
 {
     let known = word(marks, 3 * slot);
-    slices::compare8(
+    slices::compare(
         wire::part(keys, 137 * n, len),
         wire::part(keys, 137 * slot, known),
     )
@@ -162,7 +162,7 @@ fn add(out: &mut [u8], at: usize, x: &[u8]) -> usize
     ensures { λ r. ⌜ Added (now (out .entry)) at (now (x .entry)) (now (out .exit)) r ⌝ }
 {
     let n = x.len();
-    slices::copy(out, at, x, n);
+    slices::copy(out, at, x);
     at + n
 }
 

@@ -5,12 +5,13 @@ use mathlib.Core.Option.{Option, none, some}
 use mathlib.Core.Bool.{Bool, true, false, not, _&&_, _||_}
 use Prim.Native.Nat.{ℕ, zero, suc, _+_, _-_, _≤_, _<_}
 use native.Mathlib.Omega.{arith}
-use lib.Dec.{leb}
+use lib.Dec.{leb, eqb}
 use lib.ListN.{length, getD, take, drop, length-append, length-drop}
 use lib.Seq.{take-all, length-take-le}
 use borrow.Author.Tests.{le-leb, lt-leb, leb-true, leb-false, eq-eqb, ne-eqb, not-true, not-false}
 use Rattle.formats.specs.Law.{pick, none-some}
 use Rattle.alerts.specs.Lists.{any, filter, isEmpty}
+use Rattle.slices.specs.Lists.{equal}
 use Rattle.alerts.specs.Text.{text, same, begins, ends, contains, later, find}
 use Rattle.alerts.specs.Applies.{letters, numerals, trams, around, names, letterRows, names-number, names-tram, commercial-lines-in-text, marked, window, near, railModes}
 use Rattle.alerts.specs.Reduced.{adviceMarkers, primary, secondary, textOk, road}
@@ -213,26 +214,33 @@ pub primary-front : (s n : List ℕ) (t u : Bool) → t ≡ anyIn subjects n s �
 primary-front s n t u e h f = f ∙ ap (λ x. x || begins (around "LIGNE " n "") s) (sym (sym e ∙ h))
 
 -- equality as it is answered
-answered : (s t : List ℕ) (r : Bool) → (r ≡ true → s ≡ t) → (s ≡ t → r ≡ true) → r ≡ same s t
-answered s t r h g = both-ways r (same s t) (λ e. rw (h e) (same-refl t)) (λ e. g (same-true s t e))
+equal-same : (s t : List ℕ) → equal s t ≡ same s t
+unfolding equal
+equal-same [] [] = refl
+equal-same [] (b ∷ t) = refl
+equal-same (a ∷ s) [] = refl
+equal-same (a ∷ s) (b ∷ t) = ap (λ r. eqb a b && r) (equal-same s t)
+
+answered : (s t : List ℕ) (r : Bool) → r ≡ equal s t → r ≡ same s t
+answered s t r g = g ∙ equal-same s t
 
 module _ (s n m : List ℕ) (t : Bool) (e : t ≡ mentions s m) where
   pub other-unnamed : not t ≡ true → false ≡ otherSubject s n m
   other-unnamed h = sym (rw (← e, not-true t h) refl)
 
-  pub other-own : (r : Bool) → not t ≡ false → (r ≡ true → m ≡ n) × (m ≡ n → r ≡ true) → r ≡ true → false ≡ otherSubject s n m
-  other-own r h g x = sym (rw (← e, not-false t h, ← answered m n r (g .0) (g .1), x) refl)
+  pub other-own : (r : Bool) → not t ≡ false → r ≡ equal m n → r ≡ true → false ≡ otherSubject s n m
+  other-own r h g x = sym (rw (← e, not-false t h, ← answered m n r g, x) refl)
 
-  pub other-subject : (r u : Bool) → not t ≡ false → (r ≡ true → m ≡ n) × (m ≡ n → r ≡ true) → r ≡ false → u ≡ primary s m → u ≡ otherSubject s n m
-  other-subject r u h g x f = f ∙ sym (rw (← e, not-false t h, ← answered m n r (g .0) (g .1), x) refl)
+  pub other-subject : (r u : Bool) → not t ≡ false → r ≡ equal m n → r ≡ false → u ≡ primary s m → u ≡ otherSubject s n m
+  other-subject r u h g x f = f ∙ sym (rw (← e, not-false t h, ← answered m n r g, x) refl)
 
 -- each question
 module _ (ask : Ask) (s n m : List ℕ) (t : Bool) where
   pub asked-named : ask ≡ Named → t ≡ mentions s m → t ≡ answerOf ask s n m
   asked-named h e = rw h e
 
-  pub asked-own : ask ≡ Own → (t ≡ true → m ≡ n) × (m ≡ n → t ≡ true) → t ≡ answerOf ask s n m
-  asked-own h g = rw h (answered m n t (g .0) (g .1))
+  pub asked-own : ask ≡ Own → t ≡ equal m n → t ≡ answerOf ask s n m
+  asked-own h g = rw h (answered m n t g)
 
   pub asked-other : ask ≡ Other → t ≡ otherSubject s n m → t ≡ answerOf ask s n m
   asked-other h e = rw h e
