@@ -16,7 +16,7 @@ ghost use Rattle.decode.specs.Key.{decimalOf, datedKey, prefixed, shown,
 ghost use Rattle.merged.specs.Views.{spanIn, SpanInside, viewDirection};
 ghost use Rattle.decode.specs.Record.{maybe};
 ghost use Rattle.decode.specs.Written.{Added};
-ghost use Rattle.decode.specs.Entity.{Room, Short, Keyed, Filed};
+ghost use Rattle.decode.specs.Entity.{Room, Short, Keyed, Filed, Entered};
 ghost use Rattle.decode.specs.Index.{keyAt, keyIn, index, Sound, Settled, rankOf, inserted, remarked, three, laid, Lined, Noted};
 
 fn wide(x: u32) -> usize
@@ -391,4 +391,37 @@ pub fn file_incomplete(
 {
     let len = write_incomplete(keys, n, feed, s, t);
     settle(keys, marks, order, n, len, from, till)
+}
+
+// Every key of an entity goes into the index with its place, the dated one before its base.
+pub fn file_trip(
+    keys: &mut [u8],
+    marks: &mut [u32],
+    order: &mut [u32],
+    n: usize,
+    feed: &[u8],
+    s: &[u8],
+    t: Trip,
+    from: u32,
+    till: u32,
+) -> usize
+    requires { ⌜ Sound (now keys) (now marks) (now order) n ⌝ }
+    requires { ⌜ (n ≤ 2048) × (length (now feed) ≤ 16) ⌝ }
+    requires { ⌜ Short (now s) t ⌝ }
+    ensures { λ r. ⌜ Entered (now (feed .entry)) (now (s .entry)) t from till (now (keys .entry)) (now (marks .entry)) (now (order .entry)) n (now (keys .exit)) (now (marks .exit)) (now (order .exit)) r ⌝ }
+{
+    if t.id.len == 0 {
+        if t.route.len == 0 {
+            return n;
+        }
+        return file_incomplete(keys, marks, order, n, feed, s, t, from, till);
+    }
+    if t.date.len == 0 {
+        return file_base(keys, marks, order, n, s, t, from, till);
+    }
+    let m = file_dated(keys, marks, order, n, s, t, from, till);
+    if m > 2048 {
+        return m;
+    }
+    file_base(keys, marks, order, m, s, t, from, till)
 }
