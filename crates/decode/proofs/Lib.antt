@@ -1,4 +1,5 @@
 -- Lemmas on plain values.
+mod Applying
 mod Filing
 mod Gaps
 mod Ranks

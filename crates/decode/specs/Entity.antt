@@ -1,16 +1,20 @@
 -- What the code finds of an entity, and where its keys go. Assumes nothing: these are definitions.
-use Prim.Native.Nat.{ℕ, _*_, _≤_, _<_}
+use Prim.Native.Nat.{ℕ, _+_, _*_, _≤_, _<_}
 use mathlib.Core.Path.{_≡_}
 use mathlib.Core.List.{List, [], _∷_}
-use lib.ListN.{length, take}
-use Rattle.merged.specs.Views.{SpanInside, spanIn, viewDirection}
+use mathlib.Core.Option.{some}
+use lib.ListN.{length, take, drop}
+use Rattle.merged.specs.Views.{SpanInside, spanIn, viewDirection, trip}
+use Rattle.realtime.specs.Tree.{Tree, tree}
+use Rattle.realtime.specs.Schema.{feedEntity}
+use Rattle.realtime.specs.Schema as schema
 use Rattle.merged.specs.declared.Trip.{Trip}
 use Rattle.decode.specs.Map.{put, puts}
 use Rattle.decode.specs.Order.{texts}
 use Rattle.decode.specs.Index.{Place, keyIn, index, Sound}
 use Rattle.decode.specs.Trip as held
 use Rattle.decode.specs.Record.{maybe}
-use Rattle.decode.specs.Key.{inserts}
+use Rattle.decode.specs.Key.{inserts, entriesIn}
 use Rattle.decode.specs.Leaves.{Trips}
 
 -- the texts of an entity lie in the bytes, and are as long as question 5 lets them be
@@ -58,3 +62,25 @@ pub record Entered (feed s : List ℕ) (t : Trip) (from till : ℕ) (keys marks 
   pub sound : Sound keys′ marks′ order′ r
   pub few : r ≤ 2048 → (u : held.Trip) → Agrees s t u → index keys′ marks′ order′ r ≡ entered feed s t u (from, till) (index keys marks order n)
   pub many : 2048 < r → (u : held.Trip) → Agrees s t u → 2048 < length (entered feed s t u (from, till) (index keys marks order n))
+
+-- an entity that is not broken, with texts as long as question 5 lets them be
+pub record Fine (s : List ℕ) (start len : ℕ) : Type 0 where
+  pub entity : Tree
+  pub read : tree schema.feed feedEntity (take len (drop start s)) ≡ some entity
+  pub id : length (trip entity .id) ≤ 64
+  pub date : length (trip entity .date) ≤ 16
+  pub time : length (trip entity .time) ≤ 16
+  pub route : length (trip entity .route) ≤ 64
+
+-- the index after an entity's entries, with its place
+abbrev pub applied : List ℕ → Tree → Place → List (List ℕ × Place) → List (List ℕ × Place)
+applied feed e p m = puts texts (placed p (entriesIn feed e)) m
+
+-- an entity is applied: above 2,048 keys are too many, whatever follows
+pub record Applied (feed : List ℕ) (e : Tree) (from till : ℕ) (keys marks order : List ℕ) (n : ℕ) (keys′ marks′ order′ : List ℕ) (r : ℕ) : Type 0 where
+  pub few : r ≤ 2048 → index keys′ marks′ order′ r ≡ applied feed e (from, till) (index keys marks order n)
+  pub many : 2048 < r → 2048 < length (applied feed e (from, till) (index keys marks order n))
+
+pub record Applies (feed s : List ℕ) (start len : ℕ) (keys marks order : List ℕ) (n : ℕ) (keys′ marks′ order′ : List ℕ) (r : ℕ) : Type 0 where
+  pub sound : Sound keys′ marks′ order′ r
+  pub of : (e : Tree) → tree schema.feed feedEntity (take len (drop start s)) ≡ some e → Applied feed e start (start + len) keys marks order n keys′ marks′ order′ r

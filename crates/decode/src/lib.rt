@@ -16,7 +16,7 @@ ghost use Rattle.decode.specs.Key.{decimalOf, datedKey, prefixed, shown,
 ghost use Rattle.merged.specs.Views.{spanIn, SpanInside, viewDirection};
 ghost use Rattle.decode.specs.Record.{maybe};
 ghost use Rattle.decode.specs.Written.{Added};
-ghost use Rattle.decode.specs.Entity.{Room, Short, Keyed, Filed, Entered};
+ghost use Rattle.decode.specs.Entity.{Room, Short, Keyed, Filed, Entered, Fine, Applies};
 ghost use Rattle.decode.specs.Index.{keyAt, keyIn, index, Sound, Settled, rankOf, inserted, remarked, three, laid, Lined, Noted};
 
 fn wide(x: u32) -> usize
@@ -424,4 +424,29 @@ pub fn file_trip(
         return m;
     }
     file_base(keys, marks, order, m, s, t, from, till)
+}
+
+// An entity is applied: its keys go into the index with its place; a deleted one is passed over.
+pub fn apply(
+    keys: &mut [u8],
+    marks: &mut [u32],
+    order: &mut [u32],
+    n: usize,
+    feed: &[u8],
+    s: &[u8],
+    start: usize,
+    len: usize,
+) -> usize
+    requires { ⌜ Sound (now keys) (now marks) (now order) n ⌝ }
+    requires { ⌜ (n ≤ 2048) × (length (now feed) ≤ 16) ⌝ }
+    requires { ⌜ (start + len ≤ length (now s)) × (length (now s) ≤ 1048576) ⌝ }
+    requires { ⌜ Fine (now s) start len ⌝ }
+    ensures { λ r. ⌜ Applies (now (feed .entry)) (now (s .entry)) start len (now (keys .entry)) (now (marks .entry)) (now (order .entry)) n (now (keys .exit)) (now (marks .exit)) (now (order .exit)) r ⌝ }
+{
+    if merged::is_deleted(s, start, len) {
+        return n;
+    }
+    let t = merged::trip_of(s, start, len);
+    let end = start + len;
+    file_trip(keys, marks, order, n, feed, s, t, start as u32, end as u32)
 }

@@ -1,7 +1,6 @@
 use borrow.Author.Needs.{needs}
 -- `decode::file_trip`: no key, one key, or the dated one and then its base. Assumes nothing.
 use mathlib.Core.Path.{refl}
-use native.Mathlib.Omega.{arith}
 use Rattle.decode.proofs.Filing.{enters-none, enters-incomplete, enters-base, enters-over, enters-dated}
 use Rattle.decode.proofs.file_trip.Statement.{statement}
 use Rattle.decode.proofs.file_trip.Tie as tie
