@@ -1,0 +1,3 @@
+-- What the proofs of both functions use.
+mod Ends
+mod Numbers
