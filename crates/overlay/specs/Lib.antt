@@ -1,0 +1,14 @@
+pub mod State
+pub mod Valid
+pub mod Image
+pub mod Records
+pub mod Lookup
+pub mod Change
+pub mod Report
+pub mod Rules
+pub mod Buffer
+pub mod Keeps
+pub mod Kept
+pub mod Shown
+pub mod Fine
+pub mod Entries

@@ -1,0 +1,34 @@
+-- Which states are an overlay's (document 01, the end of "Questions before work"): questions 5 to 7 hold, keys ascend, each trip key is one that
+-- `insert_trip` gives for its record, the count is one of the two. Assumes nothing: these are definitions.
+use Prim.Native.Nat.{ℕ}
+use mathlib.Core.Bool.{Bool, _&&_, _||_}
+use mathlib.Core.List.{List}
+use lib.Dec.{eqb}
+use lib.ListN.{length}
+use Rattle.formats.specs.Class.{all}
+use Rattle.formats.specs.Format.{Format, Value}
+use Rattle.judging.specs.Judged.{ok}
+use Rattle.decode.specs.Trip.{Trip, updatesOf}
+use Rattle.decode.specs.Map.{ascending}
+use Rattle.decode.specs.Order.{texts, numbers}
+use Rattle.decode.specs.Key.{keyOk}
+use Rattle.decode.specs.Leaves as leaves
+use Rattle.overlay.specs.State.{Feed, State, overlay, tripsOf, vehiclesOf, countOf, feedsOf}
+
+abbrev pub tripValid : List ℕ → List ℕ × Trip → Bool
+tripValid f e = keyOk f (e .0) (e .1) && ascending numbers (updatesOf (e .1))
+
+-- the keys without '@', as after a message, or all keys, as after a vehicle sheet
+abbrev pub countValid : List ℕ → Feed → Bool
+countValid f F = eqb (countOf F) (leaves.countOf f (tripsOf F)) || eqb (countOf F) (length (tripsOf F))
+
+unfoldable pub feedValid : List ℕ × Feed → Bool
+feedValid (f, F) =
+    ascending texts (tripsOf F) && (all (tripValid f) (tripsOf F) && (ascending texts (vehiclesOf F) && countValid f F))
+
+-- questions 5, 6 and 7 of a value
+unfoldable pub within : (f : Format) → Value f → Bool
+within f v = ok 5 f v && (ok 6 f v && ok 7 f v)
+
+unfoldable pub valid : State → Bool
+valid s = within overlay s && (ascending texts (feedsOf s) && all feedValid (feedsOf s))

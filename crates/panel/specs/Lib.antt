@@ -1,0 +1,7 @@
+pub mod Outcome
+pub mod Questions
+pub mod Calls
+pub mod Book
+pub mod Gained
+pub mod Accepts
+pub mod History

@@ -1,0 +1,114 @@
+-- What each call gives: the questions of document 01 ("Questions before work") in their order, each put to the whole input, and what an accepted
+-- call writes. Assumes nothing: these are definitions.
+use Prim.Native.Nat.{ℕ}
+use mathlib.Core.Bool.{Bool, cond, _&&_}
+use mathlib.Core.List.{List, [], _∷_}
+use mathlib.Core.Option.{Option, none, some}
+use lib.IntN.{ℤ}
+use lib.Dec.{eqb, leb}
+use lib.ListN.{length}
+use Rattle.formats.specs.Class.{token}
+use Rattle.formats.specs.Format.{Format, text, Value, read, write}
+use Rattle.judging.specs.Judged.{ok}
+use Rattle.realtime.specs.Tree.{Tree, tree}
+use Rattle.realtime.specs.Schema.{feed}
+use Rattle.realtime.specs.Judge.{rules, textsFine, numbersFine}
+use Rattle.decode.specs.Trip.{instant}
+use Rattle.decode.specs.Map.{ascending}
+use Rattle.decode.specs.Order.{texts}
+use Rattle.alerts.specs.Text.{same}
+use Rattle.alerts.specs.Alert.{alertSheet}
+use Rattle.overlay.specs.State.{State, overlay, vehicleSheet, noState}
+use Rattle.overlay.specs.Image.{room, stateOf}
+use Rattle.overlay.specs.Records.{shown}
+use Rattle.overlay.specs.Change.{afterMessage, afterAlerts, afterVehicles}
+use Rattle.overlay.specs.Report as report
+use Rattle.journey.specs.Card.{card, cardOf, cardValue}
+use Rattle.journey.specs.Enrich.{enrich-with-realtime}
+use Rattle.panel.specs.Outcome.{Outcome, accepted, need, needSome}
+
+-- the lengths that docs/ publishes: of the overlay, of a card's output, and of each call's working buffers
+pub record Lengths : Type 0 where
+  pub overlay : ℕ
+  pub card : ℕ
+  pub messageWork : List ℕ
+  pub alertWork : List ℕ
+  pub vehicleWork : List ℕ
+  pub cardWork : List ℕ
+
+-- a value that ends at the last byte
+abbrev pub ended : {A : Type 0} → Option (A × List ℕ) → Option A
+ended none = none
+ended (some (v, [])) = some v
+ended (some (v, b ∷ s)) = none
+
+unfoldable pub whole : (f : Format) → List ℕ → Option (Value f)
+whole f s = ended (read f s)
+
+abbrev pub feedOk : List ℕ → Bool
+feedOk f = ok 5 (text 16 token) f
+
+-- question 1: the old overlay's, the output's and the working buffers' lengths
+abbrev pub lengthsOk : Lengths → List ℕ → ℕ → ℕ → List ℕ → List ℕ → Bool
+lengthsOk L old out due work workDue = eqb (length old) (L .overlay) && (eqb out due && same work workDue)
+
+-- question 2 opens the state; the questions that follow are put in its light
+abbrev pub opened : Lengths → List ℕ → ℕ → ℕ → List ℕ → List ℕ → (State → Outcome) → Outcome
+opened L old out due work workDue k = need (lengthsOk L old out due work workDue) 1 (needSome (stateOf old) 2 k)
+
+-- question 7 of a changed state, which has to have room in n bytes. At the published length there always is room (`valid-room`)
+abbrev pub changed : ℕ → State → Outcome
+changed n s = need (ok 7 overlay s && room n s) 7 (accepted (write overlay s))
+
+unfoldable pub freshOf : Lengths → ℕ → Outcome
+freshOf L new = need (eqb new (L .overlay)) 1 (accepted (write overlay noState))
+
+unfoldable pub treeOf : Lengths → List ℕ → State → Tree → Outcome
+treeOf L f s t = need (feedOk f && textsFine rules 0 t) 5 (need (numbersFine rules 0 t) 6 (changed (L .overlay) (afterMessage f t s)))
+
+unfoldable pub messageOf : Lengths → List ℕ → List ℕ → List ℕ → ℕ → List ℕ → Outcome
+messageOf L old f m new work =
+    opened L old new (L .overlay) work (L .messageWork) (λ s.
+    need (leb (length m) 1048576) 3 (needSome (tree feed 0 m) 4 (treeOf L f s)))
+
+unfoldable pub alertsOf : Lengths → List ℕ → State → Value alertSheet → Outcome
+alertsOf L f s v = need (feedOk f && ok 5 alertSheet v) 5 (changed (L .overlay) (afterAlerts f (v .1) s))
+
+unfoldable pub alertSheetOf : Lengths → List ℕ → List ℕ → List ℕ → ℕ → List ℕ → Outcome
+alertSheetOf L old f sheet new work =
+    opened L old new (L .overlay) work (L .alertWork) (λ s.
+    need (leb (length sheet) 1048576) 3 (needSome (whole alertSheet sheet) 4 (alertsOf L f s)))
+
+-- a vehicle sheet's keys ascend strictly: that is its form
+abbrev pub keysAscend : Option (Value vehicleSheet) → Option (Value vehicleSheet)
+keysAscend none = none
+keysAscend (some v) = cond (ascending texts (v .1)) (some v) none
+
+unfoldable pub vehiclesOf : Lengths → List ℕ → ℤ → State → Value vehicleSheet → Outcome
+vehiclesOf L f clock s v =
+    need (feedOk f && ok 5 vehicleSheet v) 5
+    (need (ok 6 vehicleSheet v && ok 6 instant clock) 6 (changed (L .overlay) (afterVehicles f (v .1) clock s)))
+
+unfoldable pub vehicleSheetOf : Lengths → List ℕ → List ℕ → List ℕ → ℤ → ℕ → List ℕ → Outcome
+vehicleSheetOf L old f sheet clock new work =
+    opened L old new (L .overlay) work (L .vehicleWork) (λ s.
+    need (leb (length sheet) 1048576) 3 (needSome (keysAscend (whole vehicleSheet sheet)) 4 (vehiclesOf L f clock s)))
+
+-- the finished card of an arriving one, by what the state shows
+unfoldable pub finished : State → Value card → Value card
+finished s v = cardValue (enrich-with-realtime (shown s) (cardOf v))
+
+unfoldable pub arrivingOf : Lengths → State → Value card → Outcome
+arrivingOf L s v =
+    need (ok 5 card v) 5
+    (need (ok 6 card v) 6
+    (need (ok 7 card v && ok 7 card (finished s v)) 7
+    (need (leb (length (write card (finished s v))) (L .card)) 8 (accepted (write card (finished s v))))))
+
+unfoldable pub cardCallOf : Lengths → List ℕ → List ℕ → ℕ → List ℕ → Outcome
+cardCallOf L old bytes out work =
+    opened L old out (L .card) work (L .cardWork) (λ s.
+    need (leb (length bytes) 65536) 3 (needSome (whole card bytes) 4 (arrivingOf L s)))
+
+unfoldable pub reportOf : Lengths → List ℕ → List ℕ → ℕ → Outcome
+reportOf L old f out = opened L old out 25 [] [] (λ s. need (feedOk f) 5 (accepted (report.report f s)))
