@@ -10,7 +10,7 @@ use lib.Dec.{leb, ltb}
 use lib.ListN.{length}
 use borrow.Author.Tests.{leb-true, ltb-true, le-leb, lt-leb}
 use Rattle.formats.specs.Law.{pick, none-some}
-use Rattle.formats.specs.Class.{Range, all, inside, trail, rows, due, begun, sequences, inClass, utf8}
+use Rattle.formats.specs.Class.{Range, all, inside, trail, rows, due, goesOn, sequences, inClass, utf8}
 use Rattle.alerts.specs.ListLaws.{false-true, or-true, and-true}
 use Rattle.alerts.specs.Label.{continues, characters, labelOf}
 
@@ -85,14 +85,15 @@ cut n [] [] t e = record { whole = refl; short = omega arith }
 cut n [] (r ∷ rest) t e = false-true e
 cut n (b ∷ s) [] t e = go (due rows b) refl e (λ m rest. cut m s rest)
   where
-    go : (o : Option (List Range)) → due rows b ≡ o → begun o (λ rest. sequences s rest) ≡ true
+    go : (o : Option (List Range)) → due rows b ≡ o → goesOn o (λ rest. sequences s rest) ≡ true
         → ((m : ℕ) (rest : List Range) → all trailing rest ≡ true → sequences s rest ≡ true → Cut m s rest) → Cut n (b ∷ s) []
     go none d h ih = false-true h
     go (some rest) d h ih = let l = due-leads rows b rest refl d in cut-first n b s rest d l (λ m. ih m rest (l .trails) h)
-cut n (b ∷ s) (r ∷ rest) t e =
-    let due-now = and-true {x = inside r b} e in
-    let ranges = and-true {x = trailing r} t in
-    cut-on n b s r rest (due-now .0) (due-goes-on r b (ranges .0) (due-now .0)) (cut n s rest (ranges .1) (due-now .1))
+cut n (b ∷ s) (r ∷ rest) t e = go (inside r b) refl e (λ f. cut n s rest (and-true {x = trailing r} t .1) f)
+  where
+    go : (i : Bool) → inside r b ≡ i → goesOn (pick i (some rest) none) (λ rest. sequences s rest) ≡ true → (sequences s rest ≡ true → Cut n s rest) → Cut n (b ∷ s) (r ∷ rest)
+    go true h e c = cut-on n b s r rest h (due-goes-on r b (and-true {x = trailing r} t .0) h) (c e)
+    go false h e c = false-true e
 
 -- a label is UTF-8 where the texts are, and at most 512 bytes long where the header is
 pub label-utf8 : (present : Bool) (h d : List ℕ) → inClass utf8 h ≡ true → inClass utf8 d ≡ true → inClass utf8 (labelOf present h d) ≡ true

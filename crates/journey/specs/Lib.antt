@@ -1,3 +1,5 @@
 pub mod Card
 pub mod Times
 pub mod Enrich
+pub mod Found
+pub mod Finished

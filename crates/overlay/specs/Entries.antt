@@ -40,7 +40,7 @@ FineIn t m = Fine feed rules t m
 
 -- ---- numbers by their types, whatever they are
 
-int32-judged : (n : ℕ) → Judged delay (int32 n)
+pub int32-judged : (n : ℕ) → Judged delay (int32 n)
 int32-judged n = record { formed = tt; five = refl; six = go (ltb (n % 2 ^ 32) (2 ^ 31)) refl }
   where
     m : ℕ
@@ -76,7 +76,7 @@ flag-judged f e m = go (lastNumber f m)
     go none = record { formed = omega arith; five = refl; six = refl }
     go (some n) = one (eqb (uint32 n) e)
 
-when-judged : {A : Type 0} (F : Format) (P : A → Type 0) (g : A → Value F) → ((a : A) → P a → Judged F (g a)) → (o : Option A) → Given feed rules P o → Judged (optional F) (when g o)
+when-judged : {A : Type 0} (F : Format) (P : A → Type 0) (g : A → Value F) → ((a : A) → P a → Judged F (g a)) → (o : Option A) → Given P o → Judged (optional F) (when g o)
 when-judged F P g h none x = absent F
 when-judged F P g h (some a) x = present F (g a) (h a x)
 
@@ -106,7 +106,7 @@ printable-class (b ∷ x) = ap (λ r. (leb 32 b && leb b 126) && r) (printable-c
 text-printed : (t f l : ℕ) (m : Tree) → limit t f ≡ l → FineIn t m → Printed l (textAt f m)
 text-printed t f l m e x = go (lastText f m) (fine-text feed rules t f m x)
   where
-    go : (o : Option (List ℕ)) → Given feed rules (λ s. textRule t f s ≡ true) o → Printed l (ifGiven [] (λ s. s) o)
+    go : (o : Option (List ℕ)) → Given (λ s. textRule t f s ≡ true) o → Printed l (ifGiven [] (λ s. s) o)
     go none h = record { short = omega arith; fair = refl }
     go (some s) h =
         let q = both-true (leb (length s) (limit t f)) (judge.printable s) h in

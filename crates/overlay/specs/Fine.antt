@@ -78,6 +78,11 @@ module _ (σ : Schema) where
   nested zero t s m e = none-some e
   nested (suc fuel) t s m e = let (l, a, b) = bind-some (fields s) (build (nest σ fuel) (σ t)) m e in built (nest σ fuel) (nested fuel) t l m b
 
+-- a fact on what is there
+abbrev pub Given : {A : Type 0} → (A → Type 0) → Option A → Type 0
+Given P none = Unit {0}
+Given P (some a) = P a
+
 module _ (σ : Schema) (ρ : Rules) where
   judged-fine : (t : ℕ) (m : Tree) → Typed σ t m → textsFine ρ t m ≡ true → numbersFine ρ t m ≡ true → Fine σ ρ t m
   judged-fine t end k a b = tt
@@ -131,10 +136,6 @@ module _ (σ : Schema) (ρ : Rules) where
         go false e h = h
 
   -- the last number and the last text of a field
-  abbrev pub Given : {A : Type 0} → (A → Type 0) → Option A → Type 0
-  Given P none = Unit {0}
-  Given P (some a) = P a
-
   later : {A : Type 0} (P : A → Type 0) (o : Option A) (b : Bool) (a : A) → Given P o → (b ≡ true → P a) → Given P (orElse o (choose b (some a) none))
   later P none true a x h = h refl
   later P none false a x h = tt

@@ -12,7 +12,7 @@ use lib.ListN.{length}
 use borrow.Author.Tests.{le-leb, eqb-true, eq-eqb}
 use Rattle.formats.specs.Law.{All}
 use Rattle.formats.specs.Class.{all, token}
-use Rattle.formats.specs.Format.{text, number, list, optional, _&_, Fits}
+use Rattle.formats.specs.Format.{text, number, list, optional, _&_, write, Fits}
 use Rattle.judging.specs.Judged.{ok}
 use Rattle.overlay.specs.Rules.{Judged, left, right, joined, elements, listed, absent, few, counted, both-true, and-true, fits-of}
 use Rattle.realtime.specs.Tree.{Tree, rep}
@@ -23,9 +23,10 @@ use Rattle.decode.specs.Trip.{Maybe, Trip}
 use Rattle.decode.specs.Leaves as leaves
 use Rattle.alerts.specs.Alert.{Alert, alert}
 use Rattle.overlay.specs.State.{Feed, State, Vehicles, timestamp, tripEntry, vehicleEntry, feedEntry, overlay, timestampOf, countOf, tripsOf, vehiclesOf, alertsOf, versionOf, feedsOf, noFeed}
+use Rattle.overlay.specs.Image.{room}
 use Rattle.overlay.specs.Valid.{tripValid, countValid, feedValid, within, valid}
 use Rattle.overlay.specs.Change.{feedAt, putFeed, latest, afterMessage, afterAlerts, afterVehicles}
-use Rattle.overlay.specs.Buffer.{valid-rules}
+use Rattle.overlay.specs.Buffer.{valid-rules, published, valid-room}
 use Rattle.overlay.specs.Keeps.{each-of, all-of, each-map, each-both, each-put, each-puts, get-each, each-stale, stale-ascending}
 
 -- ---- what is kept of each part
@@ -132,6 +133,11 @@ valid-of s k h =
       fits-of overlay refl s j h,
       and-true (and-true (j .five) (and-true (j .six) h)) (and-true (k .up) (all-of feedValid (feedsOf s) (each-map feed-valid (feedsOf s) (k .feeds)))),
     )
+
+-- at the published length such a state has room: question 7 counts there, and no more
+pub kept-room : (s : State) → StateKept s → ok 7 overlay s ≡ true → room published s ≡ true
+unfolding room
+kept-room s k h = let v = valid-of s k h in le-leb (length (write overlay s)) published (valid-room s (v .0) (v .1))
 
 -- ---- each change keeps
 

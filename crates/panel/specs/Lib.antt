@@ -5,3 +5,5 @@ pub mod Book
 pub mod Gained
 pub mod Accepts
 pub mod History
+pub mod Rides
+pub mod Again

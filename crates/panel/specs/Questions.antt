@@ -56,7 +56,7 @@ lengthsOk L old out due work workDue = eqb (length old) (L .overlay) && (eqb out
 abbrev pub opened : Lengths → List ℕ → ℕ → ℕ → List ℕ → List ℕ → (State → Outcome) → Outcome
 opened L old out due work workDue k = need (lengthsOk L old out due work workDue) 1 (needSome (stateOf old) 2 k)
 
--- question 7 of a changed state, which has to have room in n bytes. At the published length there always is room (`valid-room`)
+-- question 7 of a changed state, which has to have room in n bytes. At the published length there always is room (`kept-room`)
 abbrev pub changed : ℕ → State → Outcome
 changed n s = need (ok 7 overlay s && room n s) 7 (accepted (write overlay s))
 
