@@ -1,0 +1,6 @@
+-- Lemmas on plain values.
+mod Reader
+mod Stops
+mod Signed
+mod Typing
+mod Walking

@@ -1,0 +1,19 @@
+-- `merged::direction_of` meets its contract, by the kind of the scalar. Assumes nothing.
+use borrow.Author.Needs.{needs}
+use mathlib.Core.Path.{sym, ap, _∙_}
+use Rattle.merged.specs.Narrow.{toDirection}
+use Rattle.merged.specs.declared.Direction.{Direction}
+use Rattle.merged.proofs.direction_of.Statement.{statement}
+use Rattle.merged.proofs.direction_of.Tie as tie
+
+pub direction-of-spec : {M : Type 1} → statement M
+direction-of-spec =
+    tie.close
+    (tie.spec
+    (λ c. search needs)
+    (λ c κs. search needs)
+    (λ c. search needs)
+    (λ c. search needs)
+    (λ c. ap Direction.Given (c .uint32 .ensures) ∙ ap toDirection (sym (c .before .before .x .given .1)))
+    (λ c. search needs)
+    (λ c. search needs))

@@ -1,0 +1,85 @@
+-- The code's typed answers of a scalar, by its constructors. Assumes nothing: these are definitions.
+use Prim.Native.Nat.{ℕ}
+use mathlib.Core.Bool.{Bool, false}
+use lib.Dec.{eqb}
+use Rattle.merged.specs.Typed.{uint32, int32, int64, bool, enum}
+use Rattle.merged.specs.declared.Scalar.{Scalar}
+use Rattle.merged.specs.declared.Span.{Span}
+use Rattle.merged.specs.declared.Timestamp.{Timestamp}
+use Rattle.merged.specs.declared.Direction.{Direction}
+use Rattle.merged.specs.declared.Delay.{Delay}
+use Rattle.merged.specs.declared.Time.{Time}
+use Rattle.merged.specs.declared.Scalars.{Scalars}
+use Rattle.merged.specs.declared.StopScalars.{StopScalars}
+use Rattle.merged.specs.declared.Header.{Header}
+use Rattle.merged.specs.declared.Trip.{Trip}
+use Rattle.merged.specs.declared.Event.{Event}
+use Rattle.merged.specs.declared.StopUpdate.{StopUpdate}
+
+abbrev pub toSpan : Scalar → Span
+toSpan (Scalar.Number n) = record { start = 0; len = 0 }
+toSpan (Scalar.Text i l) = record { start = i; len = l }
+toSpan Scalar.Nothing = record { start = 0; len = 0 }
+
+abbrev pub toTimestamp : Scalar → Timestamp
+toTimestamp (Scalar.Number n) = Timestamp.Given n
+toTimestamp (Scalar.Text i l) = Timestamp.Absent
+toTimestamp Scalar.Nothing = Timestamp.Absent
+
+abbrev pub toDirection : Scalar → Direction
+toDirection (Scalar.Number n) = Direction.Given (uint32 n)
+toDirection (Scalar.Text i l) = Direction.Absent
+toDirection Scalar.Nothing = Direction.Absent
+
+abbrev pub toDelay : Scalar → Delay
+toDelay (Scalar.Number n) = Delay.Given (int32 n)
+toDelay (Scalar.Text i l) = Delay.Absent
+toDelay Scalar.Nothing = Delay.Absent
+
+abbrev pub toTime : Scalar → Time
+toTime (Scalar.Number n) = Time.Given (int64 n)
+toTime (Scalar.Text i l) = Time.Absent
+toTime Scalar.Nothing = Time.Absent
+
+abbrev pub toSequence : Scalar → ℕ
+toSequence (Scalar.Number n) = uint32 n
+toSequence (Scalar.Text i l) = 0
+toSequence Scalar.Nothing = 0
+
+abbrev pub toBool : Scalar → Bool
+toBool (Scalar.Number n) = bool n
+toBool (Scalar.Text i l) = false
+toBool Scalar.Nothing = false
+
+-- the enum's value is v
+abbrev pub isValue : ℕ → Scalar → Bool
+isValue v (Scalar.Number n) = eqb (enum n) v
+isValue v (Scalar.Text i l) = false
+isValue v Scalar.Nothing = false
+
+-- the answers of the scalars of a message
+abbrev pub toHeader : Scalars → Header
+toHeader h = record { differential = isValue 1 (h .f2); timestamp = toTimestamp (h .f3) }
+
+abbrev pub toTrip : Scalars → Scalars → Trip
+toTrip d u = record {
+  id = toSpan (d .f1);
+  time = toSpan (d .f2);
+  date = toSpan (d .f3);
+  route = toSpan (d .f5);
+  cancelled = isValue 3 (d .f4);
+  direction = toDirection (d .f6);
+  delay = toDelay (u .f5);
+}
+
+abbrev pub toEvent : Scalars → Event
+toEvent e = record { delay = toDelay (e .f1); time = toTime (e .f2) }
+
+abbrev pub toStop : StopScalars → StopUpdate
+toStop r = record {
+  sequence = toSequence (r .stop .f1);
+  stop = toSpan (r .stop .f4);
+  arrival = toEvent (r .arrival);
+  departure = toEvent (r .departure);
+  skipped = isValue 1 (r .stop .f5);
+}

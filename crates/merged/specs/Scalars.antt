@@ -1,0 +1,161 @@
+-- The last scalars of a message, by their fields, along a path of messages of which all occurrences are merged. Assumes nothing.
+use Prim.Native.Nat.{ℕ, zero, suc, _+_, _≤_}
+use mathlib.Core.Path.{_≡_, refl, ap, _∙_}
+use mathlib.Core.List.{List, [], _∷_}
+use mathlib.Core.Bool.{Bool, true, false}
+use mathlib.Core.Option.{Option, none, some}
+use native.Mathlib.Omega.{arith}
+use lib.Dec.{eqb}
+use lib.ListN.{length, take, drop}
+use Rattle.wire.specs.Wire.{choose}
+use Rattle.realtime.specs.Tree.{Schema, Tree, end, num, txt, msg, orElse, Leaf, count, words, last, sub, tree}
+use Rattle.merged.specs.Fold.{Takes, folded, inside, inside-sub}
+use Rattle.realtime.specs.Schema.{stopTimeUpdate}
+use Rattle.merged.specs.Reading.{Lens, Reads, front-part}
+use Rattle.merged.specs.declared.Scalar.{Scalar}
+use Rattle.merged.specs.declared.Scalars.{Scalars}
+use Rattle.merged.specs.declared.StopScalars.{StopScalars}
+
+-- what a scalar of the code says of the bytes, and where it lies
+abbrev pub said : List ℕ → Scalar → Option Leaf
+said s (Scalar.Number n) = some (count n)
+said s (Scalar.Text i l) = some (words (take l (drop i s)))
+said s Scalar.Nothing = none
+
+abbrev pub Lying : ℕ → Scalar → Type 0
+Lying n (Scalar.Number k) = Unit {0}
+Lying n (Scalar.Text i l) = i + l ≤ n
+Lying n Scalar.Nothing = Unit {0}
+
+lying-far : (n m : ℕ) (d : Scalar) → n ≤ m → Lying n d → Lying m d
+lying-far n m (Scalar.Number k) h l = tt
+lying-far n m (Scalar.Text i k) h l = omega arith
+lying-far n m Scalar.Nothing h l = tt
+
+said-front : (s : List ℕ) (n : ℕ) (d : Scalar) → n ≤ length s → Lying n d → said (take n s) d ≡ said s d
+said-front s n (Scalar.Number k) h l = refl
+said-front s n (Scalar.Text i k) h l = ap (λ x. some (words x)) (front-part s n i k l h)
+said-front s n Scalar.Nothing h l = refl
+
+-- the fields of the code's scalars, and their numbers
+pub data Slot : Type 0 where
+  one : Slot
+  two : Slot
+  three : Slot
+  four : Slot
+  five : Slot
+  six : Slot
+
+abbrev pub fieldOf : Slot → ℕ
+fieldOf one = 1
+fieldOf two = 2
+fieldOf three = 3
+fieldOf four = 4
+fieldOf five = 5
+fieldOf six = 6
+
+abbrev pub at : Scalars → Slot → Scalar
+at d one = d .f1
+at d two = d .f2
+at d three = d .f3
+at d four = d .f4
+at d five = d .f5
+at d six = d .f6
+
+abbrev pub Lasts : Type 0
+Lasts = Slot → Option Leaf
+
+abbrev pub nothing : Lasts
+nothing i = none
+
+-- as an answer that has positions. The laws above are the lens's
+pub scalars-far : (n m : ℕ) (d : Scalars) → n ≤ m → ((i : Slot) → Lying n (at d i)) → (i : Slot) → Lying m (at d i)
+scalars-far n m d h l i = lying-far n m (at d i) h (l i)
+
+pub scalars-front : (s : List ℕ) (n : ℕ) (d : Scalars) → n ≤ length s → ((i : Slot) → Lying n (at d i)) → _≡_ {A = Lasts} (λ i. said (take n s) (at d i)) (λ i. said s (at d i))
+scalars-front s n d h l = λ j i. said-front s n (at d i) h (l i) j
+
+abbrev pub scalars : Lens Scalars Lasts
+scalars = record { look = λ s d i. said s (at d i); In = λ n d. (i : Slot) → Lying n (at d i); far = scalars-far; front = scalars-front }
+
+-- the scalar x is kept at its field f
+abbrev pub kept : Scalars → ℕ → Scalar → Scalars
+kept d f x = record {
+  f1 = choose (eqb f 1) x (d .f1);
+  f2 = choose (eqb f 2) x (d .f2);
+  f3 = choose (eqb f 3) x (d .f3);
+  f4 = choose (eqb f 4) x (d .f4);
+  f5 = choose (eqb f 5) x (d .f5);
+  f6 = choose (eqb f 6) x (d .f6);
+}
+
+pub kept-at : (d : Scalars) (f : ℕ) (x : Scalar) (i : Slot) → at (kept d f x) i ≡ choose (eqb f (fieldOf i)) x (at d i)
+kept-at d f x one = refl
+kept-at d f x two = refl
+kept-at d f x three = refl
+kept-at d f x four = refl
+kept-at d f x five = refl
+kept-at d f x six = refl
+
+abbrev pub blank : Scalars
+blank = record { f1 = Scalar.Nothing; f2 = Scalar.Nothing; f3 = Scalar.Nothing; f4 = Scalar.Nothing; f5 = Scalar.Nothing; f6 = Scalar.Nothing }
+
+-- how the fields of a message are taken, one after the other, and those along a path of messages
+abbrev pub own : Takes Lasts
+own = record {
+  number = λ v f n i. choose (eqb f (fieldOf i)) (some (count n)) (v i);
+  text = λ v f x i. choose (eqb f (fieldOf i)) (some (words x)) (v i);
+  message = λ v f m. v;
+}
+
+abbrev pub takesAlong : List ℕ → Takes Lasts
+takesAlong [] = own
+takesAlong (p ∷ ps) = inside p (takesAlong ps)
+
+-- the fields along a path of messages, those at each field joined
+abbrev pub along : List ℕ → Tree → Tree
+along [] t = t
+along (p ∷ ps) t = along ps (sub p t)
+
+-- a path as the code has it: its length, and two fields at most
+abbrev pub path : ℕ → ℕ → ℕ → List ℕ
+path zero a b = []
+path (suc n) a b = a ∷ path n b 0
+
+or-later : {A : Type 0} (o : Option A) (b : Bool) (n : A) (p : Option A) → orElse o (choose b (some n) p) ≡ orElse (orElse o (choose b (some n) none)) p
+or-later none true n p = refl
+or-later none false n p = refl
+or-later (some x) b n p = refl
+
+or-none : {A : Type 0} (o : Option A) → orElse o none ≡ o
+or-none none = refl
+or-none (some a) = refl
+
+own-last : (v : Lasts) (t : Tree) → folded own v t ≡ (λ i. orElse (last (fieldOf i) t) (v i))
+own-last v end = refl
+own-last v (num g n t) =
+    own-last (λ i. choose (eqb g (fieldOf i)) (some (count n)) (v i)) t ∙ λ j i. or-later (last (fieldOf i) t) (eqb g (fieldOf i)) (count n) (v i) j
+own-last v (txt g x t) =
+    own-last (λ i. choose (eqb g (fieldOf i)) (some (words x)) (v i)) t ∙ λ j i. or-later (last (fieldOf i) t) (eqb g (fieldOf i)) (words x) (v i) j
+own-last v (msg g k m t) = own-last v t
+
+-- THE LAW OF MERGING: one after the other is the last of the joined
+pub along-last : (ps : List ℕ) (t : Tree) → folded (takesAlong ps) nothing t ≡ (λ i. last (fieldOf i) (along ps t))
+along-last [] t = own-last nothing t ∙ λ j i. or-none (last (fieldOf i) t) j
+along-last (p ∷ ps) t = inside-sub p (takesAlong ps) nothing t ∙ along-last ps (sub p t)
+
+-- THE ANSWER r for the message of type t in the l bytes at i of s: where it is not broken, its last scalars along the path. What they say lies in s
+pub record Lasting (σ : Schema) (t : ℕ) (s : List ℕ) (i l : ℕ) (ps : List ℕ) (r : Scalars) : Type 0 where
+  pub of : (m : Tree) → tree σ t (take l (drop i s)) ≡ some m → (k : Slot) → said s (at r k) ≡ last (fieldOf k) (along ps m)
+  pub within : (k : Slot) → Lying (length s) (at r k)
+
+-- the same of a stop_time_update, its arrivals, 2, and its departures, 3
+pub record StopLasting (σ : Schema) (s : List ℕ) (i l : ℕ) (r : StopScalars) : Type 0 where
+  pub stop : Lasting σ stopTimeUpdate s i l [] (r .stop)
+  pub arrival : Lasting σ stopTimeUpdate s i l (2 ∷ []) (r .arrival)
+  pub departure : Lasting σ stopTimeUpdate s i l (3 ∷ []) (r .departure)
+
+pub record StopReads (σ : Schema) (s : List ℕ) (from : ℕ) (r : StopScalars) : Type 0 where
+  pub stop : Reads scalars own σ stopTimeUpdate s from blank (r .stop)
+  pub arrival : Reads scalars (takesAlong (2 ∷ [])) σ stopTimeUpdate s from blank (r .arrival)
+  pub departure : Reads scalars (takesAlong (3 ∷ [])) σ stopTimeUpdate s from blank (r .departure)

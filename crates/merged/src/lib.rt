@@ -1,0 +1,692 @@
+// The merged messages of a feed, read after the validator: a broken message is answered with anything.
+use realtime::FEED_ENTITY;
+use realtime::FEED_MESSAGE;
+use realtime::STOP_TIME_UPDATE;
+use realtime::Step;
+use realtime::TRIP_UPDATE;
+use realtime::next;
+ghost use mathlib.Core.Path.{_≡_};
+ghost use Prim.Native.Nat.{_+_, _≤_};
+ghost use lib.ListN.{length};
+ghost use Rattle.realtime.specs.Schema.{feed};
+ghost use Rattle.merged.specs.Reading.{Ready, Reads};
+ghost use Rattle.merged.specs.Scalars.{Lasting, StopLasting, StopReads, blank, kept, own, path, scalars, takesAlong};
+ghost use Rattle.merged.specs.Narrow.{isValue, toBool, toDelay, toDirection, toEvent, toHeader, toSequence, toSpan, toStop, toTime, toTimestamp, toTrip};
+ghost use Rattle.merged.specs.Typed as typed;
+ghost use Rattle.merged.specs.Walks.{NextEntity, NextUpdate, Sound, Walks, Yields, typeOf};
+ghost use Rattle.merged.specs.Starts.{atMerged, atPlain};
+ghost use Rattle.merged.specs.Views.{DeletedRead, HeaderRead, StopRead, TripRead};
+
+// The values of the enums that count.
+const DIFFERENTIAL: u64 = 1;
+
+const CANCELED: u64 = 3;
+
+const SKIPPED: u64 = 1;
+
+// The last value of a field: of a text, where it stands.
+pub enum Scalar {
+    Number(u64),
+    Text { start: usize, len: usize },
+    Nothing,
+}
+
+// The last value of each field of a message. No listed scalar has a number above 6.
+pub struct Scalars {
+    pub f1: Scalar,
+    pub f2: Scalar,
+    pub f3: Scalar,
+    pub f4: Scalar,
+    pub f5: Scalar,
+    pub f6: Scalar,
+}
+
+fn nothing() -> Scalars
+    ensures { λ r. ⌜ r ≡ blank ⌝ }
+{
+    Scalars {
+        f1: Scalar::Nothing,
+        f2: Scalar::Nothing,
+        f3: Scalar::Nothing,
+        f4: Scalar::Nothing,
+        f5: Scalar::Nothing,
+        f6: Scalar::Nothing,
+    }
+}
+
+fn keep(d: Scalars, field: u64, x: Scalar) -> Scalars
+    ensures { λ r. ⌜ r ≡ kept d field x ⌝ }
+{
+    let f1 = d.f1;
+    let f2 = d.f2;
+    let f3 = d.f3;
+    let f4 = d.f4;
+    let f5 = d.f5;
+    let f6 = d.f6;
+    match field {
+        1 => Scalars {
+            f1: x,
+            f2,
+            f3,
+            f4,
+            f5,
+            f6,
+        },
+        2 => Scalars {
+            f1,
+            f2: x,
+            f3,
+            f4,
+            f5,
+            f6,
+        },
+        3 => Scalars {
+            f1,
+            f2,
+            f3: x,
+            f4,
+            f5,
+            f6,
+        },
+        4 => Scalars {
+            f1,
+            f2,
+            f3,
+            f4: x,
+            f5,
+            f6,
+        },
+        5 => Scalars {
+            f1,
+            f2,
+            f3,
+            f4,
+            f5: x,
+            f6,
+        },
+        6 => Scalars {
+            f1,
+            f2,
+            f3,
+            f4,
+            f5,
+            f6: x,
+        },
+        _ => d,
+    }
+}
+
+// The last values of a message's own fields, from `from` to the end, over what is known already.
+fn over_message(s: &[u8], from: usize, message: u64, before: Scalars) -> Scalars
+    requires { ⌜ Ready scalars (now s) from before ⌝ }
+    ensures { λ r. ⌜ Reads scalars own feed message (now (s .entry)) from before r ⌝ }
+{
+    let mut at = from;
+    let mut d = before;
+    loop {
+        match next(s, at, message) {
+            Step::Broken => return d,
+            Step::End => return d,
+            Step::Number {
+                field,
+                value,
+                next: after,
+            } => {
+                d = keep(d, field, Scalar::Number(value));
+                at = after;
+            }
+            Step::Text {
+                field,
+                start,
+                len,
+                next: after,
+            } => {
+                d = keep(d, field, Scalar::Text { start, len });
+                at = after;
+            }
+            Step::Message {
+                field: _,
+                message: _,
+                start: _,
+                len: _,
+                next: after,
+            } => {
+                at = after;
+            }
+        }
+    }
+}
+
+// The same of the messages at a path of fields below: of length `depth`, `a` and then `b`.
+fn over_path(
+    s: &[u8],
+    from: usize,
+    message: u64,
+    depth: usize,
+    a: u64,
+    b: u64,
+    before: Scalars,
+) -> Scalars
+    requires { ⌜ Ready scalars (now s) from before ⌝ }
+    ensures { λ r. ⌜ Reads scalars (takesAlong (path depth a b)) feed message (now (s .entry)) from before r ⌝ }
+{
+    if depth == 0 {
+        return over_message(s, from, message, before);
+    }
+    let mut at = from;
+    let mut d = before;
+    loop {
+        match next(s, at, message) {
+            Step::Broken => return d,
+            Step::End => return d,
+            Step::Number {
+                field: _,
+                value: _,
+                next: after,
+            } => {
+                at = after;
+            }
+            Step::Text {
+                field: _,
+                start: _,
+                len: _,
+                next: after,
+            } => {
+                at = after;
+            }
+            Step::Message {
+                field,
+                message: inner,
+                start,
+                len: _,
+                next: after,
+            } => {
+                if field == a {
+                    d = over_path(wire::part(s, 0, after), start, inner, depth - 1, b, 0, d);
+                }
+                at = after;
+            }
+        }
+    }
+}
+
+// The last values along a path of messages, all occurrences of each merged, of the message that stands in `len` bytes at `start`.
+fn lasts(s: &[u8], start: usize, len: usize, message: u64, depth: usize, a: u64, b: u64) -> Scalars
+    requires { ⌜ start + len ≤ length (now s) ⌝ }
+    ensures { λ r. ⌜ Lasting feed message (now (s .entry)) start len (path depth a b) r ⌝ }
+{
+    over_path(
+        wire::part(s, 0, start + len),
+        start,
+        message,
+        depth,
+        a,
+        b,
+        nothing(),
+    )
+}
+
+// Of a stop_time_update: its own last values, those of its arrivals and those of its departures.
+pub struct StopScalars {
+    pub stop: Scalars,
+    pub arrival: Scalars,
+    pub departure: Scalars,
+}
+
+// In one walk from `from` to the end.
+fn over_stop(s: &[u8], from: usize) -> StopScalars
+    requires { ⌜ from ≤ length (now s) ⌝ }
+    ensures { λ r. ⌜ StopReads feed (now (s .entry)) from r ⌝ }
+{
+    let mut at = from;
+    let mut stop = nothing();
+    let mut arrival = nothing();
+    let mut departure = nothing();
+    loop {
+        match next(s, at, STOP_TIME_UPDATE) {
+            Step::Broken => {
+                return StopScalars {
+                    stop,
+                    arrival,
+                    departure,
+                };
+            }
+            Step::End => {
+                return StopScalars {
+                    stop,
+                    arrival,
+                    departure,
+                };
+            }
+            Step::Number {
+                field,
+                value,
+                next: after,
+            } => {
+                stop = keep(stop, field, Scalar::Number(value));
+                at = after;
+            }
+            Step::Text {
+                field,
+                start,
+                len,
+                next: after,
+            } => {
+                stop = keep(stop, field, Scalar::Text { start, len });
+                at = after;
+            }
+            Step::Message {
+                field,
+                message: inner,
+                start,
+                len: _,
+                next: after,
+            } => {
+                if field == 2 {
+                    arrival = over_message(wire::part(s, 0, after), start, inner, arrival);
+                } else if field == 3 {
+                    departure = over_message(wire::part(s, 0, after), start, inner, departure);
+                }
+                at = after;
+            }
+        }
+    }
+}
+
+fn stop_lasts(s: &[u8], start: usize, len: usize) -> StopScalars
+    requires { ⌜ start + len ≤ length (now s) ⌝ }
+    ensures { λ r. ⌜ StopLasting feed (now (s .entry)) start len r ⌝ }
+{
+    over_stop(wire::part(s, 0, start + len), start)
+}
+
+// Where a text stands. An absent text is empty.
+pub struct Span {
+    pub start: usize,
+    pub len: usize,
+}
+
+pub enum Timestamp {
+    Given(u64),
+    Absent,
+}
+
+pub enum Direction {
+    Given(u32),
+    Absent,
+}
+
+// In seconds.
+pub enum Delay {
+    Given(i32),
+    Absent,
+}
+
+// Seconds since 1970 UTC.
+pub enum Time {
+    Given(i64),
+    Absent,
+}
+
+pub struct Header {
+    pub differential: bool,
+    pub timestamp: Timestamp,
+}
+
+pub struct Trip {
+    pub id: Span,
+    pub time: Span,
+    pub date: Span,
+    pub route: Span,
+    pub cancelled: bool,
+    pub direction: Direction,
+    pub delay: Delay,
+}
+
+pub struct Event {
+    pub delay: Delay,
+    pub time: Time,
+}
+
+pub struct StopUpdate {
+    pub sequence: u32,
+    pub stop: Span,
+    pub arrival: Event,
+    pub departure: Event,
+    pub skipped: bool,
+}
+
+fn uint32(n: u64) -> u32
+    ensures { λ r. ⌜ r ≡ typed.uint32 n ⌝ }
+{
+    (n % 4294967296) as u32
+}
+
+fn int32(n: u64) -> i32
+    ensures { λ r. ⌜ r ≡ typed.int32 n ⌝ }
+{
+    let low = n % 4294967296;
+    if low < 2147483648 {
+        return low as i32;
+    }
+    -1 - ((4294967295 - low) as i32)
+}
+
+fn int64(n: u64) -> i64
+    ensures { λ r. ⌜ r ≡ typed.int64 n ⌝ }
+{
+    if n < 9223372036854775808 {
+        return n as i64;
+    }
+    -1 - ((18446744073709551615 - n) as i64)
+}
+
+fn span_of(x: Scalar) -> Span
+    ensures { λ r. ⌜ r ≡ toSpan x ⌝ }
+{
+    match x {
+        Scalar::Text { start, len } => Span { start, len },
+        Scalar::Number(_) => Span { start: 0, len: 0 },
+        Scalar::Nothing => Span { start: 0, len: 0 },
+    }
+}
+
+fn timestamp_of(x: Scalar) -> Timestamp
+    ensures { λ r. ⌜ r ≡ toTimestamp x ⌝ }
+{
+    match x {
+        Scalar::Number(n) => Timestamp::Given(n),
+        Scalar::Text { start: _, len: _ } => Timestamp::Absent,
+        Scalar::Nothing => Timestamp::Absent,
+    }
+}
+
+fn direction_of(x: Scalar) -> Direction
+    ensures { λ r. ⌜ r ≡ toDirection x ⌝ }
+{
+    match x {
+        Scalar::Number(n) => Direction::Given(uint32(n)),
+        Scalar::Text { start: _, len: _ } => Direction::Absent,
+        Scalar::Nothing => Direction::Absent,
+    }
+}
+
+fn delay_of(x: Scalar) -> Delay
+    ensures { λ r. ⌜ r ≡ toDelay x ⌝ }
+{
+    match x {
+        Scalar::Number(n) => Delay::Given(int32(n)),
+        Scalar::Text { start: _, len: _ } => Delay::Absent,
+        Scalar::Nothing => Delay::Absent,
+    }
+}
+
+fn time_of(x: Scalar) -> Time
+    ensures { λ r. ⌜ r ≡ toTime x ⌝ }
+{
+    match x {
+        Scalar::Number(n) => Time::Given(int64(n)),
+        Scalar::Text { start: _, len: _ } => Time::Absent,
+        Scalar::Nothing => Time::Absent,
+    }
+}
+
+fn sequence_of(x: Scalar) -> u32
+    ensures { λ r. ⌜ r ≡ toSequence x ⌝ }
+{
+    match x {
+        Scalar::Number(n) => uint32(n),
+        Scalar::Text { start: _, len: _ } => 0,
+        Scalar::Nothing => 0,
+    }
+}
+
+fn bool_of(x: Scalar) -> bool
+    ensures { λ r. ⌜ r ≡ toBool x ⌝ }
+{
+    match x {
+        Scalar::Number(n) => n != 0,
+        Scalar::Text { start: _, len: _ } => false,
+        Scalar::Nothing => false,
+    }
+}
+
+fn is_value(v: u64, x: Scalar) -> bool
+    ensures { λ r. ⌜ r ≡ isValue v x ⌝ }
+{
+    match x {
+        Scalar::Number(n) => n % 4294967296 == v,
+        Scalar::Text { start: _, len: _ } => false,
+        Scalar::Nothing => false,
+    }
+}
+
+fn header_from(h: Scalars) -> Header
+    ensures { λ r. ⌜ r ≡ toHeader h ⌝ }
+{
+    let incrementality = h.f2;
+    let timestamp = h.f3;
+    Header {
+        differential: is_value(DIFFERENTIAL, incrementality),
+        timestamp: timestamp_of(timestamp),
+    }
+}
+
+// The trip of a descriptor's scalars and of those of its trip_update.
+fn trip_from(d: Scalars, u: Scalars) -> Trip
+    ensures { λ r. ⌜ r ≡ toTrip d u ⌝ }
+{
+    let id = d.f1;
+    let time = d.f2;
+    let date = d.f3;
+    let relationship = d.f4;
+    let route = d.f5;
+    let direction = d.f6;
+    let delay = u.f5;
+    Trip {
+        id: span_of(id),
+        time: span_of(time),
+        date: span_of(date),
+        route: span_of(route),
+        cancelled: is_value(CANCELED, relationship),
+        direction: direction_of(direction),
+        delay: delay_of(delay),
+    }
+}
+
+fn event_from(e: Scalars) -> Event
+    ensures { λ r. ⌜ r ≡ toEvent e ⌝ }
+{
+    let delay = e.f1;
+    let time = e.f2;
+    Event {
+        delay: delay_of(delay),
+        time: time_of(time),
+    }
+}
+
+fn stop_from(r: StopScalars) -> StopUpdate
+    ensures { λ u. ⌜ u ≡ toStop r ⌝ }
+{
+    let own = r.stop;
+    let sequence = own.f1;
+    let stop = own.f4;
+    let relationship = own.f5;
+    StopUpdate {
+        sequence: sequence_of(sequence),
+        stop: span_of(stop),
+        arrival: event_from(r.arrival),
+        departure: event_from(r.departure),
+        skipped: is_value(SKIPPED, relationship),
+    }
+}
+
+// The merged header of a message, wherever it stands.
+pub fn header_of(s: &[u8]) -> Header
+    ensures { λ r. ⌜ HeaderRead feed (now (s .entry)) r ⌝ }
+{
+    header_from(lasts(s, 0, s.len(), FEED_MESSAGE, 1, 1, 0))
+}
+
+// Of an entity in `len` bytes at `start`: whether it is deleted.
+pub fn is_deleted(s: &[u8], start: usize, len: usize) -> bool
+    requires { ⌜ start + len ≤ length (now s) ⌝ }
+    ensures { λ r. ⌜ DeletedRead feed (now (s .entry)) start len r ⌝ }
+{
+    let e = lasts(s, start, len, FEED_ENTITY, 0, 0, 0);
+    let mark = e.f2;
+    bool_of(mark)
+}
+
+// And its trip, merged from all its trip_updates.
+pub fn trip_of(s: &[u8], start: usize, len: usize) -> Trip
+    requires { ⌜ start + len ≤ length (now s) ⌝ }
+    ensures { λ r. ⌜ TripRead feed (now (s .entry)) start len r ⌝ }
+{
+    let d = lasts(s, start, len, FEED_ENTITY, 2, 3, 1);
+    let u = lasts(s, start, len, FEED_ENTITY, 1, 3, 0);
+    trip_from(d, u)
+}
+
+// A stop_time_update in `len` bytes at `start`.
+pub fn stop_of(s: &[u8], start: usize, len: usize) -> StopUpdate
+    requires { ⌜ start + len ≤ length (now s) ⌝ }
+    ensures { λ r. ⌜ StopRead feed (now (s .entry)) start len r ⌝ }
+{
+    stop_from(stop_lasts(s, start, len))
+}
+
+// A walk over the messages at a repeated field, of all the messages at another field merged: the next place outside, and what is left of the message that is open.
+pub struct Walk {
+    pub outer: usize,
+    pub end: usize,
+    pub at: usize,
+}
+
+pub enum Item {
+    At {
+        start: usize,
+        len: usize,
+        walk: Walk,
+    },
+    Done,
+}
+
+// The next message at field `k` of those of type `inner` at field `a` of a message.
+fn next_item(s: &[u8], message: u64, a: u64, inner: u64, k: u64, walk: Walk) -> Item
+    requires { ⌜ Walks feed message a inner (now s) walk ⌝ }
+    ensures { λ r. ⌜ Yields feed message a inner k (typeOf (feed inner k)) (now (s .entry)) walk r ⌝ }
+{
+    let mut outer = walk.outer;
+    let mut end = walk.end;
+    let mut at = walk.at;
+    loop {
+        match next(wire::part(s, 0, end), at, inner) {
+            Step::Broken => return Item::Done,
+            Step::Number {
+                field: _,
+                value: _,
+                next: after,
+            } => {
+                at = after;
+            }
+            Step::Text {
+                field: _,
+                start: _,
+                len: _,
+                next: after,
+            } => {
+                at = after;
+            }
+            Step::Message {
+                field,
+                message: _,
+                start,
+                len,
+                next: after,
+            } => {
+                if field == k {
+                    return Item::At {
+                        start,
+                        len,
+                        walk: Walk {
+                            outer,
+                            end,
+                            at: after,
+                        },
+                    };
+                }
+                at = after;
+            }
+            Step::End => match next(s, outer, message) {
+                Step::Broken => return Item::Done,
+                Step::End => return Item::Done,
+                Step::Number {
+                    field: _,
+                    value: _,
+                    next: after,
+                } => {
+                    outer = after;
+                }
+                Step::Text {
+                    field: _,
+                    start: _,
+                    len: _,
+                    next: after,
+                } => {
+                    outer = after;
+                }
+                Step::Message {
+                    field,
+                    message: _,
+                    start,
+                    len: _,
+                    next: after,
+                } => {
+                    if field == a {
+                        at = start;
+                        end = after;
+                    }
+                    outer = after;
+                }
+            },
+        }
+    }
+}
+
+// The entities of a message, one after the other.
+pub fn entities(s: &[u8]) -> Walk
+    ensures { λ r. ⌜ r ≡ atPlain (now (s .entry)) ⌝ }
+{
+    let n = s.len();
+    Walk {
+        outer: n,
+        end: n,
+        at: 0,
+    }
+}
+
+pub fn next_entity(s: &[u8], walk: Walk) -> Item
+    requires { ⌜ Sound (now s) (walk .outer) (walk .end) (walk .at) ⌝ }
+    ensures { λ r. ⌜ NextEntity (now (s .entry)) walk r ⌝ }
+{
+    next_item(s, FEED_MESSAGE, 0, FEED_MESSAGE, 2, walk)
+}
+
+// The stop_time_updates of an entity that starts at `start` and ends with `s`, one after the other.
+pub fn updates(start: usize) -> Walk
+    ensures { λ r. ⌜ r ≡ atMerged start ⌝ }
+{
+    Walk {
+        outer: start,
+        end: start,
+        at: start,
+    }
+}
+
+pub fn next_update(s: &[u8], walk: Walk) -> Item
+    requires { ⌜ Sound (now s) (walk .outer) (walk .end) (walk .at) ⌝ }
+    ensures { λ r. ⌜ NextUpdate (now (s .entry)) walk r ⌝ }
+{
+    next_item(s, FEED_ENTITY, 3, TRIP_UPDATE, 2, walk)
+}
