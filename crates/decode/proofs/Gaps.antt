@@ -5,7 +5,7 @@ use mathlib.Core.List.{List, [], _∷_, _++_, append-assoc}
 use native.Mathlib.Numerals.{add-one}
 use native.Mathlib.Omega.{arith}
 use lib.ListN.{length, getD, take, drop, set, List·getD-append, length-append, length-drop}
-use lib.Seq.{take-suc, drop-cons, split-at, set-at, getD-take, length-take-le, take-take, take-add, take-at, drop-at}
+use lib.Seq.{take-suc, drop-cons, split-at, set-at, getD-take, length-take-le, take-take, take-add, take-at, drop-at, drop-drop}
 use Rattle.decode.specs.Index.{inserted}
 
 -- nothing has moved
@@ -64,3 +64,17 @@ gap-length a r n v h g =
       length-take-le (n - r) (drop r a) (omega (arith, length-drop r a)),
       length-drop (n + 1) a,
     )
+
+-- the same of a list in pieces: z gives way
+pub inserted-at : (x m rest : List ℕ) (z v at end : ℕ) → at ≡ length x → end ≡ length x + length m → inserted (x ++ (m ++ z ∷ rest)) at end v ≡ x ++ (v ∷ (m ++ rest))
+inserted-at x m rest z v at end p q =
+    let u = x ++ (m ++ z ∷ rest) in
+    let n : end - at ≡ length m = omega arith in
+    let a : take at u ≡ x = take-at x (m ++ z ∷ rest) at (sym p) in
+    let b : drop at u ≡ m ++ z ∷ rest = drop-at x (m ++ z ∷ rest) at (sym p) in
+    let c : take (end - at) (drop at u) ≡ m = ap (take (end - at)) b ∙ take-at m (z ∷ rest) (end - at) (sym n) in
+    let e : end + 1 ≡ at + (length m + 1) = omega arith in
+    let d : drop (end + 1) u ≡ rest =
+    ap (λ k. drop k u) e ∙ sym (drop-drop (length m + 1) at u) ∙ ap (drop (length m + 1)) (b ∙ sym (append-assoc m (z ∷ []) rest))
+    ∙ drop-at (m ++ z ∷ []) rest (length m + 1) (length-append m (z ∷ [])) in
+    λ i. a i ++ v ∷ (c i ++ d i)

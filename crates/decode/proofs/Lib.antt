@@ -1,4 +1,7 @@
 -- Lemmas on plain values.
+mod Filing
 mod Gaps
 mod Ranks
 mod Settling
+mod Noting
+mod Writing

@@ -28,7 +28,7 @@ is-same More e = absurd (let z : _≡_ {A = ℕ} 0 1 = cc in omega arith)
 
 module _ {K : Type 0} (O : Ordered K) {A : Type 0} (d : K × A) where
   -- a put is a store at the rank, or goes in there
-  put-over : (k : K) (v : A) (m : List (K × A)) → rankOf O k m < length m → isSame (O .compare k (at O d m (rankOf O k m))) ≡ true → put O k v m ≡ set m (rankOf O k m) (k, v)
+  pub put-over : (k : K) (v : A) (m : List (K × A)) → rankOf O k m < length m → isSame (O .compare k (at O d m (rankOf O k m))) ≡ true → put O k v m ≡ set m (rankOf O k m) (k, v)
   put-over k v [] l h = absurd (omega arith)
   put-over k v (e ∷ m) l h = go (O .compare k (e .0)) refl l h (put-over k v m)
     where
@@ -40,7 +40,7 @@ module _ {K : Type 0} (O : Ordered K) {A : Type 0} (d : K × A) where
       go Same p l h i = refl
       go More p l h i = ap (λ x. e ∷ x) (i (omega arith) h)
 
-  put-into : (k : K) (v : A) (m : List (K × A)) → (rankOf O k m < length m → isSame (O .compare k (at O d m (rankOf O k m))) ≡ false)
+  pub put-into : (k : K) (v : A) (m : List (K × A)) → (rankOf O k m < length m → isSame (O .compare k (at O d m (rankOf O k m))) ≡ false)
       → put O k v m ≡ take (rankOf O k m) m ++ (k, v) ∷ drop (rankOf O k m) m
   put-into k v [] h = refl
   put-into k v (e ∷ m) h = go (O .compare k (e .0)) refl h (put-into k v m)
@@ -54,35 +54,36 @@ module _ {K : Type 0} (O : Ordered K) {A : Type 0} (d : K × A) where
       go Same p h i = absurd (let z : true ≡ false = sym (ap isSame p) ∙ h (omega arith) in let z : _≡_ {A = ℕ} 0 1 = cc in omega arith)
       go More p h i = ap (λ x. e ∷ x) (i (λ l. h (omega arith)))
 
--- the entry of another slot stays
-pub entry-other : (keys marks : List ℕ) (j slot from till : ℕ) → (j ≡ slot → ⊥) → entryAt keys (remarked marks slot from till) j ≡ entryAt keys marks j
-entry-other keys marks j slot from till h =
+-- the length of a key stays, and the place of another slot
+pub length-kept : (marks : List ℕ) (j slot from till : ℕ) → getD (remarked marks slot from till) (3 * j) 0 ≡ getD marks (3 * j) 0
+length-kept marks j slot from till =
+    getD-set-other (set marks (3 * slot + 1) from) (3 * slot + 2) (3 * j) till 0 (λ e. omega arith)
+    ∙ getD-set-other marks (3 * slot + 1) (3 * j) from 0 (λ e. omega arith)
+
+pub place-other : (marks : List ℕ) (j slot from till : ℕ) → (j ≡ slot → ⊥) → placeAt (remarked marks slot from till) j ≡ placeAt marks j
+place-other marks j slot from till h =
     rw (
-      getD-set-other (set marks (3 * slot + 1) from) (3 * slot + 2) (3 * j) till 0 (λ e. omega arith),
-      getD-set-other marks (3 * slot + 1) (3 * j) from 0 (λ e. omega arith),
       getD-set-other (set marks (3 * slot + 1) from) (3 * slot + 2) (3 * j + 1) till 0 (λ e. omega arith),
       getD-set-other marks (3 * slot + 1) (3 * j + 1) from 0 (λ e. h (omega arith)),
       getD-set-other (set marks (3 * slot + 1) from) (3 * slot + 2) (3 * j + 2) till 0 (λ e. h (omega arith)),
       getD-set-other marks (3 * slot + 1) (3 * j + 2) from 0 (λ e. omega arith),
     )
 
--- the slot's own has its key still, and the new place
-pub entry-own : (keys marks : List ℕ) (slot from till : ℕ) → 3 * slot + 3 ≤ length marks → entryAt keys (remarked marks slot from till) slot ≡ (keyAt keys marks slot, (from, till))
-entry-own keys marks slot from till h =
+pub place-own : (marks : List ℕ) (slot from till : ℕ) → 3 * slot + 3 ≤ length marks → placeAt (remarked marks slot from till) slot ≡ (from, till)
+place-own marks slot from till h =
     rw (
-      getD-set-other (set marks (3 * slot + 1) from) (3 * slot + 2) (3 * slot) till 0 (λ e. omega arith),
-      getD-set-other marks (3 * slot + 1) (3 * slot) from 0 (λ e. omega arith),
       getD-set-other (set marks (3 * slot + 1) from) (3 * slot + 2) (3 * slot + 1) till 0 (λ e. omega arith),
       getD-set-same marks (3 * slot + 1) from 0 (omega arith),
       getD-set-same (set marks (3 * slot + 1) from) (3 * slot + 2) till 0 (omega (arith, length-set marks (3 * slot + 1) from)),
     )
 
-pub length-kept : (marks : List ℕ) (j slot from till : ℕ) → getD (remarked marks slot from till) (3 * j) 0 ≡ getD marks (3 * j) 0
-length-kept marks j slot from till =
-    getD-set-other (set marks (3 * slot + 1) from) (3 * slot + 2) (3 * j) till 0 (λ e. omega arith)
-    ∙ getD-set-other marks (3 * slot + 1) (3 * j) from 0 (λ e. omega arith)
+entry-other : (keys marks : List ℕ) (j slot from till : ℕ) → (j ≡ slot → ⊥) → entryAt keys (remarked marks slot from till) j ≡ entryAt keys marks j
+entry-other keys marks j slot from till h = rw (length-kept marks j slot from till, place-other marks j slot from till h)
 
-marks-length : (marks : List ℕ) (j from till : ℕ) → length (remarked marks j from till) ≡ length marks
+entry-own : (keys marks : List ℕ) (slot from till : ℕ) → 3 * slot + 3 ≤ length marks → entryAt keys (remarked marks slot from till) slot ≡ (keyAt keys marks slot, (from, till))
+entry-own keys marks slot from till h = rw (length-kept marks slot slot from till, place-own marks slot from till h)
+
+pub marks-length : (marks : List ℕ) (j from till : ℕ) → length (remarked marks j from till) ≡ length marks
 marks-length marks j from till = length-set (set marks (3 * j + 1) from) (3 * j + 2) till ∙ length-set marks (3 * j + 1) from
 
 slotted-append : (keys marks a b : List ℕ) → slotted keys marks (a ++ b) ≡ slotted keys marks a ++ slotted keys marks b

@@ -1,13 +1,13 @@
 -- The working index: a map of keys to places, in lent slices. Slot j has its key in `keys` from 137 j on; in `marks`, from 3 j on, the key's
 -- length and the two numbers of the place. `order` has the slots in the order of their keys. Assumes nothing: these are definitions.
-use Prim.Native.Nat.{ℕ, suc, _+_, _-_, _*_, _≤_, _<_}
+use Prim.Native.Nat.{ℕ, zero, suc, _+_, _-_, _*_, _≤_, _<_}
 use mathlib.Core.Path.{_≡_}
 use mathlib.Core.Bool.{true}
 use mathlib.Core.List.{List, [], _∷_, _++_}
 use lib.ListN.{length, getD, take, drop, set}
 use Rattle.formats.specs.Law.{All}
 use Rattle.decode.specs.Map.{Ordered, byOrder, put, ascending}
-use Rattle.decode.specs.Order.{texts}
+use Rattle.decode.specs.Order.{texts, numbers}
 
 -- where a record comes from
 abbrev pub Place : Type 0
@@ -62,3 +62,23 @@ remarked marks j from till = set (set marks (3 * j + 1) from) (3 * j + 2) till
 pub record Settled (keys marks order : List ℕ) (n len from till : ℕ) (marks′ order′ : List ℕ) (r : ℕ) : Type 0 where
   pub map : index keys marks′ order′ r ≡ put texts (keyIn keys n len) (from, till) (index keys marks order n)
   pub sound : Sound keys marks′ order′ r
+
+-- The updates of a trip in a lent slice: the first n, three numbers each, the sequence and the two of the place
+abbrev pub laid : ℕ → List ℕ → List (ℕ × Place)
+laid zero u = []
+laid (suc n) u = (getD u 0 0, (getD u 1 0, getD u 2 0)) ∷ laid n (drop 3 u)
+
+-- three numbers go in after the first 3 r
+abbrev pub three : List ℕ → ℕ → ℕ → ℕ → ℕ → ℕ → List ℕ
+three u r n q from till = inserted (inserted (inserted u (3 * r) (3 * n) q) (3 * r + 1) (3 * n + 1) from) (3 * r + 2) (3 * n + 2) till
+
+-- the slice has its length, with room for one update more than a trip may have, and the first n are in use
+pub record Lined (u : List ℕ) (n : ℕ) : Type 0 where
+  pub counted : n ≤ 129
+  pub long : length u ≡ 387
+  pub ascends : ascending numbers (laid n u) ≡ true
+
+-- after an update has gone in at its sequence: the map, and how many are in use
+pub record Noted (u : List ℕ) (n sequence from till : ℕ) (u′ : List ℕ) (r : ℕ) : Type 0 where
+  pub map : laid r u′ ≡ put numbers sequence (from, till) (laid n u)
+  pub lined : Lined u′ r

@@ -9,9 +9,10 @@ use lib.ListN.{length, take, drop}
 use Rattle.formats.specs.Class.{printable, inClass}
 use Rattle.slices.specs.Lists.{lexOf}
 use Rattle.realtime.specs.Tree.{Tree}
+use Rattle.merged.specs.Views.{trip, deleted}
 use Rattle.decode.specs.Trip.{Trip, Maybe, dateOf, routeOf, directionOf, timeOf}
 use Rattle.decode.specs.Map.{isSame}
-use Rattle.decode.specs.Record.{deletedIn, rawIn, tripIn}
+use Rattle.decode.specs.Record.{tripIn}
 
 abbrev pub empty : List ℕ → Bool
 empty [] = true
@@ -37,11 +38,15 @@ prefixed feed x = cond (empty x) [] (feed ++ 58 ∷ x)
 abbrev pub datedKey : List ℕ → List ℕ → List ℕ
 datedKey raw date = raw ++ 64 ∷ date
 
--- #r=feed:route&d=direction&sd=date&st=time
+-- #r=feed:route&d=direction and then &sd=date&st=time
+abbrev pub headOf : List ℕ → List ℕ → Maybe ℕ → List ℕ
+headOf feed route direction = (35 ∷ 114 ∷ 61 ∷ []) ++ prefixed feed route ++ (38 ∷ 100 ∷ 61 ∷ []) ++ shown direction
+
+abbrev pub tailOf : List ℕ → List ℕ → List ℕ
+tailOf date time = (38 ∷ 115 ∷ 100 ∷ 61 ∷ []) ++ date ++ (38 ∷ 115 ∷ 116 ∷ 61 ∷ []) ++ time
+
 unfoldable pub incompleteKey : List ℕ → Trip → List ℕ
-incompleteKey feed t =
-    35 ∷ 114 ∷ 61 ∷ (prefixed feed (routeOf t)
-    ++ 38 ∷ 100 ∷ 61 ∷ (shown (directionOf t) ++ 38 ∷ 115 ∷ 100 ∷ 61 ∷ (dateOf t ++ 38 ∷ 115 ∷ 116 ∷ 61 ∷ timeOf t)))
+incompleteKey feed t = headOf feed (routeOf t) (directionOf t) ++ tailOf (dateOf t) (timeOf t)
 
 -- what `insert_trip` puts where, by the raw trip id: nothing without a trip id and a route
 abbrev pub inserts : List ℕ → List ℕ → Trip → List (List ℕ × Trip)
@@ -50,7 +55,7 @@ inserts feed (b ∷ raw) t = cond (empty (dateOf t)) ((b ∷ raw, t) ∷ []) ((d
 
 -- and of an entity: a deleted one is passed over
 unfoldable pub entriesIn : List ℕ → Tree → List (List ℕ × Trip)
-entriesIn feed e = cond (deletedIn e) [] (inserts feed (rawIn e) (tripIn e))
+entriesIn feed e = cond (deleted e) [] (inserts feed (trip e .id) (tripIn e))
 
 -- Which keys a record may have: that of some raw id, that id with its date, or the incomplete one
 abbrev pub rawOk : List ℕ → Bool

@@ -5,24 +5,28 @@ use mathlib.Core.List.{List, [], _∷_, _++_}
 use mathlib.Core.Option.{Option, none, some}
 use lib.IntN.{ℤ}
 use lib.Dec.{eqb}
-use Rattle.realtime.specs.Tree.{Tree, lastNumber, sub, rep}
-use Rattle.decode.specs.Typed.{int64}
+use Rattle.wire.specs.Wire.{mapO}
+use Rattle.realtime.specs.Tree.{Tree, tree, rep}
+use Rattle.realtime.specs.Schema.{feedMessage}
+use Rattle.realtime.specs.Schema as schema
+use Rattle.merged.specs.Typed.{int64}
+use Rattle.merged.specs.Views.{header}
 use Rattle.decode.specs.Trip.{Trip, Maybe}
 use Rattle.decode.specs.Map.{puts}
 use Rattle.decode.specs.Order.{texts}
-use Rattle.decode.specs.Record.{when, isAt}
+use Rattle.decode.specs.Record.{maybe}
 use Rattle.decode.specs.Key.{entriesIn}
 
 -- the trips of a feed, by the rest of their keys after the feed and ':'
 abbrev pub Trips : Type 0
 Trips = List (List ℕ × Trip)
 
--- FeedMessage: header 1, entity 2. FeedHeader: incrementality 2 (DIFFERENTIAL 1), timestamp 3
-unfoldable pub differential : Tree → Bool
-differential m = eqb (isAt 2 1 (sub 1 m)) 1
+abbrev pub differential : Tree → Bool
+differential m = header m .differential
 
-unfoldable pub timestampIn : Tree → Maybe ℤ
-timestampIn m = when int64 (lastNumber 3 (sub 1 m))
+-- the header's timestamp: 64 bits read as signed
+abbrev pub timestampIn : Tree → Maybe ℤ
+timestampIn m = maybe (mapO int64 (header m .timestamp))
 
 unfoldable pub entries : List ℕ → List Tree → Trips
 entries feed [] = []
@@ -31,6 +35,10 @@ entries feed (e ∷ l) = entriesIn feed e ++ entries feed l
 -- WHAT A MESSAGE LEAVES
 unfoldable pub leaves : List ℕ → Tree → Trips → Trips
 leaves feed m old = puts texts (entries feed (rep 2 m)) (cond (differential m) old [])
+
+-- and by its bytes, where it is not broken
+abbrev pub left : List ℕ → List ℕ → Trips → Option Trips
+left feed bytes old = mapO (λ m. leaves feed m old) (tree schema.feed feedMessage bytes)
 
 -- `trip_update_count` after a message: the keys without '@', the feed's id included
 abbrev pub has : ℕ → List ℕ → Bool

@@ -2,9 +2,10 @@ pub mod Trip
 pub mod Map
 pub mod Order
 pub mod Laws
-pub mod Typed
 pub mod Record
 pub mod Key
+pub mod Written
 pub mod Index
+pub mod Entity
 pub mod Leaves
 pub mod Examples

@@ -22,11 +22,11 @@ same-more : {C : Type 0} → Same ≡ More → C
 same-more e = absurd (let z : _≡_ {A = ℕ} 0 1 = cc in omega arith)
 
 module _ (x y : ℕ) (xs ys : List ℕ) where
-  cons-before : x < y → lexOf (x ∷ xs) (y ∷ ys) ≡ Less
+  pub cons-before : x < y → lexOf (x ∷ xs) (y ∷ ys) ≡ Less
   unfolding lexOf
   cons-before h = rw (lt-ltb x y h)
 
-  cons-behind : y < x → lexOf (x ∷ xs) (y ∷ ys) ≡ More
+  pub cons-behind : y < x → lexOf (x ∷ xs) (y ∷ ys) ≡ More
   unfolding lexOf
   cons-behind h = rw (le-ltb x y (omega arith), lt-ltb y x h)
 

@@ -1,14 +1,23 @@
 // What a message leaves of a feed's trips: each entity's record and keys, and the index of the keys that are left.
+use merged::Direction;
+use merged::Span;
+use merged::Trip;
 use slices::Order;
 ghost use mathlib.Core.Path.{_≡_};
 ghost use Prim.Native.Nat.{_+_, _*_, _≤_, _<_};
 ghost use mathlib.Core.Bool.{_&&_};
-ghost use lib.Dec.{ltb};
+ghost use mathlib.Core.List.{[], _∷_, _++_};
+ghost use lib.Dec.{ltb, eqb};
 ghost use lib.ListN.{length, getD, set};
 ghost use Rattle.slices.specs.Lists.{lexOf};
 ghost use Rattle.decode.specs.Map.{isSame, isMore};
-ghost use Rattle.decode.specs.Order.{texts};
-ghost use Rattle.decode.specs.Index.{keyAt, keyIn, index, Sound, Settled, rankOf, inserted, remarked};
+ghost use Rattle.decode.specs.Order.{texts, numbers};
+ghost use Rattle.decode.specs.Key.{decimalOf, datedKey, prefixed, shown, headOf, tailOf};
+ghost use Rattle.merged.specs.Views.{spanIn, SpanInside, viewDirection};
+ghost use Rattle.decode.specs.Record.{maybe};
+ghost use Rattle.decode.specs.Written.{Added};
+ghost use Rattle.decode.specs.Entity.{Room, Short, Keyed, Filed};
+ghost use Rattle.decode.specs.Index.{keyAt, keyIn, index, Sound, Settled, rankOf, inserted, remarked, three, laid, Lined, Noted};
 
 fn wide(x: u32) -> usize
     ensures { λ r. ⌜ r ≡ x ⌝ }
@@ -145,4 +154,241 @@ fn settle(
     }
     enter(marks, order, n, r, len, from, till);
     n + 1
+}
+
+// All of x goes in at `at`.
+fn add(out: &mut [u8], at: usize, x: &[u8]) -> usize
+    requires { ⌜ at + length (now x) ≤ length (now out) ⌝ }
+    ensures { λ r. ⌜ Added (now (out .entry)) at (now (x .entry)) (now (out .exit)) r ⌝ }
+{
+    let n = x.len();
+    slices::copy(out, at, x, n);
+    at + n
+}
+
+fn add_byte(out: &mut [u8], at: usize, b: u8) -> usize
+    requires { ⌜ at < length (now out) ⌝ }
+    ensures { λ r. ⌜ Added (now (out .entry)) at (b ∷ []) (now (out .exit)) r ⌝ }
+{
+    out[at] = b;
+    at + 1
+}
+
+fn digit(n: u32) -> u8
+    requires { ⌜ n < 10 ⌝ }
+    ensures { λ r. ⌜ r ≡ 48 + n ⌝ }
+{
+    48 + n as u8
+}
+
+// n in decimal, at most k digits.
+fn decimal(k: usize, out: &mut [u8], at: usize, n: u32) -> usize
+    requires { ⌜ at + k ≤ length (now out) ⌝ }
+    ensures { λ r. ⌜ Added (now (out .entry)) at (decimalOf k n) (now (out .exit)) r ⌝ }
+{
+    if k == 0 {
+        return at;
+    }
+    if n < 10 {
+        return add_byte(out, at, digit(n));
+    }
+    let p = decimal(k - 1, out, at, n / 10);
+    add_byte(out, p, digit(n % 10))
+}
+
+// How many updates stand before a sequence: sought from the end, since they arrive in order as a rule.
+fn place_of(updates: &[u32], n: usize, sequence: u32) -> usize
+    requires { ⌜ Lined (now updates) n ⌝ }
+    ensures { λ r. ⌜ r ≡ rankOf numbers sequence (laid n (now (updates .entry))) ⌝ }
+{
+    let mut r = n;
+    while r > 0 {
+        if updates[3 * (r - 1)] < sequence {
+            return r;
+        }
+        r -= 1;
+    }
+    0
+}
+
+// Whether the update at rank r has the sequence.
+fn is_at(updates: &[u32], n: usize, r: usize, sequence: u32) -> bool
+    requires { ⌜ (n ≤ 129) × (length (now updates) ≡ 387) ⌝ }
+    ensures { λ b. ⌜ b ≡ (ltb r n && eqb (getD (now (updates .entry)) (3 * r) 0) sequence) ⌝ }
+{
+    if r >= n {
+        return false;
+    }
+    updates[3 * r] == sequence
+}
+
+// Three numbers go in at rank r.
+fn line(updates: &mut [u32], n: usize, r: usize, sequence: u32, from: u32, till: u32)
+    requires { ⌜ (r ≤ n) × (n ≤ 128) × (length (now updates) ≡ 387) ⌝ }
+    ensures { λ _. ⌜ now (updates .exit) ≡ three (now (updates .entry)) r n sequence from till ⌝ }
+{
+    insert(updates, 3 * r, 3 * n, sequence);
+    insert(updates, 3 * r + 1, 3 * n + 1, from);
+    insert(updates, 3 * r + 2, 3 * n + 2, till);
+}
+
+// An update goes in at its sequence, over an old one: how many are in use then.
+fn note(updates: &mut [u32], n: usize, sequence: u32, from: u32, till: u32) -> usize
+    requires { ⌜ Lined (now updates) n ⌝ }
+    requires { ⌜ n ≤ 128 ⌝ }
+    ensures { λ r. ⌜ Noted (now (updates .entry)) n sequence from till (now (updates .exit)) r ⌝ }
+{
+    let r = place_of(updates, n, sequence);
+    if is_at(updates, n, r, sequence) {
+        mark(updates, r, from, till);
+        return n;
+    }
+    line(updates, n, r, sequence, from, till);
+    n + 1
+}
+
+// The raw trip id of an entity in slot n: how long the key is.
+fn write_base(keys: &mut [u8], n: usize, s: &[u8], t: Trip) -> usize
+    requires { ⌜ Room (now keys) n ⌝ }
+    requires { ⌜ Short (now s) t ⌝ }
+    ensures { λ r. ⌜ Keyed (now (keys .entry)) n (spanIn (now (s .entry)) (t .id)) (now (keys .exit)) r ⌝ }
+{
+    let id = t.id;
+    add(keys, 137 * n, wire::part(s, id.start, id.len)) - 137 * n
+}
+
+// And with its date.
+fn write_dated(keys: &mut [u8], n: usize, s: &[u8], t: Trip) -> usize
+    requires { ⌜ Room (now keys) n ⌝ }
+    requires { ⌜ Short (now s) t ⌝ }
+    ensures { λ r. ⌜ Keyed (now (keys .entry)) n (datedKey (spanIn (now (s .entry)) (t .id)) (spanIn (now (s .entry)) (t .date))) (now (keys .exit)) r ⌝ }
+{
+    let id = t.id;
+    let date = t.date;
+    let p = add(keys, 137 * n, wire::part(s, id.start, id.len));
+    let q = add_byte(keys, p, 64);
+    add(keys, q, wire::part(s, date.start, date.len)) - 137 * n
+}
+
+// feed:route, and nothing where there is no route.
+fn write_route(keys: &mut [u8], at: usize, feed: &[u8], s: &[u8], route: Span) -> usize
+    requires { ⌜ (at + 81 ≤ length (now keys)) × (length (now feed) ≤ 16) ⌝ }
+    requires { ⌜ SpanInside (length (now s)) route × (route .len ≤ 64) ⌝ }
+    ensures { λ r. ⌜ Added (now (keys .entry)) at (prefixed (now (feed .entry)) (spanIn (now (s .entry)) route)) (now (keys .exit)) r ⌝ }
+{
+    if route.len == 0 {
+        return at;
+    }
+    let p = add(keys, at, feed);
+    let q = add_byte(keys, p, 58);
+    add(keys, q, wire::part(s, route.start, route.len))
+}
+
+fn write_direction(keys: &mut [u8], at: usize, direction: Direction) -> usize
+    requires { ⌜ at + 10 ≤ length (now keys) ⌝ }
+    ensures { λ r. ⌜ Added (now (keys .entry)) at (shown (maybe (viewDirection direction))) (now (keys .exit)) r ⌝ }
+{
+    match direction {
+        Direction::Given(d) => decimal(10, keys, at, d),
+        Direction::Absent => at,
+    }
+}
+
+fn write_head(keys: &mut [u8], at: usize, feed: &[u8], s: &[u8], t: Trip) -> usize
+    requires { ⌜ (at + 97 ≤ length (now keys)) × (length (now feed) ≤ 16) ⌝ }
+    requires { ⌜ Short (now s) t ⌝ }
+    ensures { λ r. ⌜ Added (now (keys .entry)) at (headOf (now (feed .entry)) (spanIn (now (s .entry)) (t .route)) (maybe (viewDirection (t .direction)))) (now (keys .exit)) r ⌝ }
+{
+    let route = t.route;
+    let direction = t.direction;
+    let a = add(keys, at, b"#r=");
+    let b = write_route(keys, a, feed, s, route);
+    let c = add(keys, b, b"&d=");
+    write_direction(keys, c, direction)
+}
+
+fn write_tail(keys: &mut [u8], at: usize, s: &[u8], date: Span, time: Span) -> usize
+    requires { ⌜ at + 40 ≤ length (now keys) ⌝ }
+    requires { ⌜ SpanInside (length (now s)) date × (date .len ≤ 16) ⌝ }
+    requires { ⌜ SpanInside (length (now s)) time × (time .len ≤ 16) ⌝ }
+    ensures { λ r. ⌜ Added (now (keys .entry)) at (tailOf (spanIn (now (s .entry)) date) (spanIn (now (s .entry)) time)) (now (keys .exit)) r ⌝ }
+{
+    let a = add(keys, at, b"&sd=");
+    let b = add(keys, a, wire::part(s, date.start, date.len));
+    let c = add(keys, b, b"&st=");
+    add(keys, c, wire::part(s, time.start, time.len))
+}
+
+// The key of an entity without a trip id.
+fn write_incomplete(keys: &mut [u8], n: usize, feed: &[u8], s: &[u8], t: Trip) -> usize
+    requires { ⌜ Room (now keys) n ⌝ }
+    requires { ⌜ length (now feed) ≤ 16 ⌝ }
+    requires { ⌜ Short (now s) t ⌝ }
+    ensures { λ r. ⌜ Keyed (now (keys .entry)) n (headOf (now (feed .entry)) (spanIn (now (s .entry)) (t .route)) (maybe (viewDirection (t .direction))) ++ tailOf (spanIn (now (s .entry)) (t .date)) (spanIn (now (s .entry)) (t .time))) (now (keys .exit)) r ⌝ }
+{
+    let p = write_head(keys, 137 * n, feed, s, t);
+    let date = t.date;
+    let time = t.time;
+    write_tail(keys, p, s, date, time) - 137 * n
+}
+
+// The key of an entity goes into the index with its place: by its raw trip id.
+fn file_base(
+    keys: &mut [u8],
+    marks: &mut [u32],
+    order: &mut [u32],
+    n: usize,
+    s: &[u8],
+    t: Trip,
+    from: u32,
+    till: u32,
+) -> usize
+    requires { ⌜ Sound (now keys) (now marks) (now order) n ⌝ }
+    requires { ⌜ n ≤ 2048 ⌝ }
+    requires { ⌜ Short (now s) t ⌝ }
+    ensures { λ r. ⌜ Filed (now (keys .entry)) (now (marks .entry)) (now (order .entry)) n (spanIn (now (s .entry)) (t .id)) from till (now (keys .exit)) (now (marks .exit)) (now (order .exit)) r ⌝ }
+{
+    let len = write_base(keys, n, s, t);
+    settle(keys, marks, order, n, len, from, till)
+}
+
+// By its raw trip id and its date.
+fn file_dated(
+    keys: &mut [u8],
+    marks: &mut [u32],
+    order: &mut [u32],
+    n: usize,
+    s: &[u8],
+    t: Trip,
+    from: u32,
+    till: u32,
+) -> usize
+    requires { ⌜ Sound (now keys) (now marks) (now order) n ⌝ }
+    requires { ⌜ n ≤ 2048 ⌝ }
+    requires { ⌜ Short (now s) t ⌝ }
+    ensures { λ r. ⌜ Filed (now (keys .entry)) (now (marks .entry)) (now (order .entry)) n (datedKey (spanIn (now (s .entry)) (t .id)) (spanIn (now (s .entry)) (t .date))) from till (now (keys .exit)) (now (marks .exit)) (now (order .exit)) r ⌝ }
+{
+    let len = write_dated(keys, n, s, t);
+    settle(keys, marks, order, n, len, from, till)
+}
+
+// And without a trip id.
+fn file_incomplete(
+    keys: &mut [u8],
+    marks: &mut [u32],
+    order: &mut [u32],
+    n: usize,
+    feed: &[u8],
+    s: &[u8],
+    t: Trip,
+    from: u32,
+    till: u32,
+) -> usize
+    requires { ⌜ Sound (now keys) (now marks) (now order) n ⌝ }
+    requires { ⌜ (n ≤ 2048) × (length (now feed) ≤ 16) ⌝ }
+    requires { ⌜ Short (now s) t ⌝ }
+    ensures { λ r. ⌜ Filed (now (keys .entry)) (now (marks .entry)) (now (order .entry)) n (headOf (now (feed .entry)) (spanIn (now (s .entry)) (t .route)) (maybe (viewDirection (t .direction))) ++ tailOf (spanIn (now (s .entry)) (t .date)) (spanIn (now (s .entry)) (t .time))) from till (now (keys .exit)) (now (marks .exit)) (now (order .exit)) r ⌝ }
+{
+    let len = write_incomplete(keys, n, feed, s, t);
+    settle(keys, marks, order, n, len, from, till)
 }
