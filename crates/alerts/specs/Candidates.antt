@@ -9,28 +9,8 @@ use Rattle.formats.specs.Law.{pick}
 use Rattle.alerts.specs.Lists.{any, member, join}
 use Rattle.alerts.specs.Text.{same}
 use Rattle.alerts.specs.Alert.{Alert, informed-trip-ids, informed-route-ids, informed-stop-ids}
-use Rattle.alerts.specs.Index.{
-  undated,
-  tripKeys,
-  idKeys,
-  Map,
-  push,
-  get,
-  pushAll,
-  indexed,
-  rebuild-alert-index,
-  legTrips,
-  legRoutes,
-  legStops,
-  distinct,
-  lookups,
-  alert-candidates-for-leg,
-  meets,
-  candidate,
-  numbers,
-  search,
-}
-use Rattle.alerts.specs.ListLaws.{false-true, or-false, or-assoc, or-comm, both-ways, any-append, any-same, any-join, any-swap, same-refl, same-true}
+use Rattle.alerts.specs.Index.{undated, tripKeys, idKeys, Map, push, get, pushAll, indexed, rebuild-alert-index, legTrips, legRoutes, legStops, distinct, alert-candidates-for-leg, meets, numbers, search}
+use Rattle.alerts.specs.ListLaws.{and-no, false-true, or-false, or-assoc, or-comm, both-ways, any-append, any-same, any-join, any-swap, same-true}
 
 -- a number is left once where it stood, unless it was seen
 distinct-step : (j i : ℕ) (seen l : List ℕ) (t : Bool) → member i seen ≡ t
@@ -47,11 +27,7 @@ distinct-step j i seen l t e ih ih′ = go (eqb j i) refl t e
     go false eu false et = rw (ih′, eu) refl
 
 member-distinct : (j : ℕ) (seen l : List ℕ) → member j (distinct seen l) ≡ not (member j seen) && member j l
-member-distinct j seen [] = go (member j seen)
-  where
-    go : (t : Bool) → false ≡ not t && false
-    go true = refl
-    go false = refl
+member-distinct j seen [] = sym (and-no (not (member j seen)))
 member-distinct j seen (i ∷ l) =
     distinct-step j i seen l (member i seen) refl (member-distinct j seen l) (member-distinct j (i ∷ seen) l)
 

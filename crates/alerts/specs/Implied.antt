@@ -1,92 +1,25 @@
 -- `applies-reduced`: the test of Applies and that of Reduced are equal for every alert and leg, part by part.
 use mathlib.Core.Path.{_≡_, refl, sym, ap, _∙_}
-use mathlib.Core.List.{List, [], _∷_, _++_, map, append-assoc}
-use mathlib.Core.Logic.{_⊎_, inl, inr, ⊎-elim}
+use mathlib.Core.List.{List, [], _∷_, _++_}
+use mathlib.Core.Logic.{⊎-elim}
 use mathlib.Core.Option.{Option, none, some}
 use mathlib.Core.Bool.{Bool, true, false, not, _&&_, _||_}
-use Prim.Native.Nat.{ℕ, _-_}
+use Prim.Native.Nat.{ℕ}
 use Prim.Native.String.{String}
-use native.Mathlib.Omega.{arith}
 use lib.Dec.{leb, eqb}
 use lib.ListN.{length, drop}
-use borrow.Author.Tests.{leb-true, leb-false, lt-leb, eqb-true}
-use Rattle.formats.specs.Law.{pick, none-some, headed}
+use borrow.Author.Tests.{eqb-true}
+use Rattle.formats.specs.Law.{pick}
 use Rattle.formats.specs.Class.{all}
 use Rattle.alerts.specs.Lists.{any, filter, isEmpty}
-use Rattle.alerts.specs.Text.{text, same, begins, ends, contains, find, upperByte, upper, alike, alphanumeric, trimStart, trimEnd, trim, rsplit-once, onto, split}
+use Rattle.alerts.specs.Text.{text, same, begins, ends, contains, find, upper, alike, alphanumeric, trimStart, trimEnd, trim, rsplit-once, onto, split}
 use Rattle.alerts.specs.Alert.{Alert, header, description, given, informed-trip-ids, informed-route-ids, informed-stop-ids}
 use Rattle.alerts.specs.Index.{undated, after, tail}
-use Rattle.alerts.specs.Applies.{
-  isCode,
-  firstCode,
-  product-code-token,
-  lastOf,
-  rfind,
-  segment,
-  stop-tail,
-  decided,
-  tails-match,
-  route-refs-match,
-  short-names-equal,
-  has,
-  roadBlob,
-  road-traffic,
-  is-rail-like-mode,
-  trip-hit,
-  stop-hit,
-  route-hit,
-  by-name,
-  by-product,
-  unaccented,
-  folded,
-  fold-alert-blob,
-  letters,
-  numerals,
-  trams,
-  around,
-  names,
-  letterRows,
-  numberRows,
-  bareRows,
-  names-number,
-  names-tram,
-  commercial-lines-in-text,
-  markers,
-  marked,
-  needleRows,
-  window,
-  near,
-  advised,
-  is-secondary-line-context,
-  is-primary-context,
-  legBlob,
-  text-compatible,
-  alert-text-compatible-with-leg,
-  alert-applies-to-leg-with-mode,
-}
+use Rattle.alerts.specs.Applies.{firstCode, product-code-token, lastOf, segment, stop-tail, decided, tails-match, route-refs-match, short-names-equal, has, roadBlob, road-traffic, is-rail-like-mode, trip-hit, stop-hit, route-hit, by-name, by-product, unaccented, folded, fold-alert-blob, letters, numerals, trams, around, names, letterRows, numberRows, bareRows, names-number, names-tram, commercial-lines-in-text, markers, marked, needleRows, window, near, advised, is-secondary-line-context, is-primary-context, legBlob, text-compatible, alert-text-compatible-with-leg, alert-applies-to-leg-with-mode}
 use Rattle.alerts.specs.Reduced.{firstToken, token, refs, named, hitsRoute, hitsTrip, hitsStop, road, adviceMarkers, secondary, subjectRows, primary, textOk, textFits, hits, applies}
 use Rattle.alerts.specs.ProductCodes.{product-code-never-decides}
-use Rattle.alerts.specs.ListLaws.{
-  false-true,
-  or-false,
-  or-assoc,
-  or-comm,
-  or-true,
-  and-true,
-  pick-or,
-  pick-and,
-  not-true,
-  absorb-left,
-  absorb-right,
-  implied-false,
-  any-append,
-  any-or,
-  any-same,
-  any-implies,
-  same-refl,
-  same-true,
-}
-use Rattle.alerts.specs.TextLaws.{isEmpty-true, contains-append, contains-end, contains-trans, begins-contains, ends-append, ends-contains, rsplit-joined}
+use Rattle.alerts.specs.ListLaws.{and-no, false-true, or-false, or-assoc, or-comm, or-true, and-true, pick-or, pick-and, not-true, absorb-left, absorb-right, implied-false, any-append, any-or, any-same, any-implies, same-true}
+use Rattle.alerts.specs.TextLaws.{contains-append, contains-end, contains-trans, begins-contains, ends-append, ends-contains, rsplit-joined}
 
 -- road traffic
 road-reduced : (blob : List ℕ) → road-traffic blob ≡ road blob
@@ -250,11 +183,7 @@ names-absorbed route s h l false e =
 routes-reduced : (route s : List ℕ) → trim s ≡ s → (l : List (List ℕ))
     → not (isEmpty l) && (any (route-refs-match route) l || not (isEmpty s) && any (λ r. by-name s r || by-table route s r) l)
     ≡ any (refs route) l || not (isEmpty s) && any (named s) l
-routes-reduced route s h [] = go (isEmpty s)
-  where
-    go : (t : Bool) → false ≡ not t && false
-    go true = refl
-    go false = refl
+routes-reduced route s h [] = sym (and-no (not (isEmpty s)))
 routes-reduced route s h (r ∷ l) =
     names-absorbed route s h (r ∷ l) (isEmpty s) refl
     ∙ ap (λ x. x || not (isEmpty s) && any (named s) (r ∷ l)) (any-same (route-refs-match route) (refs route) (refs-reduced route) (r ∷ l))

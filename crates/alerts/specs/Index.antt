@@ -2,7 +2,7 @@
 -- of the alerts' ids that needs no index.
 use mathlib.Core.List.{List, [], _∷_, _++_}
 use mathlib.Core.Option.{Option, none, some}
-use mathlib.Core.Bool.{Bool, true, false, _||_}
+use mathlib.Core.Bool.{Bool, _||_}
 use Prim.Native.Nat.{ℕ, suc}
 use Rattle.formats.specs.Law.{pick}
 use Rattle.alerts.specs.Lists.{any, member, isEmpty, join}

@@ -1,16 +1,16 @@
 -- The first n characters of well-formed UTF-8 are well-formed UTF-8 of at most 4 n bytes, so that a label is at most 512 bytes long.
-use mathlib.Core.Path.{_≡_, refl, sym, ap, _∙_}
+use mathlib.Core.Path.{_≡_, refl}
 use mathlib.Core.List.{List, [], _∷_}
-use mathlib.Core.Logic.{_⊎_, inl, inr, ⊎-elim}
+use mathlib.Core.Logic.{⊎-elim}
 use mathlib.Core.Option.{Option, none, some}
 use mathlib.Core.Bool.{Bool, true, false, _&&_, _||_}
-use Prim.Native.Nat.{ℕ, zero, suc, _+_, _*_, _≤_, _<_}
+use Prim.Native.Nat.{ℕ, zero, suc, _+_, _*_, _≤_}
 use native.Mathlib.Omega.{arith}
 use lib.Dec.{leb, ltb}
 use lib.ListN.{length}
 use borrow.Author.Tests.{leb-true, ltb-true, le-leb, lt-leb}
 use Rattle.formats.specs.Law.{pick, none-some}
-use Rattle.formats.specs.Class.{Range, all, inside, trail, rows, due, goesOn, sequences, inClass, utf8}
+use Rattle.formats.specs.Class.{Range, all, inside, rows, due, goesOn, sequences, inClass, utf8}
 use Rattle.alerts.specs.ListLaws.{false-true, or-true, and-true}
 use Rattle.alerts.specs.Label.{continues, characters, labelOf}
 

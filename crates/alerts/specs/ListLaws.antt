@@ -5,7 +5,6 @@ use mathlib.Core.Logic.{_⊎_, inl, inr, ⊎-elim}
 use mathlib.Core.Bool.{Bool, true, false, not, _&&_, _||_}
 use Prim.Native.Nat.{ℕ}
 use native.Mathlib.Omega.{arith}
-use lib.Dec.{eqb}
 use borrow.Author.Tests.{eqb-true, eq-eqb}
 use Rattle.formats.specs.Law.{pick, headed}
 use Rattle.alerts.specs.Lists.{any, join}
@@ -30,6 +29,14 @@ pub or-cross : (x y z w : Bool) → x || y || (z || w) ≡ x || z || (y || w)
 or-cross true y z w = refl
 or-cross false true z w = sym (or-comm z true)
 or-cross false false z w = refl
+
+pub and-yes : (x : Bool) → x && true ≡ x
+and-yes true = refl
+and-yes false = refl
+
+pub and-no : (x : Bool) → x && false ≡ false
+and-no true = refl
+and-no false = refl
 
 pub false-true : {C : Type 0} → false ≡ true → C
 false-true e = absurd (let z : _≡_ {A = ℕ} 0 1 = cc in omega arith)

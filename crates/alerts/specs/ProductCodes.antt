@@ -1,7 +1,7 @@
 -- `product-code-never-decides`: where the table of product codes would say yes, the comparison of the route ids has said yes.
 use mathlib.Core.Path.{_≡_, refl, sym, ap, _∙_}
-use mathlib.Core.List.{List, [], _∷_, map}
-use mathlib.Core.Logic.{_⊎_, inl, inr, ⊎-elim}
+use mathlib.Core.List.{List, [], _∷_}
+use mathlib.Core.Logic.{⊎-elim}
 use mathlib.Core.Option.{Option, none, some}
 use mathlib.Core.Bool.{Bool, true, false, not, _&&_, _||_}
 use Prim.Native.Nat.{ℕ, _-_, _≤_}
@@ -10,25 +10,9 @@ use borrow.Author.Tests.{leb-true, lt-leb}
 use lib.Dec.{leb}
 use Rattle.formats.specs.Law.{pick, none-some, headed}
 use Rattle.formats.specs.Class.{inside}
-use Rattle.alerts.specs.Lists.{any, isEmpty}
+use Rattle.alerts.specs.Lists.{any}
 use Rattle.alerts.specs.Text.{same, upperByte, upper, alphanumeric, trim, split}
-use Rattle.alerts.specs.Applies.{
-  isCode,
-  firstCode,
-  product-code-token,
-  segment,
-  decided,
-  tails-match,
-  route-refs-match,
-  short-names-equal,
-  products,
-  nameOf,
-  idfm-product-to-short,
-  is,
-  mapped,
-  same-line,
-  by-product,
-}
+use Rattle.alerts.specs.Applies.{isCode, firstCode, product-code-token, segment, decided, tails-match, route-refs-match, short-names-equal, products, nameOf, idfm-product-to-short, is, same-line, by-product}
 use Rattle.alerts.specs.ListLaws.{false-true, or-comm, or-true, and-true, same-refl, same-true}
 
 -- a code is in capitals already

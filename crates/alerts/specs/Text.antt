@@ -2,13 +2,12 @@
 -- a `let` leaves unlooked at.
 use mathlib.Core.List.{List, [], _∷_, _++_, map}
 use mathlib.Core.Option.{Option, none, some}
-use mathlib.Core.Bool.{Bool, true, false, not, _&&_, _||_}
+use mathlib.Core.Bool.{Bool, true, false, _&&_, _||_}
 use Prim.Native.Nat.{ℕ, suc, _+_, _-_, _/_, _%_}
 use Prim.Native.String.{String}
 use Prim.Native.String as String
 use Prim.Native.Char.{code}
 use lib.Dec.{ltb, eqb}
-use lib.ListN.{length}
 use Rattle.formats.specs.Law.{pick}
 use Rattle.formats.specs.Class.{inside}
 use Rattle.alerts.specs.Lists.{isEmpty}

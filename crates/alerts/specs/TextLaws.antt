@@ -1,18 +1,16 @@
 -- Laws of texts: a part of a part is a part, what stands at the front or the end is a part, what trimming and cutting leave.
 use mathlib.Core.Path.{_≡_, refl, sym, ap, _∙_}
 use mathlib.Core.List.{List, [], _∷_, _++_, append-assoc, append-nil}
-use mathlib.Core.Logic.{_⊎_, inl, inr, ⊎-elim}
+use mathlib.Core.Logic.{⊎-elim}
 use mathlib.Core.Option.{Option, none, some}
-use mathlib.Core.Bool.{Bool, true, false, not, _&&_, _||_}
+use mathlib.Core.Bool.{Bool, true, false}
 use Prim.Native.Nat.{ℕ}
-use native.Mathlib.Omega.{arith}
 use lib.Dec.{eqb}
 use borrow.Author.Tests.{eqb-true, eq-eqb}
-use Rattle.formats.specs.Law.{pick, headed, none-some, found}
-use Rattle.formats.specs.Class.{all}
-use Rattle.alerts.specs.Lists.{any, isEmpty}
-use Rattle.alerts.specs.Text.{same, begins, ends, contains, trimStart, trimEnd, trim, splitOff, rsplit-once, onto, split}
-use Rattle.alerts.specs.ListLaws.{or-comm, or-true, and-true, both-ways, same-refl, same-true, false-true}
+use Rattle.formats.specs.Law.{headed, none-some, found}
+use Rattle.alerts.specs.Lists.{isEmpty}
+use Rattle.alerts.specs.Text.{same, begins, ends, contains, splitOff, rsplit-once}
+use Rattle.alerts.specs.ListLaws.{or-comm, or-true, and-true, same-refl, same-true, false-true}
 
 -- what is empty
 pub isEmpty-true : (s : List ℕ) → isEmpty s ≡ true → s ≡ []

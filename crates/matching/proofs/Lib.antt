@@ -1,0 +1,4 @@
+pub mod Searching
+pub mod Patterns
+pub mod Naming
+pub mod Folding

@@ -1,0 +1,3 @@
+pub mod Found
+pub mod Tables
+pub mod Blob
