@@ -1,3 +1,3 @@
--- What the proofs of both functions use.
+-- What the proofs of several functions use.
 mod Ends
 mod Numbers

@@ -1,9 +1,13 @@
--- What the probes answer, by the wire format's own definitions. Assumes nothing: these are definitions.
+-- What the probes answer, by the definitions of `slices` and `wire`. Assumes nothing: these are definitions.
 use Prim.Native.Nat.{ℕ, _-_}
 use mathlib.Core.List.{List, [], _∷_}
 use mathlib.Core.Option.{Option, none, some}
 use lib.Bits.{bitXor}
 use lib.ListN.{length, drop}
+use lib.Dec.{leb}
+use Rattle.slices.specs.Lists.{choose, pasted}
+use Rattle.slices.specs.declared.Order.{Order}
+use Rattle.slices.specs.declared.Order.the-variants.{Less, Same, More}
 use Rattle.wire.specs.Wire.{Read, broken, read, varint, Field, field, many}
 
 abbrev pub endOf : List ℕ → Read Field → ℕ
@@ -25,3 +29,12 @@ xorOf acc (some l) = xorAll acc l
 -- the exclusive or of the numbers, one behind the other up to the end
 abbrev pub xorNumbers : List ℕ → ℕ
 xorNumbers s = xorOf 0 (many varint (length s) s)
+
+-- d with s in front, where it fits
+abbrev pub copied : List ℕ → List ℕ → List ℕ
+copied d s = choose (leb (length s) (length d)) (pasted d 0 s) d
+
+abbrev pub orderNumber : Order → ℕ
+orderNumber Less = 0
+orderNumber Same = 1
+orderNumber More = 2

@@ -1,6 +1,10 @@
-// Calls of the wire reader for a C host: bench/wire.c measures it with them, and runs it on inputs too long for a program's own arrays.
+// Calls of `slices` and `wire` for a C host: bench/bytes.c measures them, and runs the wire reader on an input too long for a
+// program's own arrays.
 ghost use mathlib.Core.Path.{_≡_};
-ghost use Rattle.probes.specs.Probes.{fieldEnd, xorNumbers};
+ghost use lib.ListN.{length, replicate};
+ghost use Rattle.slices.specs.Lists.{zeros, lexOf};
+ghost use Rattle.probes.specs.Probes.{fieldEnd, xorNumbers, copied, orderNumber};
+use slices::Order;
 use wire::Cursor;
 use wire::GotKey;
 use wire::GotNumber;
@@ -39,4 +43,42 @@ pub extern "C" fn probes_xor_numbers(s: &[u8]) -> u64
         }
     }
     acc
+}
+
+// Whether all bytes are 0.
+#[no_mangle]
+pub extern "C" fn probes_all_zero(s: &[u8]) -> bool
+    ensures { λ r. ⌜ r ≡ zeros (now (s .entry)) ⌝ }
+{
+    slices::all_zero(s)
+}
+
+// All bytes become 0.
+#[no_mangle]
+pub extern "C" fn probes_clear(s: &mut [u8])
+    ensures { λ _. ⌜ now (s .exit) ≡ replicate (length (now (s .entry))) 0 ⌝ }
+{
+    slices::clear(s);
+}
+
+// s goes into the front of d, where it fits.
+#[no_mangle]
+pub extern "C" fn probes_copy(d: &mut [u8], s: &[u8])
+    ensures { λ _. ⌜ now (d .exit) ≡ copied (now (d .entry)) (now (s .entry)) ⌝ }
+{
+    if s.len() <= d.len() {
+        slices::copy(d, 0, s);
+    }
+}
+
+// 0, 1 or 2, as a is before b, the same, or behind it.
+#[no_mangle]
+pub extern "C" fn probes_compare(a: &[u8], b: &[u8]) -> u8
+    ensures { λ r. ⌜ r ≡ orderNumber (lexOf (now (a .entry)) (now (b .entry))) ⌝ }
+{
+    match slices::compare(a, b) {
+        Order::Less => 0,
+        Order::Same => 1,
+        Order::More => 2,
+    }
 }

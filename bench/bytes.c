@@ -1,4 +1,6 @@
-/* Runs and measures the wire reader through the calls of crates/probes. A slice is two arguments: where it starts and how long it is. */
+/* Runs and measures `slices` and `wire` through the calls of crates/probes. A slice is two arguments: where it starts and how long
+   it is. */
+#include <stdbool.h>
 #include <stdint.h>
 #include <stdio.h>
 #include <stdlib.h>
@@ -8,6 +10,10 @@
 
 size_t probes_field_end(const uint8_t *s, size_t len, size_t at);
 uint64_t probes_xor_numbers(const uint8_t *s, size_t len);
+bool probes_all_zero(const uint8_t *s, size_t len);
+void probes_clear(uint8_t *s, size_t len);
+void probes_copy(uint8_t *d, size_t d_len, const uint8_t *s, size_t len);
+uint8_t probes_compare(const uint8_t *a, size_t a_len, const uint8_t *b, size_t b_len);
 
 enum { MIB = 1 << 20 };
 
@@ -64,6 +70,44 @@ static void measure(uint8_t *s, const char *what, int longest) {
     printf("%s: %.2f ns a number (%zu numbers)\n", what, per_number(s, len, count, want), count);
 }
 
+/* The best of some runs, in bytes a nanosecond. */
+#define SPEED(what, call)                                           \
+    do {                                                            \
+        double best = 1e18;                                         \
+        for (int run = 0; run < 60; run++) {                        \
+            double start = now_ns();                                \
+            call;                                                   \
+            double took = now_ns() - start;                         \
+            if (took < best) best = took;                           \
+        }                                                           \
+        printf("%s: %.1f bytes a ns\n", what, (double)LONG / best); \
+    } while (0)
+
+enum { LONG = 32 << 20 };
+
+static void measure_slices(void) {
+    uint8_t *a = calloc(1, LONG), *b = calloc(1, LONG);
+    if (!a || !b) exit(2);
+    memset(b, 0, LONG);
+    SPEED("clear of memory never written", probes_clear(a, LONG));
+    SPEED("memset and clear of other bytes", (memset(a, 7, LONG), probes_clear(a, LONG)));
+    SPEED("clear of zeros", probes_clear(a, LONG));
+    SPEED("zero check", probes_all_zero(a, LONG));
+    expect("all zeros when cleared", probes_all_zero(a, LONG), 1);
+    a[LONG - 1] = 1;
+    expect("a last byte of 1", probes_all_zero(a, LONG), 0);
+    expect("order", probes_compare(b, LONG, a, LONG), 0);
+    expect("order of a prefix", probes_compare(a, LONG, a, LONG - 1), 2);
+    SPEED("compare", probes_compare(b, LONG, a, LONG));
+    SPEED("copy", probes_copy(b, LONG, a, LONG));
+    SPEED("memcpy", memcpy(b, a, LONG));
+    SPEED("memset", memset(b, 7, LONG));
+    probes_copy(b, LONG, a, LONG);
+    expect("order when copied", probes_compare(b, LONG, a, LONG), 1);
+    free(a);
+    free(b);
+}
+
 int main(void) {
     uint8_t *s = malloc(MIB + 2);
     if (!s) return 2;
@@ -82,5 +126,6 @@ int main(void) {
     measure(s, "numbers of one or two bytes", 2);
     measure(s, "numbers of one to ten bytes", 10);
     free(s);
+    measure_slices();
     return failed;
 }
