@@ -6,7 +6,7 @@ use mathlib.Core.Logic.{inl, inr}
 use mathlib.Core.Option.{Option, none, some}
 use lib.IntN.{ℤ, pos, negsuc, _+ℤ_, _-ℤ_}
 use lib.Dec.{eqb}
-use Rattle.decode.specs.Typed.{int32}
+use Rattle.merged.specs.Typed.{int32}
 use Rattle.decode.specs.Trip.{Maybe, StopUpdate, Trip, arrivalDelayOf, arrivalTimeOf, departureDelayOf, departureTimeOf, delayOf, cancelledOf}
 use Rattle.overlay.specs.Change.{latest}
 use Rattle.overlay.specs.Lookup.{Found, find-stop-update}

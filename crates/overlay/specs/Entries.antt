@@ -11,27 +11,30 @@ use lib.Dec.{eqb, leb, ltb, leb·zero}
 use lib.ListN.{length, length-append, take}
 use lib.Seq.{take-at}
 use borrow.Author.Tests.{le-leb, leb-true, ltb-true, ltb-false, lt-ltb}
-use Rattle.wire.specs.Wire.{choose}
+use mir.Val.{sel}
 use Rattle.formats.specs.Law.{All}
 use Rattle.formats.specs.Class.{all, allowed, inClass, printable, token}
 use Rattle.formats.specs.Format.{Format, text, small, optional, _&_, Value}
 use Rattle.judging.specs.Judged.{ok}
 use Rattle.overlay.specs.Rules.{Judged, joined, listed, absent, present, both-true, and-true}
-use Rattle.realtime.specs.Tree.{Tree, tree, sub, rep, lastNumber, lastText}
-use Rattle.realtime.specs.Schema.{rows, feed}
+use Rattle.wire.specs.Wire.{mapO}
+use Rattle.realtime.specs.Tree.{Tree, Leaf, count, words, tree, last, sub, rep}
+use Rattle.realtime.specs.Schema.{feedMessage, feedEntity, tripUpdate, tripDescriptor, stopTimeUpdate, stopTimeEvent, rows, feed}
 use Rattle.realtime.specs.Judge as judge
-use Rattle.realtime.specs.Judge.{rules, textsFine, numbersFine, textRule, numberRule, limit}
-use Rattle.decode.specs.Typed.{int32, int64, uint32}
+use Rattle.realtime.specs.Judge.{rules, textsFine, numbersFine, numberRule, limit}
+use Rattle.merged.specs.Typed.{int32, int64, uint32, number, orZero}
+use Rattle.merged.specs.Typed as typed
+use Rattle.merged.specs.Views as view
 use Rattle.decode.specs.Trip.{Maybe, Trip, StopUpdate, delay, instant, number32, stopUpdate, trip, routeOf, dateOf, timeOf, directionOf, updatesOf}
 use Rattle.decode.specs.Key.{empty, decimalOf, shown, prefixed, datedKey, incompleteKey, inserts, entriesIn, rawOk, datedOk, keyOk}
 use Rattle.slices.specs.Lists.{lexOf}
 use Rattle.decode.specs.Map.{isSame, ascending}
 use Rattle.decode.specs.Order.{numbers, lex-itself}
 use Rattle.decode.specs.Laws.{puts-ascending}
-use Rattle.decode.specs.Record.{when, ifGiven, textAt, isAt, sequenceIn, updateIn, updatesIn, updateOf, descriptorOf, deletedIn, rawIn, tripIn}
+use Rattle.decode.specs.Record.{maybe, bit, updateIn, updatesIn, tripIn}
 use Rattle.decode.specs.Leaves.{entries, timestampIn}
 use Rattle.overlay.specs.State.{timestamp}
-use Rattle.overlay.specs.Fine.{Fine, Given, fine-sub, fine-rep, fine-number, fine-text, tree-fine}
+use Rattle.overlay.specs.Fine.{Fine, Given, LeafFine, fine-sub, fine-rep, fine-last, tree-fine}
 use Rattle.overlay.specs.Kept.{TripKept}
 use Rattle.overlay.specs.Keeps.{each-puts}
 
@@ -46,14 +49,14 @@ int32-judged n = record { formed = tt; five = refl; six = go (ltb (n % 2 ^ 32) (
     m : ℕ
     m = n % 2 ^ 32
 
-    go : (b : Bool) → ltb m (2 ^ 31) ≡ b → ok 6 delay (choose b (pos m) (negsuc (2 ^ 32 - suc m))) ≡ true
+    go : (b : Bool) → ltb m (2 ^ 31) ≡ b → ok 6 delay (sel b (pos m) (negsuc (2 ^ 32 - suc m))) ≡ true
     go true e = le-leb m 2147483647 (omega (arith, ltb-true m (2 ^ 31) e))
     go false e = and-true (le-leb (2 ^ 32 - suc m) 2147483647 (omega (arith, ltb-false m (2 ^ 31) e))) refl
 
 int64-judged : (n : ℕ) → Judged timestamp (int64 n)
 int64-judged n = record { formed = tt; five = refl; six = go (ltb n (2 ^ 63)) refl }
   where
-    go : (b : Bool) → ltb n (2 ^ 63) ≡ b → ok 6 timestamp (choose b (pos n) (negsuc (2 ^ 64 - suc n))) ≡ true
+    go : (b : Bool) → ltb n (2 ^ 63) ≡ b → ok 6 timestamp (sel b (pos n) (negsuc (2 ^ 64 - suc n))) ≡ true
     go true e = le-leb n 9223372036854775807 (omega (arith, ltb-true n (2 ^ 63) e))
     go false e = and-true (le-leb (2 ^ 64 - suc n) 9223372036854775807 (omega (arith, ltb-false n (2 ^ 63) e))) refl
 
@@ -65,28 +68,27 @@ instant-judged n h =
 uint32-judged : (n : ℕ) → Judged number32 (uint32 n)
 uint32-judged n = record { formed = tt; five = refl; six = and-true (leb·zero (n % 2 ^ 32)) (le-leb (n % 2 ^ 32) 4294967295 (omega arith)) }
 
-flag-judged : (f e : ℕ) (m : Tree) → Judged (small 1) (isAt f e m)
-flag-judged f e m = go (lastNumber f m)
-  where
-    one : (b : Bool) → Judged (small 1) (cond b 1 0)
-    one true = record { formed = omega arith; five = refl; six = refl }
-    one false = record { formed = omega arith; five = refl; six = refl }
+flag-judged : (b : Bool) → Judged (small 1) (bit b)
+flag-judged true = record { formed = omega arith; five = refl; six = refl }
+flag-judged false = record { formed = omega arith; five = refl; six = refl }
 
-    go : (o : Option ℕ) → Judged (small 1) (ifGiven 0 (λ n. cond (eqb (uint32 n) e) 1 0) o)
-    go none = record { formed = omega arith; five = refl; six = refl }
-    go (some n) = one (eqb (uint32 n) e)
+-- a number that may be absent, by its type
+maybe-judged : {A : Type 0} (F : Format) (P : A → Type 0) (g : A → Value F) → ((a : A) → P a → Judged F (g a)) → (o : Option A) → Given P o → Judged (optional F) (maybe (mapO g o))
+maybe-judged F P g h none x = absent F
+maybe-judged F P g h (some a) x = present F (g a) (h a x)
 
-when-judged : {A : Type 0} (F : Format) (P : A → Type 0) (g : A → Value F) → ((a : A) → P a → Judged F (g a)) → (o : Option A) → Given P o → Judged (optional F) (when g o)
-when-judged F P g h none x = absent F
-when-judged F P g h (some a) x = present F (g a) (h a x)
-
-any-judged : {A : Type 0} (F : Format) (g : A → Value F) → ((a : A) → Judged F (g a)) → (o : Option A) → Judged (optional F) (when g o)
+any-judged : {A : Type 0} (F : Format) (g : A → Value F) → ((a : A) → Judged F (g a)) → (o : Option A) → Judged (optional F) (maybe (mapO g o))
 any-judged F g h none = absent F
 any-judged F g h (some a) = present F (g a) (h a)
 
 pub timestamp-kept : (t : Tree) → Judged (optional timestamp) (timestampIn t)
-unfolding timestampIn
-timestamp-kept t = any-judged timestamp int64 int64-judged (lastNumber 3 (sub 1 t))
+timestamp-kept t = any-judged timestamp int64 int64-judged (view.header t .timestamp)
+
+-- a listed number
+number-given : (t f : ℕ) (o : Option Leaf) → Given (LeafFine feed rules t f) o → Given (λ n. numberRule t f n ≡ true) (number o)
+number-given t f none x = tt
+number-given t f (some (count n)) x = x
+number-given t f (some (words s)) x = tt
 
 -- ---- texts
 
@@ -103,12 +105,13 @@ printable-class [] = refl
 printable-class (b ∷ x) = ap (λ r. (leb 32 b && leb b 126) && r) (printable-class x)
 
 -- the last text of a field
-text-printed : (t f l : ℕ) (m : Tree) → limit t f ≡ l → FineIn t m → Printed l (textAt f m)
-text-printed t f l m e x = go (lastText f m) (fine-text feed rules t f m x)
+text-printed : (t f l : ℕ) (m : Tree) → limit t f ≡ l → FineIn t m → Printed l (typed.text (last f m))
+text-printed t f l m e x = go (last f m) (fine-last feed rules t f m x)
   where
-    go : (o : Option (List ℕ)) → Given (λ s. textRule t f s ≡ true) o → Printed l (ifGiven [] (λ s. s) o)
+    go : (o : Option Leaf) → Given (LeafFine feed rules t f) o → Printed l (typed.text o)
     go none h = record { short = omega arith; fair = refl }
-    go (some s) h =
+    go (some (count n)) h = record { short = omega arith; fair = refl }
+    go (some (words s)) h =
         let q = both-true (leb (length s) (limit t f)) (judge.printable s) h in
         record { short = omega (arith, leb-true (length s) (limit t f) (q .0)); fair = sym (printable-class s) ∙ q .1 }
 
@@ -124,60 +127,62 @@ printed-up h a = record { short = omega (arith, a .short); fair = a .fair }
 
 -- ---- a stop time update, and a trip
 
-update-judged : (s : Tree) → FineIn 5 s → Judged stopUpdate (updateIn s)
+event-judged : (v : Tree) → FineIn stopTimeEvent v → Judged (optional delay) (maybe (view.event v .delay)) × Judged (optional instant) (maybe (view.event v .time))
+event-judged v x = (
+  any-judged delay int32 int32-judged (number (last 1 v)),
+  maybe-judged instant (λ n. numberRule stopTimeEvent 2 n ≡ true) int64 instant-judged (number (last 2 v)) (number-given stopTimeEvent 2 (last 2 v) (fine-last feed rules stopTimeEvent 2 v x)),
+)
+
+update-judged : (s : Tree) → FineIn stopTimeUpdate s → Judged stopUpdate (updateIn s)
 unfolding updateIn feed rows
 update-judged s x =
-    let a = fine-number feed rules 6 2 (sub 2 s) (fine-sub feed rules 5 2 6 refl s x) in
-    let d = fine-number feed rules 6 2 (sub 3 s) (fine-sub feed rules 5 3 6 refl s x) in
-    let I : ℕ → Type 0 = λ n. numberRule 6 2 n ≡ true in
-    joined _ (printed-judged 64 (textAt 4 s) (text-printed 5 4 64 s refl x))
-    (joined _ (any-judged delay int32 int32-judged (lastNumber 1 (sub 2 s)))
-    (joined _ (when-judged instant I int64 instant-judged (lastNumber 2 (sub 2 s)) a)
-    (joined _ (any-judged delay int32 int32-judged (lastNumber 1 (sub 3 s)))
-    (joined _ (when-judged instant I int64 instant-judged (lastNumber 2 (sub 3 s)) d) (flag-judged 5 1 s)))))
+    let a = event-judged (sub 2 s) (fine-sub feed rules stopTimeUpdate 2 stopTimeEvent refl s x) in
+    let d = event-judged (sub 3 s) (fine-sub feed rules stopTimeUpdate 3 stopTimeEvent refl s x) in
+    joined _ (printed-judged 64 _ (text-printed stopTimeUpdate 4 64 s refl x))
+    (joined _ (a .0) (joined _ (a .1) (joined _ (d .0) (joined _ (d .1) (flag-judged (view.stopUpdate s .skipped))))))
 
 abbrev updateEntries : List Tree → List (ℕ × StopUpdate)
-updateEntries l = map {B = ℕ × StopUpdate} (λ s. (sequenceIn s, updateIn s)) l
+updateEntries l = map {B = ℕ × StopUpdate} (λ s. (view.stopUpdate s .sequence, updateIn s)) l
 
-sequence-judged : (s : Tree) → Judged number32 (sequenceIn s)
-unfolding sequenceIn
-sequence-judged s = go (lastNumber 1 s)
-  where
-    go : (o : Option ℕ) → Judged number32 (ifGiven 0 uint32 o)
-    go none = record { formed = tt; five = refl; six = refl }
-    go (some n) = uint32-judged n
-
-each-update : (l : List Tree) → All (FineIn 5) l → All (Judged (number32 & stopUpdate)) (updateEntries l)
+each-update : (l : List Tree) → All (FineIn stopTimeUpdate) l → All (Judged (number32 & stopUpdate)) (updateEntries l)
 each-update [] h = tt
-each-update (s ∷ l) h = (joined _ (sequence-judged s) (update-judged s (h .0)), each-update l (h .1))
+each-update (s ∷ l) h = (joined _ (uint32-judged (orZero (number (last 1 s)))) (update-judged s (h .0)), each-update l (h .1))
 
-updates-judged : (u : Tree) → FineIn 3 u → All (Judged (number32 & stopUpdate)) (updatesIn u)
+updates-judged : (e : Tree) → FineIn tripUpdate (sub 3 e) → All (Judged (number32 & stopUpdate)) (updatesIn e)
 unfolding updatesIn feed rows
-updates-judged u x = each-puts numbers (Judged (number32 & stopUpdate)) (updateEntries (rep 2 u)) [] (each-update (rep 2 u) (fine-rep feed rules 3 2 5 refl u x)) tt
+updates-judged e x =
+    each-puts numbers (Judged (number32 & stopUpdate)) (updateEntries (rep 2 (sub 3 e))) []
+    (each-update (rep 2 (sub 3 e)) (fine-rep feed rules tripUpdate 2 stopTimeUpdate refl (sub 3 e) x)) tt
 
-updates-up : (u : Tree) → ascending numbers (updatesIn u) ≡ true
+updates-up : (e : Tree) → ascending numbers (updatesIn e) ≡ true
 unfolding updatesIn
-updates-up u = puts-ascending numbers (updateEntries (rep 2 u)) [] refl
+updates-up e = puts-ascending numbers (updateEntries (rep 2 (sub 3 e))) [] refl
 
-module _ (e : Tree) (x : FineIn 2 e) where
-  fine-update : FineIn 3 (updateOf e)
-  unfolding feed rows
-  fine-update = fine-sub feed rules 2 3 3 refl e x
+-- the descriptor of an entity
+abbrev descriptor : Tree → Tree
+descriptor e = sub 1 (sub 3 e)
 
-  fine-descriptor : FineIn 4 (descriptorOf e)
+module _ (e : Tree) (x : FineIn feedEntity e) where
+  fine-update : FineIn tripUpdate (sub 3 e)
   unfolding feed rows
-  fine-descriptor = fine-sub feed rules 3 1 4 refl (sub 3 e) fine-update
+  fine-update = fine-sub feed rules feedEntity 3 tripUpdate refl e x
+
+  fine-descriptor : FineIn tripDescriptor (descriptor e)
+  unfolding feed rows
+  fine-descriptor = fine-sub feed rules tripUpdate 1 tripDescriptor refl (sub 3 e) fine-update
+
+  text-of : (f l : ℕ) → limit tripDescriptor f ≡ l → Printed l (typed.text (last f (descriptor e)))
+  text-of f l q = text-printed tripDescriptor f l (descriptor e) q fine-descriptor
 
   trip-judged : Judged trip (tripIn e)
   unfolding tripIn
   trip-judged =
-      let d = descriptorOf e in
-      joined _ (any-judged delay int32 int32-judged (lastNumber 5 (updateOf e)))
-      (joined _ (flag-judged 4 3 d)
-      (joined _ (printed-judged 16 (textAt 3 d) (text-printed 4 3 16 d refl fine-descriptor))
-      (joined _ (printed-judged 64 (textAt 5 d) (text-printed 4 5 64 d refl fine-descriptor))
-      (joined _ (any-judged number32 uint32 uint32-judged (lastNumber 6 d))
-      (joined _ (printed-judged 16 (textAt 2 d) (text-printed 4 2 16 d refl fine-descriptor)) (listed 128 (number32 & stopUpdate) (updatesIn (updateOf e)) (updates-judged (updateOf e) fine-update)))))))
+      joined _ (any-judged delay int32 int32-judged (number (last 5 (sub 3 e))))
+      (joined _ (flag-judged (view.trip e .cancelled))
+      (joined _ (printed-judged 16 _ (text-of 3 16 refl))
+      (joined _ (printed-judged 64 _ (text-of 5 64 refl))
+      (joined _ (any-judged number32 uint32 uint32-judged (number (last 6 (descriptor e))))
+      (joined _ (printed-judged 16 _ (text-of 2 16 refl)) (listed 128 (number32 & stopUpdate) (updatesIn e) (updates-judged e fine-update)))))))
 
 -- ---- keys
 
@@ -282,28 +287,25 @@ module _ (f : List ℕ) (name : ok 5 (text 16 token) f ≡ true) where
         (base, tt),
       )
 
-  entity-kept : (e : Tree) → FineIn 2 e → All (TripKept f) (entriesIn f e)
+  entity-kept : (e : Tree) → FineIn feedEntity e → All (TripKept f) (entriesIn f e)
   unfolding entriesIn tripIn
-  entity-kept e x = go (deletedIn e)
+  entity-kept e x = go (view.deleted e)
     where
-      d : Tree
-      d = descriptorOf e
-
-      go : (b : Bool) → All (TripKept f) (cond b [] (inserts f (rawIn e) (tripIn e)))
+      go : (b : Bool) → All (TripKept f) (cond b [] (inserts f (view.trip e .id) (tripIn e)))
       go true = tt
       go false =
-          inserts-kept (rawIn e) (tripIn e) (text-printed 4 1 64 d refl (fine-descriptor e x)) (text-printed 4 5 64 d refl (fine-descriptor e x))
-          (text-printed 4 3 16 d refl (fine-descriptor e x)) (text-printed 4 2 16 d refl (fine-descriptor e x)) (trip-judged e x) (updates-up (updateOf e))
+          inserts-kept (view.trip e .id) (tripIn e) (text-of e x 1 64 refl) (text-of e x 5 64 refl) (text-of e x 3 16 refl) (text-of e x 2 16 refl)
+          (trip-judged e x) (updates-up e)
 
   all-join : {A : Type 0} (P : A → Type 0) (x y : List A) → All P x → All P y → All P (x ++ y)
   all-join P [] y a b = b
   all-join P (c ∷ x) y a b = (a .0, all-join P x y (a .1) b)
 
-  each-entity : (l : List Tree) → All (FineIn 2) l → All (TripKept f) (entries f l)
+  each-entity : (l : List Tree) → All (FineIn feedEntity) l → All (TripKept f) (entries f l)
   unfolding entries
   each-entity [] h = tt
   each-entity (e ∷ l) h = all-join (TripKept f) (entriesIn f e) (entries f l) (entity-kept e (h .0)) (each-entity l (h .1))
 
-  pub entries-kept : (m : List ℕ) (t : Tree) → tree feed 0 m ≡ some t → textsFine rules 0 t ≡ true → numbersFine rules 0 t ≡ true → All (TripKept f) (entries f (rep 2 t))
+  pub entries-kept : (m : List ℕ) (t : Tree) → tree feed feedMessage m ≡ some t → textsFine rules feedMessage t ≡ true → numbersFine rules feedMessage t ≡ true → All (TripKept f) (entries f (rep 2 t))
   unfolding feed rows
-  entries-kept m t e a b = each-entity (rep 2 t) (fine-rep feed rules 0 2 2 refl t (tree-fine feed rules 0 m t e a b))
+  entries-kept m t e a b = each-entity (rep 2 t) (fine-rep feed rules feedMessage 2 feedEntity refl t (tree-fine feed rules feedMessage m t e a b))

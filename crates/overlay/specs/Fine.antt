@@ -10,7 +10,7 @@ use borrow.Author.Tests.{eqb-true}
 use Rattle.wire.specs.Wire.{choose, mapO, Value, number, eight, string, group, four, Field, fields}
 use Rattle.formats.specs.Law.{All, none-some}
 use Rattle.overlay.specs.Rules.{both-true}
-use Rattle.realtime.specs.Tree.{Kind, aNumber, aText, aMessage, Schema, Tree, end, num, txt, msg, bindO, orElse, putNumber, putText, putMessage, put, build, nest, tree, join, sub, rep, lastNumber, lastText}
+use Rattle.realtime.specs.Tree.{Kind, aNumber, aText, aMessage, Schema, Tree, end, num, txt, msg, Leaf, count, words, bindO, orElse, putNumber, putText, putMessage, put, build, nest, tree, join, last, sub, rep}
 use Rattle.realtime.specs.Judge.{Rules, textsFine, numbersFine}
 
 -- a tree of type t, whose messages are of the types that the schema lists, and whose texts and numbers are within the rules
@@ -135,23 +135,18 @@ module _ (σ : Schema) (ρ : Rules) where
         go true e h = ((let z = at g v e (x .0) in rw z at (x .1)), h)
         go false e h = h
 
-  -- the last number and the last text of a field
+  -- the last value of a field
   later : {A : Type 0} (P : A → Type 0) (o : Option A) (b : Bool) (a : A) → Given P o → (b ≡ true → P a) → Given P (orElse o (choose b (some a) none))
   later P none true a x h = h refl
   later P none false a x h = tt
   later P (some c) b a x h = x
 
-  module _ (t f : ℕ) where
-    pub fine-number : (m : Tree) → Fine σ ρ t m → Given (λ n. ρ .number t f n ≡ true) (lastNumber f m)
-    fine-number end x = tt
-    fine-number (num g n r) x =
-        later (λ n. ρ .number t f n ≡ true) (lastNumber f r) (eqb g f) n (fine-number r (x .1)) (λ e. let z : g ≡ f = eqb-true g f e in rw z at (x .0))
-    fine-number (txt g s r) x = fine-number r (x .1)
-    fine-number (msg g v m r) x = fine-number r (x .2)
+  abbrev pub LeafFine : ℕ → ℕ → Leaf → Type 0
+  LeafFine t f (count n) = ρ .number t f n ≡ true
+  LeafFine t f (words x) = ρ .text t f x ≡ true
 
-    pub fine-text : (m : Tree) → Fine σ ρ t m → Given (λ s. ρ .text t f s ≡ true) (lastText f m)
-    fine-text end x = tt
-    fine-text (num g n r) x = fine-text r (x .1)
-    fine-text (txt g s r) x =
-        later (λ s. ρ .text t f s ≡ true) (lastText f r) (eqb g f) s (fine-text r (x .1)) (λ e. let z : g ≡ f = eqb-true g f e in rw z at (x .0))
-    fine-text (msg g v m r) x = fine-text r (x .2)
+  pub fine-last : (t f : ℕ) (m : Tree) → Fine σ ρ t m → Given (LeafFine t f) (last f m)
+  fine-last t f end x = tt
+  fine-last t f (num g n r) x = later (LeafFine t f) (last f r) (eqb g f) (count n) (fine-last t f r (x .1)) (λ e. let z : g ≡ f = eqb-true g f e in rw z at (x .0))
+  fine-last t f (txt g s r) x = later (LeafFine t f) (last f r) (eqb g f) (words s) (fine-last t f r (x .1)) (λ e. let z : g ≡ f = eqb-true g f e in rw z at (x .0))
+  fine-last t f (msg g v m r) x = fine-last t f r (x .2)

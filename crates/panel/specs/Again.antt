@@ -1,9 +1,8 @@
 -- A finished card is a card: within questions 4 to 7 again. Assumes nothing.
 use mathlib.Core.Path.{_≡_, refl, sym, ap, _∙_}
 use mathlib.Core.Bool.{true}
-use mathlib.Core.List.{List, [], append-nil}
+use mathlib.Core.List.{[], append-nil}
 use mathlib.Core.Option.{some}
-use Prim.Native.Nat.{ℕ}
 use Rattle.formats.specs.Format.{Value, write, read, read-write}
 use Rattle.judging.specs.Judged.{ok}
 use Rattle.overlay.specs.State.{State}

@@ -10,7 +10,7 @@ use lib.Dec.{eqb}
 use lib.ListN.{replicate}
 use Rattle.formats.specs.Format.{Value, write}
 use Rattle.realtime.specs.Tree.{Tree, tree}
-use Rattle.realtime.specs.Schema.{feed}
+use Rattle.realtime.specs.Schema.{feedMessage, feed}
 use Rattle.decode.specs.Map.{puts}
 use Rattle.decode.specs.Order.{texts}
 use Rattle.decode.specs.Leaves.{leaves}
@@ -65,7 +65,7 @@ vehiclesEnter f vs clock bk =
 -- what an accepted call makes of the book
 abbrev pub entered : Call → Book → Book
 entered (fresh new) bk = noBook
-entered (message f m new work) bk = ifRead (tree feed 0 m) bk (λ t. messageEnters f t bk)
+entered (message f m new work) bk = ifRead (tree feed feedMessage m) bk (λ t. messageEnters f t bk)
 entered (alertSheet f sheet new work) bk = ifRead (whole alertForm sheet) bk (λ v. alertsEnter f (v .1) bk)
 entered (vehicleSheet f sheet clock new work) bk = ifRead (whole vehicleForm sheet) bk (λ v. vehiclesEnter f (v .1) clock bk)
 entered (card bytes out work) bk = bk

@@ -9,8 +9,8 @@ use lib.Dec.{eqb, leb}
 use lib.ListN.{length, replicate}
 use borrow.Author.Tests.{le-leb}
 use Rattle.realtime.specs.Tree.{tree}
-use Rattle.realtime.specs.Schema.{feed}
-use Rattle.realtime.specs.Gains.{Gains, gains-tree}
+use Rattle.realtime.specs.Schema.{feedMessage, feed}
+use Rattle.realtime.specs.Gains.{Gains, gains-same-tree}
 use Rattle.overlay.specs.State.{State}
 use Rattle.overlay.specs.Image.{stateOf}
 use Rattle.panel.specs.Outcome.{Outcome, need, needSome, numberOf, bytesOf}
@@ -21,7 +21,7 @@ use Rattle.panel.specs.Calls.{Call, message, gives, writes, after, run, 
 -- accepted and the second's is not too long. Overlays are each run's own, and of output and working buffers only the lengths are arguments
 pub data Alike : Call → ℕ → Call → Type 0 where
   equal : {c : Call} {n : ℕ} → Alike c n c
-  gained : {f m m′ : List ℕ} {new : ℕ} {work : List ℕ} {n : ℕ} → Gains feed 0 m m′ → n ≡ 0 → length m′ ≤ 1048576
+  gained : {f m m′ : List ℕ} {new : ℕ} {work : List ℕ} {n : ℕ} → Gains feed feedMessage m m′ → n ≡ 0 → length m′ ≤ 1048576
       → Alike (message f m new work) n (message f m′ new work)
 
 -- one beside the other, all along
@@ -40,12 +40,12 @@ third true none b k e = refl
 third true (some s) true k e = refl
 third true (some s) false k e = absurd (omega (arith, e))
 
-message-gained : (L : Lengths) (old f m m′ : List ℕ) (new : ℕ) (work : List ℕ) → Gains feed 0 m m′ → length m′ ≤ 1048576
+message-gained : (L : Lengths) (old f m m′ : List ℕ) (new : ℕ) (work : List ℕ) → Gains feed feedMessage m m′ → length m′ ≤ 1048576
     → numberOf (messageOf L old f m new work) ≡ 0 → messageOf L old f m new work ≡ messageOf L old f m′ new work
 unfolding messageOf
 message-gained L old f m m′ new work g l e =
-    rw (le-leb (length m′) 1048576 l, gains-tree g)
-    (third (lengthsOk L old new (L .overlay) work (L .messageWork)) (stateOf old) (leb (length m) 1048576) (λ s. needSome (tree feed 0 m) 4 (treeOf L f s)) e)
+    rw (le-leb (length m′) 1048576 l, gains-same-tree g)
+    (third (lengthsOk L old new (L .overlay) work (L .messageWork)) (stateOf old) (leb (length m) 1048576) (λ s. needSome (tree feed feedMessage m) 4 (treeOf L f s)) e)
 
 alike-ends : (L : Lengths) (old : List ℕ) {c d : Call} {n : ℕ} → Alike c n d → n ≡ gives L old c .number → gives L old c ≡ gives L old d
 alike-ends L old equal e = refl

@@ -20,7 +20,7 @@ use Rattle.decode.specs.Map.{puts, ascending}
 use Rattle.decode.specs.Order.{texts}
 use Rattle.decode.specs.Leaves.{leaves}
 use Rattle.realtime.specs.Tree.{Tree, tree}
-use Rattle.realtime.specs.Schema.{feed}
+use Rattle.realtime.specs.Schema.{feedMessage, feed}
 use Rattle.realtime.specs.Judge.{rules, textsFine, numbersFine}
 use Rattle.alerts.specs.Alert.{Alert, alert, alertSheet as alertForm}
 use Rattle.overlay.specs.State.{State, Feed, Vehicles, overlay, noState, vehicleEntry, vehicleSheet as vehicleForm}
@@ -110,13 +110,13 @@ tree-shown : (f : List ℕ) (t : Tree) (s : State) → shown (afterMessage f t s
 unfolding afterMessage
 tree-shown f t s = entered-put f _ _ s ∙ ap (λ R. enter f (record { trips = leaves f t (R .trips); vehicles = R .vehicles; alerts = R .alerts }) (shown s)) (sym (records-at f s))
 
-tree-leaves : (L : Lengths) (f m : List ℕ) (s : State) (t : Tree) → StateKept s → tree feed 0 m ≡ some t → numberOf (treeOf L f s t) ≡ 0 → Leaves (treeOf L f s t) (messageEnters f t (shown s))
+tree-leaves : (L : Lengths) (f m : List ℕ) (s : State) (t : Tree) → StateKept s → tree feed feedMessage m ≡ some t → numberOf (treeOf L f s t) ≡ 0 → Leaves (treeOf L f s t) (messageEnters f t (shown s))
 unfolding treeOf
 tree-leaves L f m s t k is e =
     let x = changed (L .overlay) (afterMessage f t s) in
-    let a = asked (feedOk f && textsFine rules 0 t) 5 (need (numbersFine rules 0 t) 6 x) (omega arith) e in
-    let b = asked (numbersFine rules 0 t) 6 x (omega arith) (a .next) in
-    let y = both-true (feedOk f) (textsFine rules 0 t) (a .yes) in
+    let a = asked (feedOk f && textsFine rules feedMessage t) 5 (need (numbersFine rules feedMessage t) 6 x) (omega arith) e in
+    let b = asked (numbersFine rules feedMessage t) 6 x (omega arith) (a .next) in
+    let y = both-true (feedOk f) (textsFine rules feedMessage t) (a .yes) in
     leaves-same (a .same ∙ b .same)
     (changed-leaves (L .overlay) (afterMessage f t s) _ (message-kept f t s (y .0) (entries-kept f (y .0) m t is (y .1) (b .yes)) (timestamp-kept t) k) (tree-shown f t s) (b .next))
 
@@ -173,10 +173,10 @@ unfolding freshOf
 fresh-accepted L = rw (eq-eqb (L .overlay) (L .overlay) refl) refl
 
 message-leaves : (L : Lengths) (old : List ℕ) (bk : Book) (f m : List ℕ) (new : ℕ) (work : List ℕ) → Holds old bk
-    → numberOf (messageOf L old f m new work) ≡ 0 → Leaves (messageOf L old f m new work) (ifRead (tree feed 0 m) bk (λ t. messageEnters f t bk))
+    → numberOf (messageOf L old f m new work) ≡ 0 → Leaves (messageOf L old f m new work) (ifRead (tree feed feedMessage m) bk (λ t. messageEnters f t bk))
 unfolding messageOf
 message-leaves L old bk f m new work h e =
-    let r = past-four L old new (L .overlay) work (L .messageWork) (leb (length m) 1048576) (tree feed 0 m) (treeOf L f) (h .state) (h .is) e in
+    let r = past-four L old new (L .overlay) work (L .messageWork) (leb (length m) 1048576) (tree feed feedMessage m) (treeOf L f) (h .state) (h .is) e in
     leaves-same (r .same)
     (leaves-book (ap (messageEnters f (r .value)) (h .same) ∙ read-is bk (λ t. messageEnters f t bk) (r .is))
     (tree-leaves L f m (h .state) (r .value) (holds-kept h) (r .is) (r .next)))

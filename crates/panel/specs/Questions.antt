@@ -11,7 +11,7 @@ use Rattle.formats.specs.Class.{token}
 use Rattle.formats.specs.Format.{Format, text, Value, read, write}
 use Rattle.judging.specs.Judged.{ok}
 use Rattle.realtime.specs.Tree.{Tree, tree}
-use Rattle.realtime.specs.Schema.{feed}
+use Rattle.realtime.specs.Schema.{feedMessage, feed}
 use Rattle.realtime.specs.Judge.{rules, textsFine, numbersFine}
 use Rattle.decode.specs.Trip.{instant}
 use Rattle.decode.specs.Map.{ascending}
@@ -64,12 +64,12 @@ unfoldable pub freshOf : Lengths → ℕ → Outcome
 freshOf L new = need (eqb new (L .overlay)) 1 (accepted (write overlay noState))
 
 unfoldable pub treeOf : Lengths → List ℕ → State → Tree → Outcome
-treeOf L f s t = need (feedOk f && textsFine rules 0 t) 5 (need (numbersFine rules 0 t) 6 (changed (L .overlay) (afterMessage f t s)))
+treeOf L f s t = need (feedOk f && textsFine rules feedMessage t) 5 (need (numbersFine rules feedMessage t) 6 (changed (L .overlay) (afterMessage f t s)))
 
 unfoldable pub messageOf : Lengths → List ℕ → List ℕ → List ℕ → ℕ → List ℕ → Outcome
 messageOf L old f m new work =
     opened L old new (L .overlay) work (L .messageWork) (λ s.
-    need (leb (length m) 1048576) 3 (needSome (tree feed 0 m) 4 (treeOf L f s)))
+    need (leb (length m) 1048576) 3 (needSome (tree feed feedMessage m) 4 (treeOf L f s)))
 
 unfoldable pub alertsOf : Lengths → List ℕ → State → Value alertSheet → Outcome
 alertsOf L f s v = need (feedOk f && ok 5 alertSheet v) 5 (changed (L .overlay) (afterAlerts f (v .1) s))

@@ -145,7 +145,7 @@ table =
 pub rides : Holds table
 unfolding table run questions.freshOf questions.messageOf questions.treeOf questions.cardCallOf questions.arrivingOf questions.finished questions.whole
     image.stateOf image.filled image.room valid.valid valid.within valid.feedValid shown change.afterMessage change.feedAt change.putFeed
-    leaves.leaves leaves.entries leaves.differential leaves.timestampIn leaves.countOf
+    leaves.leaves leaves.entries leaves.countOf
     tree nest feed rows wire.fields wire.many wire.field wire.value wire.payload wire.until wire.text wire.bytes wire.key wire.varint wire.digits lexOf
     lookup.first lookup.feed-of lookup.trip-at lookup.get-trip lookup.find-stop-update lookup.resolve-trip-rt lookup.get-vehicle-for-trip lookup.vehicle-for-trip lookup.stop-update-by-stop-id
     times.apply-time enrich.trip-rt enrich.cancels enrich.departs enrich.arrives enrich.live enrich.late enrich.applies enrich.alerts-of enrich.disrupted
