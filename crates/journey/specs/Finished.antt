@@ -1,7 +1,7 @@
 -- A FINISHED CARD IS A CARD: within questions 5 and 6 again, where the arriving card and the feeds are. Assumes nothing.
 use mathlib.Core.Path.{_≡_, refl}
-use mathlib.Core.Bool.{Bool, true, false, cond, _&&_, not, false≢true}
-use mathlib.Core.List.{List, [], _∷_, _++_, map}
+use mathlib.Core.Bool.{Bool, true, false, cond, _&&_, false≢true}
+use mathlib.Core.List.{List, [], _∷_, map}
 use mathlib.Core.Logic.{inl, inr}
 use mathlib.Core.Option.{Option, none, some}
 use Prim.Native.Nat.{ℕ, zero, suc, _+_, _-_, _^_, _%_, _≤_}
@@ -10,29 +10,28 @@ use lib.IntN.{ℤ, pos, negsuc, subℕ, _+ℤ_, _-ℤ_}
 use lib.Dec.{leb, ltb}
 use lib.ListN.{length}
 use borrow.Author.Tests.{leb-true, le-leb, ltb-true}
-use Rattle.formats.specs.Law.{All, pick}
+use Rattle.formats.specs.Law.{All}
 use Rattle.formats.specs.Class.{inClass, utf8}
 use Rattle.formats.specs.Format.{Format, text, optional, small, float, Value}
 use Rattle.judging.specs.Judged.{atMost}
 use Rattle.decode.specs.Trip.{Maybe, Trip, StopUpdate, delay, instant, stopUpdate, trip}
-use Rattle.decode.specs.Map.{puts}
-use Rattle.decode.specs.Order.{texts}
-use Rattle.alerts.specs.Lists.{any, filter, isEmpty, join}
+use Rattle.alerts.specs.Lists.{any}
 use Rattle.alerts.specs.Alert as alert
 use Rattle.alerts.specs.Alert.{Alert}
 use Rattle.alerts.specs.Label.{label}
 use Rattle.alerts.specs.LabelLaws.{label-utf8, label-length}
 use Rattle.overlay.specs.State.{Vehicle, vehicle, latitudeOf, longitudeOf, updatedOf}
 use Rattle.overlay.specs.Rules.{Judged, left, right, joined, elements, listed, absent, present, both-true, and-true}
-use Rattle.overlay.specs.Keeps.{each-puts}
+use Rattle.overlay.specs.Keeps.{each-map}
 use Rattle.overlay.specs.Entries.{int32-judged}
 use Rattle.overlay.specs.Fine.{Given}
 use Rattle.overlay.specs.Change.{latest}
-use Rattle.overlay.specs.Lookup.{Found, feed-of, find-stop-update, get-vehicle-for-trip}
+use Rattle.overlay.specs.Lookup.{Found, find-stop-update, get-vehicle-for-trip}
 use Rattle.overlay.specs.Records.{Records, Feeds}
 use Rattle.journey.specs.Card.{scheduled, cardTime, duration, middle, transit, leg, card, Transit, middleOf, middleValue, transitOf, transitValue, cardOf, cardValue}
 use Rattle.journey.specs.Times.{Event, arrival, departure, StopRealtime, wrap32, timeOf, delayAt, delayed, timed, updated, apply-time}
-use Rattle.journey.specs.Enrich.{trip-rt, cancels, departs, arrives, live, taken, placed, enrichMiddle, enrichTransit, enrichLeg, transits, late, alertsIn, applies, alerts-of, disrupted, status-of, keys, labels-of, headers-of, firstDeparture, lastArrival, given, enrich-with-realtime}
+use Rattle.journey.specs.Enrich.{trip-rt, cancels, departs, arrives, live, taken, placed, enrichMiddle, enrichTransit, enrichLeg, transits, late, disrupted, status-of, headers-of, firstDeparture, lastArrival, given, enrich-with-realtime}
+use Rattle.journey.specs.Headers.{headers-each}
 use Rattle.journey.specs.Found.{RecordsJudged, FeedsJudged, FoundJudged, resolve-gives, update-gives, vehicle-gives}
 
 -- ---- ranges
@@ -273,51 +272,16 @@ label-judged a j =
       six = refl;
     }
 
-each-filter : {A : Type 0} (P : A → Type 0) (p : A → Bool) (l : List A) → All P l → All P (filter p l)
-each-filter P p [] h = tt
-each-filter P p (a ∷ l) h = go (p a) (each-filter P p l (h .1))
-  where
-    go : (b : Bool) → All P (filter p l) → All P (pick b (a ∷ filter p l) (filter p l))
-    go true x = (h .0, x)
-    go false x = x
-
-each-append : {A : Type 0} (P : A → Type 0) (x y : List A) → All P x → All P y → All P (x ++ y)
-each-append P [] y a b = b
-each-append P (c ∷ x) y a b = (a .0, each-append P x y (a .1) b)
-
-labels-each : (l : List Alert) → All (Judged alert.alert) l → All (Judged headerText) (map label l)
-labels-each [] h = tt
-labels-each (a ∷ l) h = (label-judged a (h .0), labels-each l (h .1))
-
-keys-each : (l : List (List ℕ × Unit {0})) → All (λ e. Judged headerText (e .0)) l → All (Judged headerText) (keys l)
-keys-each [] h = tt
-keys-each (e ∷ l) h = (h .0, keys-each l (h .1))
-
-entries-each : (l : List (List ℕ)) → All (Judged headerText) l → All (λ e. Judged headerText (e .0)) (map {B = List ℕ × Unit {0}} (λ x. (x, tt)) l)
-entries-each [] h = tt
-entries-each (x ∷ l) h = (h .0, entries-each l (h .1))
-
 module _ (B : Feeds) (h : FeedsJudged B) where
-  alerts-judged : (t : Transit) → All (Judged alert.alert) (alerts-of B t)
-  unfolding alerts-of
-  alerts-judged t = each-filter (Judged alert.alert) (applies t) (alertsIn (B (feed-of (t .trip)))) (go (B (feed-of (t .trip))) (h (feed-of (t .trip))))
-    where
-      go : (o : Option Records) → Given RecordsJudged o → All (Judged alert.alert) (alertsIn o)
-      go none x = tt
-      go (some R) x = x .alerts
-
-  legs-labels : (ts : List Transit) → All (Judged headerText) (join (λ t. map label (alerts-of B t)) ts)
-  legs-labels [] = tt
-  legs-labels (t ∷ ts) = each-append (Judged headerText) (map label (alerts-of B t)) _ (labels-each (alerts-of B t) (alerts-judged t)) (legs-labels ts)
-
   headers-judged : (ts : List Transit) → All (Judged headerText) (headers-of B ts)
-  unfolding headers-of labels-of
-  headers-judged ts =
-      let all-labels = join (λ t. map label (alerts-of B t)) ts in
-      let l = filter (λ x. not (isEmpty x)) all-labels in
-      let e = map {B = List ℕ × Unit {0}} (λ x. (x, tt)) l in
-      keys-each (puts texts e [])
-      (each-puts texts (λ e. Judged headerText (e .0)) e [] (entries-each l (each-filter (Judged headerText) (λ x. not (isEmpty x)) all-labels (legs-labels ts))) tt)
+  headers-judged = headers-each B (Judged headerText) (λ f. go (B f) (h f))
+    where
+      labelled : (l : List Alert) → All (Judged alert.alert) l → All (λ a. Judged headerText (label a)) l
+      labelled l x = each-map label-judged l x
+
+      go : (o : Option Records) → Given RecordsJudged o → Given (λ R. All (λ a. Judged headerText (label a)) (R .alerts)) o
+      go none x = tt
+      go (some R) x = labelled (R .alerts) (x .alerts)
 
   status-small : (ts : List Transit) → Judged (small 4) (status-of B ts)
   unfolding status-of

@@ -80,7 +80,7 @@ each-stale P clock (x ∷ m) e = go (ltZ (updatedOf (x .1)) (clock -ℤ pos 900)
     go false ih = (e .0, ih)
 
 -- what ascends from above a key ascends from above a smaller one
-lower : {A : Type 0} (k : List ℕ) (x : List ℕ × A) (m : List (List ℕ × A)) → isLess (texts .compare k (x .0)) ≡ true → above texts (x .0) m ≡ true → above texts k m ≡ true
+pub lower : {A : Type 0} (k : List ℕ) (x : List ℕ × A) (m : List (List ℕ × A)) → isLess (texts .compare k (x .0)) ≡ true → above texts (x .0) m ≡ true → above texts k m ≡ true
 lower k x [] l e = refl
 lower k x (y ∷ m) l e =
     let h = both-true (isLess (texts .compare (x .0) (y .0))) (above texts (y .0) m) e in

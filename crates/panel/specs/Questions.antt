@@ -20,6 +20,7 @@ use Rattle.alerts.specs.Text.{same}
 use Rattle.alerts.specs.Alert.{alertSheet}
 use Rattle.overlay.specs.State.{State, overlay, vehicleSheet, noState}
 use Rattle.overlay.specs.Image.{room, stateOf}
+use Rattle.overlay.specs.Buffer as buffer
 use Rattle.overlay.specs.Records.{shown}
 use Rattle.overlay.specs.Change.{afterMessage, afterAlerts, afterVehicles}
 use Rattle.overlay.specs.Report as report
@@ -35,6 +36,17 @@ pub record Lengths : Type 0 where
   pub alertWork : List ℕ
   pub vehicleWork : List ℕ
   pub cardWork : List ℕ
+
+-- those of the overlay and the card, with the working buffers' that the code has
+abbrev pub published : List ℕ → List ℕ → List ℕ → List ℕ → Lengths
+published message alert vehicle card = record {
+  overlay = buffer.published;
+  card = 65536;
+  messageWork = message;
+  alertWork = alert;
+  vehicleWork = vehicle;
+  cardWork = card;
+}
 
 -- a value that ends at the last byte
 abbrev pub ended : {A : Type 0} → Option (A × List ℕ) → Option A
