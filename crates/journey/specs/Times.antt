@@ -34,10 +34,6 @@ pub record StopRealtime : Type 0 where
   pub delay : ℤ
   pub has : Bool
 
-abbrev pub isGiven : {A : Type 0} → Maybe A → Bool
-isGiven (inl x) = false
-isGiven (inr a) = true
-
 -- a delay applies, or else 0; `told` where there is realtime without one
 abbrev pub delayed : ℤ → Bool → Maybe ℤ → StopRealtime
 delayed at told (inl x) = record { time = at; delay = pos 0; has = told }
