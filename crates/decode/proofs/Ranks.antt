@@ -1,16 +1,16 @@
 -- Where a key stands in a map, by the entry at a place; and what the slots of an index hold. Assumes nothing.
-use Prim.Native.Nat.{ℕ, zero, suc, _+_, _-_, _*_, _≤_, _<_}
-use mathlib.Core.Path.{_≡_, refl, sym, ap, _∙_}
-use mathlib.Core.Bool.{Bool, true, false, _&&_}
-use mathlib.Core.List.{List, [], _∷_, _++_}
+use Prim.Native.Nat.{ℕ, zero, suc, _≤_, _<_}
+use mathlib.Core.Path.{_≡_, refl, ap, _∙_}
+use mathlib.Core.Bool.{true, false}
+use mathlib.Core.List.{List, [], _∷_}
 use native.Mathlib.Omega.{arith}
-use lib.ListN.{length, getD, take, drop}
+use lib.ListN.{length, getD, take}
 use lib.Seq.{getD-take, length-take-le}
 use Rattle.formats.specs.Law.{All}
 use Rattle.slices.specs.Lists.{lexOf}
 use Rattle.slices.specs.declared.Order.{Order}
 use Rattle.slices.specs.declared.Order.the-variants.{Less, Same, More}
-use Rattle.decode.specs.Map.{Ordered, isLess, isMore, byOrder, put, above, ascending}
+use Rattle.decode.specs.Map.{Ordered, isLess, isMore, byOrder, above, ascending}
 use Rattle.decode.specs.Order.{texts}
 use Rattle.decode.specs.Laws.{both-true, is-less, rest-ascending}
 use Rattle.decode.specs.Index.{Place, keyAt, entryAt, slotted, index, Sound, rankOf}

@@ -9,7 +9,7 @@ use native.Mathlib.Omega.{arith}
 use lib.Dec.{ltb}
 use lib.ListN.{length, take, drop, set, length-append, length-drop}
 use lib.Seq.{take-length, set-split, length-take-le}
-use borrow.Author.Tests.{lt-ltb, le-ltb, ltb-true}
+use borrow.Author.Tests.{lt-ltb, le-ltb}
 use Rattle.slices.specs.Lists.{pasted}
 use Rattle.merged.specs.Views.{spanIn, SpanInside, viewDirection}
 use Rattle.merged.specs.declared.Trip.{Trip}
@@ -22,10 +22,10 @@ use Rattle.decode.specs.Entity.{Short, Keyed}
 
 pub added-text : (out : List ℕ) (at : ℕ) (x out′ : List ℕ) → at + length x ≤ length out → out′ ≡ pasted out at x (length x) → Added out at x out′ (at + length x)
 added-text out at x out′ h e =
-    record { fits = h; next = refl; now = e ∙ rw (take-length, append-assoc) }
+    record { fits = h; next = refl; bytes = e ∙ rw (take-length, append-assoc) }
 
 pub added-byte : (out : List ℕ) (at b : ℕ) → at < length out → Added out at (b ∷ []) (set out at b) (at + 1)
-added-byte out at b h = record { fits = omega arith; next = refl; now = set-split out at b h ∙ rw add-one }
+added-byte out at b h = record { fits = omega arith; next = refl; bytes = set-split out at b h ∙ rw add-one }
 
 pub decimal-short : (k n : ℕ) → length (decimalOf k n) ≤ k
 decimal-short zero n = omega arith

@@ -6,6 +6,6 @@ pub mod Record
 pub mod Key
 pub mod Written
 pub mod Index
-pub mod Entity
 pub mod Leaves
+pub mod Entity
 pub mod Examples

@@ -16,7 +16,7 @@ ghost use Rattle.decode.specs.Key.{decimalOf, datedKey, prefixed, shown,
 ghost use Rattle.merged.specs.Views.{spanIn, SpanInside, viewDirection};
 ghost use Rattle.decode.specs.Record.{maybe};
 ghost use Rattle.decode.specs.Written.{Added};
-ghost use Rattle.decode.specs.Entity.{Room, Short, Keyed, Filed};
+ghost use Rattle.decode.specs.Entity.{Room, Short, Keyed, Filed, Entered};
 ghost use Rattle.decode.specs.Index.{keyAt, keyIn, index, Sound, Settled, rankOf, inserted, remarked, three, laid, Lined, Noted};
 
 fn wide(x: u32) -> usize
@@ -133,7 +133,7 @@ fn enter(marks: &mut [u32], order: &mut [u32], n: usize, r: usize, len: usize, f
 }
 
 // The key in slot n goes in at its rank, over an old one: how many slots are in use then.
-fn settle(
+pub fn settle(
     keys: &[u8],
     marks: &mut [u32],
     order: &mut [u32],
@@ -233,7 +233,7 @@ fn line(updates: &mut [u32], n: usize, r: usize, sequence: u32, from: u32, till:
 }
 
 // An update goes in at its sequence, over an old one: how many are in use then.
-fn note(updates: &mut [u32], n: usize, sequence: u32, from: u32, till: u32) -> usize
+pub fn note(updates: &mut [u32], n: usize, sequence: u32, from: u32, till: u32) -> usize
     requires { ⌜ Lined (now updates) n ⌝ }
     requires { ⌜ n ≤ 128 ⌝ }
     ensures { λ r. ⌜ Noted (now (updates .entry)) n sequence from till (now (updates .exit)) r ⌝ }
@@ -333,7 +333,7 @@ fn write_incomplete(keys: &mut [u8], n: usize, feed: &[u8], s: &[u8], t: Trip) -
 }
 
 // The key of an entity goes into the index with its place: by its raw trip id.
-fn file_base(
+pub fn file_base(
     keys: &mut [u8],
     marks: &mut [u32],
     order: &mut [u32],
@@ -353,7 +353,7 @@ fn file_base(
 }
 
 // By its raw trip id and its date.
-fn file_dated(
+pub fn file_dated(
     keys: &mut [u8],
     marks: &mut [u32],
     order: &mut [u32],
@@ -373,7 +373,7 @@ fn file_dated(
 }
 
 // And without a trip id.
-fn file_incomplete(
+pub fn file_incomplete(
     keys: &mut [u8],
     marks: &mut [u32],
     order: &mut [u32],
@@ -391,4 +391,37 @@ fn file_incomplete(
 {
     let len = write_incomplete(keys, n, feed, s, t);
     settle(keys, marks, order, n, len, from, till)
+}
+
+// Every key of an entity goes into the index with its place, the dated one before its base.
+pub fn file_trip(
+    keys: &mut [u8],
+    marks: &mut [u32],
+    order: &mut [u32],
+    n: usize,
+    feed: &[u8],
+    s: &[u8],
+    t: Trip,
+    from: u32,
+    till: u32,
+) -> usize
+    requires { ⌜ Sound (now keys) (now marks) (now order) n ⌝ }
+    requires { ⌜ (n ≤ 2048) × (length (now feed) ≤ 16) ⌝ }
+    requires { ⌜ Short (now s) t ⌝ }
+    ensures { λ r. ⌜ Entered (now (feed .entry)) (now (s .entry)) t from till (now (keys .entry)) (now (marks .entry)) (now (order .entry)) n (now (keys .exit)) (now (marks .exit)) (now (order .exit)) r ⌝ }
+{
+    if t.id.len == 0 {
+        if t.route.len == 0 {
+            return n;
+        }
+        return file_incomplete(keys, marks, order, n, feed, s, t, from, till);
+    }
+    if t.date.len == 0 {
+        return file_base(keys, marks, order, n, s, t, from, till);
+    }
+    let m = file_dated(keys, marks, order, n, s, t, from, till);
+    if m > 2048 {
+        return m;
+    }
+    file_base(keys, marks, order, m, s, t, from, till)
 }

@@ -26,7 +26,7 @@ use Rattle.merged.specs.Typed.{int32, int64, uint32, number, orZero}
 use Rattle.merged.specs.Typed as typed
 use Rattle.merged.specs.Views as view
 use Rattle.decode.specs.Trip.{Maybe, Trip, StopUpdate, delay, instant, number32, stopUpdate, trip, routeOf, dateOf, timeOf, directionOf, updatesOf}
-use Rattle.decode.specs.Key.{empty, decimalOf, shown, prefixed, datedKey, incompleteKey, inserts, entriesIn, rawOk, datedOk, keyOk}
+use Rattle.decode.specs.Key.{empty, decimalOf, shown, prefixed, datedKey, headOf, tailOf, incompleteKey, inserts, entriesIn, rawOk, datedOk, keyOk}
 use Rattle.slices.specs.Lists.{lexOf}
 use Rattle.decode.specs.Map.{isSame, ascending}
 use Rattle.decode.specs.Order.{numbers, lex-itself}
@@ -223,12 +223,16 @@ prefixed-printed f (c ∷ x) a b = printed-append 16 65 f (58 ∷ c ∷ x) a (re
 incomplete-printed : (f : List ℕ) (t : Trip) → Printed 16 f → Printed 64 (routeOf t) → Printed 16 (dateOf t) → Printed 16 (timeOf t) → Printed 137 (incompleteKey f t)
 unfolding incompleteKey
 incomplete-printed f t a r d m =
-    printed-append 3 134 (35 ∷ 114 ∷ 61 ∷ []) _ (record { short = omega arith; fair = refl })
-    (printed-append 81 53 (prefixed f (routeOf t)) _ (prefixed-printed f (routeOf t) a r)
-    (printed-append 3 50 (38 ∷ 100 ∷ 61 ∷ []) _ (record { short = omega arith; fair = refl })
-    (printed-append 10 40 (shown (directionOf t)) _ (shown-printed (directionOf t))
-    (printed-append 4 36 (38 ∷ 115 ∷ 100 ∷ 61 ∷ []) _ (record { short = omega arith; fair = refl })
-    (printed-append 16 20 (dateOf t) _ d (printed-append 4 16 (38 ∷ 115 ∷ 116 ∷ 61 ∷ []) (timeOf t) (record { short = omega arith; fair = refl }) m))))))
+    printed-append 97 40 (headOf f (routeOf t) (directionOf t)) (tailOf (dateOf t) (timeOf t))
+    (printed-append 87 10 _ (shown (directionOf t))
+    (printed-append 84 3 _ (38 ∷ 100 ∷ 61 ∷ [])
+    (printed-append 3 81 (35 ∷ 114 ∷ 61 ∷ []) (prefixed f (routeOf t)) (record { short = omega arith; fair = refl }) (prefixed-printed f (routeOf t) a r))
+    (record { short = omega arith; fair = refl }))
+    (shown-printed (directionOf t)))
+    (printed-append 24 16 _ (timeOf t)
+    (printed-append 20 4 _ (38 ∷ 115 ∷ 116 ∷ 61 ∷ []) (printed-append 4 16 (38 ∷ 115 ∷ 100 ∷ 61 ∷ []) (dateOf t) (record { short = omega arith; fair = refl }) d)
+    (record { short = omega arith; fair = refl }))
+    m)
 
 -- a record at a key of its own
 entry-kept : (f x : List ℕ) (t : Trip) → Printed 137 x → keyOk f x t ≡ true → Judged trip t → ascending numbers (updatesOf t) ≡ true → TripKept f (x, t)

@@ -1,6 +1,5 @@
 use borrow.Author.Needs.{needs}
 -- `decode::key_order` answers the order of two keys. Assumes nothing.
-use mathlib.Core.Path.{_≡_}
 use Rattle.decode.proofs.key_order.Statement.{statement}
 use Rattle.decode.proofs.key_order.Tie as tie
 

@@ -1,8 +1,6 @@
 use borrow.Author.Needs.{needs}
 -- `decode::note`: over an old update's place, or between the others. Assumes nothing.
-use Prim.Native.Nat.{_*_}
 use native.Mathlib.Omega.{arith}
-use lib.ListN.{getD}
 use Rattle.decode.proofs.Noting.{rank-most, notes-over, notes-into}
 use Rattle.decode.proofs.note.Statement.{statement}
 use Rattle.decode.proofs.note.Tie as tie

@@ -1,6 +1,5 @@
 use borrow.Author.Needs.{needs}
 -- `decode::settle`: over the place of the key's slot, or into the next slot. Assumes nothing.
-use Prim.Native.Nat.{_<_}
 use native.Mathlib.Omega.{arith}
 use Rattle.decode.specs.Index.{keyIn}
 use Rattle.decode.proofs.Ranks.{slot-below, rank-within}

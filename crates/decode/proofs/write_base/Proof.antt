@@ -1,8 +1,6 @@
 use borrow.Author.Needs.{needs}
 -- `decode::write_base` writes the raw trip id. Assumes nothing.
-use mathlib.Core.Path.{_≡_}
 use native.Mathlib.Omega.{arith}
-use lib.ListN.{length}
 use Rattle.decode.specs.Written.{written-whole}
 use Rattle.decode.proofs.Writing.{span-length, keyed}
 use Rattle.decode.proofs.write_base.Statement.{statement}

@@ -1,10 +1,9 @@
 use borrow.Author.Needs.{needs}
 -- `decode::write_dated` writes the raw trip id and the date. Assumes nothing.
-use mathlib.Core.Path.{_≡_}
 use mathlib.Core.List.{_∷_}
 use native.Mathlib.Omega.{arith}
-use lib.ListN.{length, length-append}
-use Rattle.decode.specs.Written.{then, written-whole}
+use lib.ListN.{length-append}
+use Rattle.decode.specs.Written.{written-whole}
 use Rattle.decode.proofs.Writing.{span-length, keyed, joined}
 use Rattle.decode.proofs.write_dated.Statement.{statement}
 use Rattle.decode.proofs.write_dated.Tie as tie

@@ -1,6 +1,5 @@
 use borrow.Author.Needs.{needs}
 -- `decode::write_direction` writes a direction in decimal. Assumes nothing.
-use mathlib.Core.Path.{_≡_}
 use native.Mathlib.Omega.{arith}
 use Rattle.decode.specs.Written.{none, written-whole}
 use Rattle.decode.proofs.write_direction.Statement.{statement}

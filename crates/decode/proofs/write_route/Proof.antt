@@ -1,8 +1,6 @@
 use borrow.Author.Needs.{needs}
 -- `decode::write_route` writes a route with the feed in front. Assumes nothing.
-use mathlib.Core.Path.{_≡_}
 use native.Mathlib.Omega.{arith}
-use lib.ListN.{length}
 use Rattle.decode.specs.Written.{written-whole}
 use Rattle.decode.proofs.Writing.{span-length, joined, routed, unrouted}
 use Rattle.decode.proofs.write_route.Statement.{statement}

@@ -1,8 +1,6 @@
 use borrow.Author.Needs.{needs}
 -- `decode::write_tail` writes date and time. Assumes nothing.
-use mathlib.Core.Path.{_≡_}
 use native.Mathlib.Omega.{arith}
-use lib.ListN.{length}
 use Rattle.decode.specs.Written.{then, written-whole}
 use Rattle.decode.proofs.Writing.{span-length}
 use Rattle.decode.proofs.write_tail.Statement.{statement}
