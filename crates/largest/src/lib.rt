@@ -1,0 +1,1 @@
+// What the specs hold of a largest state: there is nothing to run.
