@@ -207,7 +207,7 @@ shown-labels s P h f = go (get texts f (feedsOf s)) refl
     go none e = tt
     go (some F) e = get-each texts (λ e. All (λ a. P (label a)) (alertsOf (e .1))) f F (feedsOf s) (feed-labels P (feedsOf s) h) e
 
-map-length : {A B : Type 0} (g : A → B) (l : List A) → length (map g l) ≡ length l
+pub map-length : {A B : Type 0} (g : A → B) (l : List A) → length (map g l) ≡ length l
 map-length g [] = refl
 map-length g (x ∷ l) = ap suc (map-length g l)
 

@@ -4,3 +4,4 @@ pub mod Enrich
 pub mod Found
 pub mod Headers
 pub mod Finished
+pub mod Counts

@@ -124,7 +124,7 @@ neither : (a b : Bool) → (a || b) ≡ false → (a ≡ false) × (b ≡ false)
 neither true b e = absurd (false≢true (sym e))
 neither false b e = (refl, e)
 
-all-true : {A : Type 0} (p : A → Bool) → ((x : A) → p x ≡ true) → (v : List A) → all p v ≡ true
+pub all-true : {A : Type 0} (p : A → Bool) → ((x : A) → p x ≡ true) → (v : List A) → all p v ≡ true
 all-true p h [] = refl
 all-true p h (x ∷ v) = and-true (h x) (all-true p h v)
 

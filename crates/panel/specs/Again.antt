@@ -5,23 +5,26 @@ use mathlib.Core.List.{[], append-nil}
 use mathlib.Core.Option.{some}
 use Rattle.formats.specs.Format.{Value, write, read, read-write}
 use Rattle.judging.specs.Judged.{ok}
-use Rattle.overlay.specs.State.{State}
+use Rattle.overlay.specs.State.{State, overlay}
 use Rattle.overlay.specs.Rules.{Judged, fits-of}
 use Rattle.overlay.specs.Kept.{StateKept}
 use Rattle.journey.specs.Card.{card}
 use Rattle.journey.specs.Found.{shown-judged}
 use Rattle.journey.specs.Finished.{finished-judged}
+use Rattle.journey.specs.Counts.{finished-seven}
 use Rattle.panel.specs.Questions.{ended, whole, finished}
 
 pub record Again (s : State) (v : Value card) : Type 0 where
   pub four : whole card (write card (finished s v)) ≡ some (finished s v)
   pub five : ok 5 card (finished s v) ≡ true
   pub six : ok 6 card (finished s v) ≡ true
+  pub seven : ok 7 card (finished s v) ≡ true
 
--- of a card within the rules, over a valid state, whose finished card is within question 7
-pub finished-again : (s : State) → StateKept s → (v : Value card) → Judged card v → ok 7 card (finished s v) ≡ true → Again s v
+-- of a card within questions 5 to 7, over a valid state
+pub finished-again : (s : State) → StateKept s → ok 7 overlay s ≡ true → (v : Value card) → Judged card v → ok 7 card v ≡ true → Again s v
 unfolding whole finished
-finished-again s k v j e =
+finished-again s k h v j e =
     let w = finished-judged _ (shown-judged s k) v j in
-    let r = read-write card (finished s v) [] (fits-of card refl (finished s v) w e) in
-    record { four = ap ended (ap (read card) (sym (append-nil (write card (finished s v)))) ∙ r); five = w .five; six = w .six }
+    let n = finished-seven s h v e in
+    let r = read-write card (finished s v) [] (fits-of card refl (finished s v) w n) in
+    record { four = ap ended (ap (read card) (sym (append-nil (write card (finished s v)))) ∙ r); five = w .five; six = w .six; seven = n }
