@@ -5,6 +5,7 @@
 // A line of the answer: the number of the question that says no, or 0; then whether the message is DIFFERENTIAL, its timestamp, and each entity in brackets:
 // "deleted", or id, start time, start date and route of its trip, whether it is cancelled, its direction and its delay, and each stop time update in brackets:
 // its sequence, its stop, arrival and departure as delay and time, and whether it is skipped. '-' is absent.
+// What the readers answer is proved in `realtime` and `merged`; the functions here write it out and promise nothing of what was written, so they have no `ensures`.
 use merged::Delay;
 use merged::Direction;
 use merged::Event;
