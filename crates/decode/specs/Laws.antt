@@ -1,14 +1,16 @@
 -- Laws of maps: what is got after a put, the order that a put keeps, equality by what is got, and walks over entries both ways. Assumes nothing.
-use Prim.Native.Nat.{ℕ}
+use Prim.Native.Nat.{ℕ, suc, _≤_}
 use mathlib.Core.Path.{_≡_, refl, sym, ap, _∙_}
 use mathlib.Core.Bool.{Bool, true, false, _&&_}
-use mathlib.Core.List.{List, [], _∷_}
+use mathlib.Core.List.{List, [], _∷_, _++_}
+use lib.ListN.{length}
 use mathlib.Core.Option.{Option, none, some}
 use native.Mathlib.Omega.{arith}
 use Rattle.slices.specs.declared.Order.{Order}
 use Rattle.slices.specs.declared.Order.the-variants.{Less, Same, More}
 use Rattle.realtime.specs.Tree.{orElse}
-use Rattle.decode.specs.Map.{Ordered, isLess, byOrder, get, put, puts, above, ascending, keep, keeps, lastAt, ifNone}
+use Rattle.formats.specs.Law.{All}
+use Rattle.decode.specs.Map.{Ordered, isLess, byOrder, get, put, puts, above, ascending, keep, keeps, lastAt, ifNone, mapValues}
 
 pub both-true : (a b : Bool) → a && b ≡ true → (a ≡ true) × (b ≡ true)
 both-true true b e = (refl, e)
@@ -195,3 +197,57 @@ module _ {K : Type 0} (O : Ordered K) {A : Type 0} where
       equal-maps (keeps O old (keeps O l [])) (puts O l old) (keeps-ascending old (keeps O l []) (keeps-ascending l [] refl)) (puts-ascending l old h)
       (λ k. get-keeps k old (keeps O l []) ∙ ap (λ a. orElse a (lastAt O k old)) (get-keeps k l []) ∙ ap (orElse (lastAt O k l)) (lastAt-map k old h)
       ∙ sym (get-puts k l old))
+
+-- what the values stand for changes nothing of the keys
+module _ {K : Type 0} (O : Ordered K) {A B : Type 0} (f : A → B) where
+  pub map-put : (k : K) (v : A) (m : List (K × A)) → mapValues f (put O k v m) ≡ put O k (f v) (mapValues f m)
+  map-put k v [] = refl
+  map-put k v (e ∷ m) = go (O .compare k (e .0)) (map-put k v m)
+    where
+      go : (o : Order) → mapValues f (put O k v m) ≡ put O k (f v) (mapValues f m)
+          → mapValues f (byOrder o ((k, v) ∷ e ∷ m) ((k, v) ∷ m) (e ∷ put O k v m))
+          ≡ byOrder o ((k, f v) ∷ mapValues f (e ∷ m)) ((k, f v) ∷ mapValues f m) ((e .0, f (e .1)) ∷ put O k (f v) (mapValues f m))
+      go Less i = refl
+      go Same i = refl
+      go More i = ap (_∷_ (e .0, f (e .1))) i
+
+  pub map-puts : (l m : List (K × A)) → mapValues f (puts O l m) ≡ puts O (mapValues f l) (mapValues f m)
+  map-puts [] m = refl
+  map-puts (e ∷ l) m = map-puts l (put O (e .0) (e .1) m) ∙ ap (puts O (mapValues f l)) (map-put (e .0) (e .1) m)
+
+pub map-length : {K A B : Type 0} (f : A → B) (m : List (K × A)) → length (mapValues f m) ≡ length m
+map-length f [] = refl
+map-length f (e ∷ m) = ap suc (map-length f m)
+
+module _ {K : Type 0} (O : Ordered K) {A : Type 0} where
+  pub puts-append : (l k m : List (K × A)) → puts O (l ++ k) m ≡ puts O k (puts O l m)
+  puts-append [] k m = refl
+  puts-append (e ∷ l) k m = puts-append l k (put O (e .0) (e .1) m)
+
+  -- NO KEY GOES: a map does not become shorter
+  pub put-longer : (k : K) (v : A) (m : List (K × A)) → length m ≤ length (put O k v m)
+  put-longer k v [] = omega arith
+  put-longer k v (e ∷ m) = go (O .compare k (e .0)) (put-longer k v m)
+    where
+      go : (o : Order) → length m ≤ length (put O k v m) → suc (length m) ≤ length (byOrder o ((k, v) ∷ e ∷ m) ((k, v) ∷ m) (e ∷ put O k v m))
+      go Less i = omega arith
+      go Same i = omega arith
+      go More i = omega (arith, i)
+
+  pub puts-longer : (l m : List (K × A)) → length m ≤ length (puts O l m)
+  puts-longer [] m = omega arith
+  puts-longer (e ∷ l) m = omega (arith, put-longer (e .0) (e .1) m, puts-longer l (put O (e .0) (e .1) m))
+
+  -- what holds of every entry holds after a put of another of which it holds
+  pub put-all : (P : K × A → Type 0) (k : K) (v : A) (m : List (K × A)) → P (k, v) → All P m → All P (put O k v m)
+  put-all P k v [] p h = (p, tt)
+  put-all P k v (e ∷ m) p h = go (O .compare k (e .0)) (put-all P k v m p (h .1))
+    where
+      go : (o : Order) → All P (put O k v m) → All P (byOrder o ((k, v) ∷ e ∷ m) ((k, v) ∷ m) (e ∷ put O k v m))
+      go Less i = (p, h)
+      go Same i = (p, h .1)
+      go More i = (h .0, i)
+
+  pub puts-all : (P : K × A → Type 0) (l m : List (K × A)) → All P l → All P m → All P (puts O l m)
+  puts-all P [] m g h = h
+  puts-all P (e ∷ l) m g h = puts-all P l (put O (e .0) (e .1) m) (g .1) (put-all P (e .0) (e .1) m (g .0) h)

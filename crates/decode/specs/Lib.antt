@@ -7,5 +7,7 @@ pub mod Key
 pub mod Written
 pub mod Index
 pub mod Leaves
+pub mod Places
+pub mod Fine
 pub mod Entity
 pub mod Examples

@@ -79,3 +79,8 @@ module _ {K : Type 0} (O : Ordered K) {A : Type 0} where
   abbrev pub lastAt : K → List (K × A) → Option A
   lastAt k [] = none
   lastAt k (e ∷ l) = orElse (lastAt k l) (byOrder (O .compare k (e .0)) none (some (e .1)) none)
+
+-- a map with each value by what it stands for
+abbrev pub mapValues : {K A B : Type 0} → (A → B) → List (K × A) → List (K × B)
+mapValues f [] = []
+mapValues f (e ∷ m) = (e .0, f (e .1)) ∷ mapValues f m

@@ -34,6 +34,10 @@ stopUpdate = id & optional delay & optional instant & optional delay & optional 
 abbrev pub trip : Format
 trip = optional delay & small 1 & date & id & optional number32 & time & list 128 (number32 & stopUpdate)
 
+-- a record by the rest of its key after the feed and ':'
+abbrev pub tripEntry : Format
+tripEntry = text 137 printable & trip
+
 abbrev pub StopUpdate : Type 0
 StopUpdate = Value stopUpdate
 

@@ -24,7 +24,7 @@ use Rattle.overlay.specs.State.{Vehicle, vehicle, latitudeOf, longitudeOf, upda
 use Rattle.overlay.specs.Rules.{Judged, left, right, joined, elements, listed, absent, present, both-true, and-true}
 use Rattle.overlay.specs.Keeps.{each-map}
 use Rattle.overlay.specs.Entries.{int32-judged}
-use Rattle.overlay.specs.Fine.{Given}
+use Rattle.decode.specs.Fine.{Given}
 use Rattle.overlay.specs.Change.{latest}
 use Rattle.overlay.specs.Lookup.{Found, find-stop-update, get-vehicle-for-trip}
 use Rattle.overlay.specs.Records.{Records, Feeds}

@@ -10,15 +10,15 @@ use Rattle.formats.specs.Format.{_&_}
 use Rattle.decode.specs.Map.{Ordered, get}
 use Rattle.decode.specs.Order.{texts, numbers}
 use Rattle.decode.specs.Key.{empty}
-use Rattle.decode.specs.Trip.{Maybe, Trip, number32, stopUpdate, trip, updatesOf}
+use Rattle.decode.specs.Trip.{tripEntry, Maybe, Trip, number32, stopUpdate, trip, updatesOf}
 use Rattle.decode.specs.Leaves.{Trips}
 use Rattle.alerts.specs.Alert.{alert}
 use Rattle.alerts.specs.Text.{rsplit-once}
-use Rattle.overlay.specs.State.{Feed, State, tripEntry, vehicle, vehicleEntry, tripsOf, feedsOf}
+use Rattle.overlay.specs.State.{Feed, State, vehicle, vehicleEntry, tripsOf, feedsOf}
 use Rattle.overlay.specs.Records.{Records, Feeds, recordsOf, shown}
 use Rattle.overlay.specs.Rules.{Judged, right, elements}
 use Rattle.overlay.specs.Keeps.{each-map, get-each}
-use Rattle.overlay.specs.Fine.{Given}
+use Rattle.decode.specs.Fine.{Given}
 use Rattle.overlay.specs.Kept.{TripKept, FeedKept, StateKept}
 use Rattle.overlay.specs.Lookup.{or-else, and-then, first, value, Found, found, feed-of, trip-at, get-trip, find-trip-by-descriptor, resolve-trip-rt, stop-update-by-stop-id, find-stop-update, vehicle-for-trip, get-vehicle-for-trip}
 

@@ -20,10 +20,11 @@ use Rattle.decode.specs.Laws.{is-less, get-put, puts-ascending, rest-ascending}
 use Rattle.alerts.specs.Lists.{filter, isEmpty, join}
 use Rattle.alerts.specs.Alert.{Alert, alert}
 use Rattle.alerts.specs.Label.{label}
-use Rattle.overlay.specs.State.{Feed, State, timestamp, tripEntry, vehicleEntry, feedEntry, overlay, timestampOf, tripsOf, vehiclesOf, alertsOf, feedsOf}
+use Rattle.overlay.specs.State.{Feed, State, timestamp, vehicleEntry, feedEntry, overlay, timestampOf, tripsOf, vehiclesOf, alertsOf, feedsOf}
+use Rattle.decode.specs.Trip.{tripEntry}
 use Rattle.overlay.specs.Rules.{both-true, few, counted}
 use Rattle.overlay.specs.Keeps.{each-map, each-both, each-puts, get-each, lower}
-use Rattle.overlay.specs.Fine.{Given}
+use Rattle.decode.specs.Fine.{Given}
 use Rattle.overlay.specs.Records.{Records, Feeds, recordsOf, shown}
 use Rattle.overlay.specs.Lookup.{feed-of}
 use Rattle.journey.specs.Card.{Transit}

@@ -34,7 +34,7 @@ use Rattle.decode.specs.Laws.{puts-ascending}
 use Rattle.decode.specs.Record.{maybe, bit, updateIn, updatesIn, tripIn}
 use Rattle.decode.specs.Leaves.{entries, timestampIn}
 use Rattle.overlay.specs.State.{timestamp}
-use Rattle.overlay.specs.Fine.{Fine, Given, LeafFine, fine-sub, fine-rep, fine-last, tree-fine}
+use Rattle.decode.specs.Fine.{Fine, Given, LeafFine, fine-sub, fine-rep, fine-last, tree-fine}
 use Rattle.overlay.specs.Kept.{TripKept}
 use Rattle.overlay.specs.Keeps.{each-puts}
 

@@ -19,10 +19,10 @@ use Rattle.realtime.specs.Tree.{Tree, rep}
 use Rattle.decode.specs.Map.{get, puts, ascending}
 use Rattle.decode.specs.Order.{texts}
 use Rattle.decode.specs.Laws.{put-ascending, puts-ascending}
-use Rattle.decode.specs.Trip.{Maybe, Trip}
+use Rattle.decode.specs.Trip.{tripEntry, Maybe, Trip}
 use Rattle.decode.specs.Leaves as leaves
 use Rattle.alerts.specs.Alert.{Alert, alert}
-use Rattle.overlay.specs.State.{Feed, State, Vehicles, timestamp, tripEntry, vehicleEntry, feedEntry, overlay, timestampOf, countOf, tripsOf, vehiclesOf, alertsOf, versionOf, feedsOf, noFeed}
+use Rattle.overlay.specs.State.{Feed, State, Vehicles, timestamp, vehicleEntry, feedEntry, overlay, timestampOf, countOf, tripsOf, vehiclesOf, alertsOf, versionOf, feedsOf, noFeed}
 use Rattle.overlay.specs.Image.{room}
 use Rattle.overlay.specs.Valid.{tripValid, countValid, feedValid, within, valid}
 use Rattle.overlay.specs.Change.{feedAt, putFeed, latest, afterMessage, afterAlerts, afterVehicles}

@@ -10,5 +10,4 @@ pub mod Buffer
 pub mod Keeps
 pub mod Kept
 pub mod Shown
-pub mod Fine
 pub mod Entries

@@ -5,9 +5,9 @@ use Prim.Native.Nat.{ℕ}
 use mathlib.Core.List.{List, []}
 use mathlib.Core.Logic.{inl}
 use lib.IntN.{ℤ, pos, negsuc}
-use Rattle.formats.specs.Class.{printable, token}
+use Rattle.formats.specs.Class.{token}
 use Rattle.formats.specs.Format.{Format, number, signed, text, float, constant, list, optional, _&_, Value}
-use Rattle.decode.specs.Trip.{Maybe, id, instant, trip}
+use Rattle.decode.specs.Trip.{Maybe, id, instant, tripEntry}
 use Rattle.decode.specs.Leaves.{Trips}
 use Rattle.alerts.specs.Alert.{Alert, alert}
 
@@ -21,10 +21,6 @@ vehicleEntry = id & vehicle
 
 abbrev pub vehicleSheet : Format
 vehicleSheet = constant 1 & list 1024 vehicleEntry
-
--- trips by the rest of their keys
-abbrev pub tripEntry : Format
-tripEntry = text 137 printable & trip
 
 -- the header timestamp, 64 bits read as signed
 abbrev pub timestamp : Format

@@ -9,7 +9,7 @@ use lib.ListN.{length}
 use borrow.Author.Tests.{eqb-true}
 use Rattle.wire.specs.Wire.{choose, mapO, Value, number, eight, string, group, four, Field, fields}
 use Rattle.formats.specs.Law.{All, none-some}
-use Rattle.overlay.specs.Rules.{both-true}
+use Rattle.decode.specs.Laws.{both-true}
 use Rattle.realtime.specs.Tree.{Kind, aNumber, aText, aMessage, Schema, Tree, end, num, txt, msg, Leaf, count, words, bindO, orElse, putNumber, putText, putMessage, put, build, nest, tree, join, last, sub, rep}
 use Rattle.realtime.specs.Judge.{Rules, textsFine, numbersFine}
 
