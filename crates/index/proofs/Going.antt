@@ -1,7 +1,7 @@
 -- The entities of a message, one after the other: what is left of them over the index so far gives the index of the whole. Assumes nothing.
 use Prim.Native.Nat.{ℕ, _+_, _-_, _≤_, _<_}
 use mathlib.Core.Path.{_≡_, refl, sym, ap, subst, _∙_}
-use mathlib.Core.Bool.{Bool, true, false, cond}
+use mathlib.Core.Bool.{Bool, true, false, cond, false≢true}
 use mathlib.Core.List.{List, [], _∷_, _++_}
 use mathlib.Core.Option.{Option, none, some}
 use native.Mathlib.Omega.{arith}
@@ -33,7 +33,7 @@ use Rattle.decode.specs.Entity as entity
 use Rattle.decode.specs.Entity.{placed, Applies}
 use Rattle.decode.specs.Fine.{Fine, Given, LeafFine, fine-sub, fine-rep, fine-last, tree-fine}
 use Rattle.decode.specs.Places.{orEnd, bytesAt, recordAt, heldAt, held, isNew, beyond, Readable}
-use Rattle.index.specs.Message.{Judged, messageOf, Readables, withEntities, Indexed}
+use Rattle.index.specs.Message.{Judged, messageOf, Fit, AllFit, withEntities, Indexed}
 
 -- ---- a judged message
 
@@ -133,10 +133,11 @@ module _ (s : List ℕ) (i l : ℕ) (e : Tree) (r : tree feed feedEntity (take l
       go true = refl
       go false = placed-inserts (heldAt s o) (i, i + l) (tripIn e) (stands-for o) name (trip e .id)
 
-  pub applied-readable : (name : List ℕ) (m : List (List ℕ × Place)) → i + l ≤ length s → Readables s m → Readables s (entity.applied name e (i, i + l) m)
-  applied-readable name m h R =
-      puts-all texts (λ x. isNew (x .1) ≡ true → Readable s (x .1)) (placed (i, i + l) (entriesIn name e)) m
-      (placed-all (λ p. isNew p ≡ true → Readable s p) (i, i + l) (entriesIn name e) (λ _. record { forward = omega arith; inside = h; entity = e; read = read-place })) R
+  pub applied-fit : (o name : List ℕ) (m : List (List ℕ × Place)) → i + l ≤ length s → AllFit s o m → AllFit s o (entity.applied name e (i, i + l) m)
+  applied-fit o name m h F =
+      puts-all texts (λ x. Fit s o (x .1)) (placed (i, i + l) (entriesIn name e)) m
+      (placed-all (Fit s o) (i, i + l) (entriesIn name e)
+      (record { new = λ _. record { forward = omega arith; inside = h; entity = e; read = read-place }; old = λ q. absurd (false≢true (sym q ∙ lt-ltb i beyond low)) })) F
 
 held-length : (s o : List ℕ) (m : List (List ℕ × Place)) → length (held s o m) ≡ length m
 unfolding held
@@ -152,7 +153,7 @@ pub record Going (name s : List ℕ) (m₀ : List (List ℕ × Place)) (keys mar
   pub rest : List Tree
   pub left : leftEntities s w ≡ some rest
   pub fine : All FineEntity rest
-  pub readable : Readables s m₀ → Readables s (index keys marks order n)
+  pub fit : (o : List ℕ) → AllFit s o m₀ → AllFit s o (index keys marks order n)
   pub same : (o : List ℕ) → puts texts (entries name rest) (held s o (index keys marks order n)) ≡ withEntities name s (held s o m₀)
 
 message-is : {s : List ℕ} (W : Whole s) → messageOf s ≡ W .message
@@ -169,7 +170,7 @@ starts {s} {keys} {marks} {order} {n} name S c J e =
       rest = rep 2 (W .message);
       left = entities-left s e ∙ ap (mapO (rep 2)) (W .read);
       fine = W .fine;
-      readable = λ R. R;
+      fit = λ o F. F;
       same = λ o. ap (λ m. puts texts (entries name (rep 2 m)) (held s o (index keys marks order n))) (sym (message-is W));
     }
 
@@ -183,7 +184,7 @@ module _ {name s : List ℕ} {m₀ : List (List ℕ × Place)} {keys marks order
         sound = G .sound;
         few = λ h o. ap (λ l. puts texts (entries name l) (held s o (index keys marks order n))) (sym z) ∙ G .same o;
         many = λ h. absurd (omega (arith, G .few));
-        readable = λ h. G .readable;
+        fit = λ h. G .fit;
       }
 
   -- an entity of l bytes at i, and the walk behind it
@@ -221,7 +222,7 @@ module _ {name s : List ℕ} {m₀ : List (List ℕ × Place)} {keys marks order
             rest = first .1;
             left = first .4;
             fine = fines .1;
-            readable = λ R. subst (Readables s) (sym x) (applied-readable s i l e (first .3) low name (index keys marks order n) entity-inside (G .readable R));
+            fit = λ o F. subst (AllFit s o) (sym x) (applied-fit s i l e (first .3) low o name (index keys marks order n) entity-inside (G .fit o F));
             same = λ o. ap (λ y. puts texts (entries name (first .1)) (held s o y)) x
                 ∙ ap (puts texts (entries name (first .1))) (held-applied s i l e (first .3) low o name (index keys marks order n)) ∙ apart o;
           }
@@ -235,5 +236,5 @@ module _ {name s : List ℕ} {m₀ : List (List ℕ × Place)} {keys marks order
             sound = A .sound;
             few = λ k. absurd (omega arith);
             many = λ k o. rw (← apart o) (omega (arith, long′ o, puts-longer texts (entries name (first .1)) (puts texts (entriesIn name e) (held s o (index keys marks order n)))));
-            readable = λ k. absurd (omega arith);
+            fit = λ k. absurd (omega arith);
           }

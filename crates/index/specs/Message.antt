@@ -1,7 +1,7 @@
 -- What the entities of a message make of an index. Assumes nothing: these are definitions.
 use Prim.Native.Nat.{ℕ, _≤_, _<_}
 use mathlib.Core.Path.{_≡_}
-use mathlib.Core.Bool.{true}
+use mathlib.Core.Bool.{true, false}
 use mathlib.Core.List.{List}
 use lib.ListN.{length}
 use Rattle.formats.specs.Law.{All}
@@ -14,7 +14,7 @@ use Rattle.decode.specs.Map.{puts}
 use Rattle.decode.specs.Order.{texts}
 use Rattle.decode.specs.Index.{Place, index, Sound}
 use Rattle.decode.specs.Leaves.{Trips, entries}
-use Rattle.decode.specs.Places.{orEnd, held, isNew, Readable}
+use Rattle.decode.specs.Places.{orEnd, oldAt, held, isNew, crowded, Readable}
 
 -- the message is within questions 4 to 6
 abbrev pub Judged : List ℕ → Type 0
@@ -23,9 +23,13 @@ Judged s = asked rules feedMessage (tree schema.feed feedMessage s) ≡ Verdict.
 abbrev pub messageOf : List ℕ → Tree
 messageOf s = orEnd (tree schema.feed feedMessage s)
 
--- every place of the message that an index has can be read
-abbrev pub Readables : List ℕ → List (List ℕ × Place) → Type 0
-Readables s m = All (λ e. isNew (e .1) ≡ true → Readable s (e .1)) m
+-- a place of the message can be read, and one of the old overlay has a record of at most 128 updates
+pub record Fit (s o : List ℕ) (p : Place) : Type 0 where
+  pub new : isNew p ≡ true → Readable s p
+  pub old : isNew p ≡ false → crowded (oldAt o p) ≡ false
+
+abbrev pub AllFit : List ℕ → List ℕ → List (List ℕ × Place) → Type 0
+AllFit s o m = All (λ e. Fit s o (e .1)) m
 
 -- the trips of an index, with every entity's record at its keys, over old ones
 abbrev pub withEntities : List ℕ → List ℕ → Trips → Trips
@@ -36,4 +40,4 @@ pub record Indexed (feed s : List ℕ) (m : List (List ℕ × Place)) (keys mark
   pub sound : Sound keys marks order r
   pub few : r ≤ 2048 → (o : List ℕ) → held s o (index keys marks order r) ≡ withEntities feed s (held s o m)
   pub many : 2048 < r → (o : List ℕ) → 2048 < length (withEntities feed s (held s o m))
-  pub readable : r ≤ 2048 → Readables s m → Readables s (index keys marks order r)
+  pub fit : r ≤ 2048 → (o : List ℕ) → AllFit s o m → AllFit s o (index keys marks order r)
