@@ -192,6 +192,10 @@ module _ {K : Type 0} (O : Ordered K) {A : Type 0} where
       go Same p = rw (get-above k m (rw (O .same k (e .0) p) h))
       go More p = or-none (get O k m)
 
+  -- the entries of a map, one after the other, are the map
+  pub puts-itself : (m : List (K × A)) → ascending O m ≡ true → puts O m [] ≡ m
+  puts-itself m h = equal-maps (puts O m []) m (puts-ascending m [] refl) h (λ k. get-puts k m [] ∙ or-none (lastAt O k m) ∙ lastAt-map k m h)
+
   -- FROM LAST TO FIRST: keys that are not there yet, and then those of the old map, are what the entries in order leave
   pub last-to-first : (l old : List (K × A)) → ascending O old ≡ true → keeps O old (keeps O l []) ≡ puts O l old
   last-to-first l old h =
@@ -238,6 +242,15 @@ module _ {K : Type 0} (O : Ordered K) {A : Type 0} where
   pub puts-longer : (l m : List (K × A)) → length m ≤ length (puts O l m)
   puts-longer [] m = omega arith
   puts-longer (e ∷ l) m = omega (arith, put-longer (e .0) (e .1) m, puts-longer l (put O (e .0) (e .1) m))
+
+  pub put-one-more : (k : K) (v : A) (m : List (K × A)) → length (put O k v m) ≤ suc (length m)
+  put-one-more k v [] = omega arith
+  put-one-more k v (e ∷ m) = go (O .compare k (e .0)) (put-one-more k v m)
+    where
+      go : (o : Order) → length (put O k v m) ≤ suc (length m) → length (byOrder o ((k, v) ∷ e ∷ m) ((k, v) ∷ m) (e ∷ put O k v m)) ≤ suc (suc (length m))
+      go Less i = omega arith
+      go Same i = omega arith
+      go More i = omega (arith, i)
 
   -- what holds of every entry holds after a put of another of which it holds
   pub put-all : (P : K × A → Type 0) (k : K) (v : A) (m : List (K × A)) → P (k, v) → All P m → All P (put O k v m)
