@@ -25,7 +25,7 @@ fn wide(x: u32) -> usize
     x as usize
 }
 
-fn word(a: &[u32], i: usize) -> usize
+pub fn word(a: &[u32], i: usize) -> usize
     requires { ⌜ i < length (now a) ⌝ }
     ensures { λ r. ⌜ r ≡ getD (now (a .entry)) i 0 ⌝ }
 {

@@ -10,7 +10,7 @@ use Rattle.realtime.specs.Schema.{feedEntity}
 use Rattle.realtime.specs.Schema as schema
 use Rattle.decode.specs.Trip.{StopUpdate}
 use Rattle.decode.specs.Map.{mapValues}
-use Rattle.decode.specs.Record.{updatesIn}
+use Rattle.decode.specs.Record.{updatesIn, tripIn}
 use Rattle.decode.specs.Index.{Place, placeAt, laid, Lined}
 use Rattle.decode.specs.Places.{recordAt, updateAt, isNew, Readable, crowded}
 
@@ -27,6 +27,10 @@ pub record Holds (s u : List ℕ) (r : ℕ) (e : Tree) : Type 0 where
 pub record Listed (s : List ℕ) (start len : ℕ) (u : List ℕ) (r : ℕ) : Type 0 where
   pub lined : Lined u r
   pub of : (e : Tree) → tree schema.feed feedEntity (take len (drop start s)) ≡ some e → Holds s u r e
+
+-- THE ANSWER r of whether its record has more than 128
+pub record Crowded (s : List ℕ) (start len : ℕ) (r : Bool) : Type 0 where
+  pub of : (e : Tree) → tree schema.feed feedEntity (take len (drop start s)) ≡ some e → r ≡ crowded (tripIn e)
 
 -- a slot of the index whose record, where it is of the message, is not broken
 abbrev pub ReadableSlot : List ℕ → List ℕ → ℕ → Type 0
