@@ -139,7 +139,7 @@ module _ (s : List ℕ) (i l : ℕ) (e : Tree) (r : tree feed feedEntity (take l
       (placed-all (Fit s o) (i, i + l) (entriesIn name e)
       (record { new = λ _. record { forward = omega arith; inside = h; entity = e; read = read-place }; old = λ q. absurd (false≢true (sym q ∙ lt-ltb i beyond low)) })) F
 
-held-length : (s o : List ℕ) (m : List (List ℕ × Place)) → length (held s o m) ≡ length m
+pub held-length : (s o : List ℕ) (m : List (List ℕ × Place)) → length (held s o m) ≡ length m
 unfolding held
 held-length s o m = map-length (heldAt s o) m
 
@@ -156,7 +156,7 @@ pub record Going (name s : List ℕ) (m₀ : List (List ℕ × Place)) (keys mar
   pub fit : (o : List ℕ) → AllFit s o m₀ → AllFit s o (index keys marks order n)
   pub same : (o : List ℕ) → puts texts (entries name rest) (held s o (index keys marks order n)) ≡ withEntities name s (held s o m₀)
 
-message-is : {s : List ℕ} (W : Whole s) → messageOf s ≡ W .message
+pub message-is : {s : List ℕ} (W : Whole s) → messageOf s ≡ W .message
 message-is W = ap orEnd (W .read)
 
 pub starts : {s keys marks order : List ℕ} {n : ℕ} {w : Walk} (name : List ℕ) → Sound keys marks order n → n ≤ 2048 → Judged s → w ≡ atPlain s
