@@ -18,7 +18,7 @@ use Rattle.decode.specs.Trip as held
 use Rattle.decode.specs.Record.{maybe}
 use Rattle.decode.specs.Key.{inserts, datedKey, incompleteKey, headOf, tailOf}
 use Rattle.decode.specs.Entity.{Short, Keyed, Filed, placed, Agrees, Entered}
-use Rattle.decode.proofs.Ranks.{index-length}
+use Rattle.decode.specs.Slots.{filed-length}
 use Rattle.decode.proofs.Writing.{nonempty, nothing, span-length}
 
 module _ {keys marks order k keys′ : List ℕ} {n r : ℕ} (S : Sound keys marks order n) (c : n ≤ 2048) (K : Keyed keys n k keys′ r) where
@@ -80,10 +80,6 @@ module _ (feed : List ℕ) (u : held.Trip) where
   inserts-dated : (raw : List ℕ) → (length raw ≡ 0 → ⊥) → (length (held.dateOf u) ≡ 0 → ⊥) → inserts feed raw u ≡ (datedKey raw (held.dateOf u), u) ∷ (raw, u) ∷ []
   inserts-dated [] z h = absurd (z refl)
   inserts-dated (b ∷ raw) z h = rw (nonempty (held.dateOf u) h)
-
-filed-length : {keys marks order k keys′ marks′ order′ : List ℕ} {n from till r : ℕ} → Filed keys marks order n k from till keys′ marks′ order′ r
-    → length (put texts k (from, till) (index keys marks order n)) ≡ r
-filed-length {keys′ = keys′} {marks′ = marks′} {order′ = order′} {r = r} F = sym (ap length (F .map)) ∙ index-length keys′ marks′ order′ r (F .sound)
 
 module _ (feed s : List ℕ) (t : Trip) (S : Short s t) where
   id-length : length (spanIn s (t .id)) ≡ t .id .len

@@ -13,7 +13,7 @@ use Rattle.slices.specs.declared.Order.{Order}
 use Rattle.slices.specs.declared.Order.the-variants.{Less, Same, More}
 use Rattle.decode.specs.Map.{isSame, isMore, put, ascending}
 use Rattle.decode.specs.Order.{numbers, heads, lex-itself, lex-same, cons-behind}
-use Rattle.decode.specs.Laws.{both-true, put-ascending}
+use Rattle.decode.specs.Laws.{both-true, put-ascending, laid-length}
 use Rattle.decode.specs.Index.{Place, placeAt, rankOf, inserted, remarked, three, laid, Lined, Noted}
 use Rattle.decode.proofs.Gaps.{inserted-at, gap-length}
 use Rattle.decode.proofs.Ranks.{rank-length, rank-behind, rank-before}
@@ -22,10 +22,6 @@ use Rattle.decode.proofs.Settling.{put-over, put-into, place-own, place
 -- an update that stands for no other
 abbrev pub nothing : ℕ × Place
 nothing = (0, (0, 0))
-
-pub laid-length : (n : ℕ) (u : List ℕ) → length (laid n u) ≡ n
-laid-length zero u = refl
-laid-length (suc n) u = ap suc (laid-length n (drop 3 u))
 
 pub laid-at : (n : ℕ) (u : List ℕ) (i : ℕ) → i < n → getD (laid n u) i nothing ≡ (getD u (3 * i) 0, placeAt u i)
 laid-at zero u i h = absurd (omega arith)

@@ -14,6 +14,7 @@ use Rattle.decode.specs.Map.{Ordered, isLess, isMore, byOrder, above, as
 use Rattle.decode.specs.Order.{texts}
 use Rattle.decode.specs.Laws.{both-true, is-less, rest-ascending}
 use Rattle.decode.specs.Index.{Place, keyAt, entryAt, slotted, index, Sound, rankOf}
+use Rattle.decode.specs.Slots.{index-length}
 
 is-more : (o : Order) → isMore o ≡ true → o ≡ More
 is-more Less e = absurd (let z : _≡_ {A = ℕ} 0 1 = cc in omega arith)
@@ -88,14 +89,7 @@ slotted-at keys marks [] i h = absurd (omega arith)
 slotted-at keys marks (j ∷ l) zero h = refl
 slotted-at keys marks (j ∷ l) (suc i) h = slotted-at keys marks l i (omega arith)
 
-pub slotted-length : (keys marks l : List ℕ) → length (slotted keys marks l) ≡ length l
-slotted-length keys marks [] = refl
-slotted-length keys marks (j ∷ l) = ap suc (slotted-length keys marks l)
-
 module _ (keys marks order : List ℕ) (n : ℕ) (S : Sound keys marks order n) where
-  pub index-length : length (index keys marks order n) ≡ n
-  index-length = slotted-length keys marks (take n order) ∙ length-take-le n order (omega (arith, S .ordered, S .counted))
-
   pub slot-below : (i : ℕ) → i < n → getD order i 0 < n
   slot-below i h =
       let e : getD (take n order) i 0 ≡ getD order i 0 = getD-take n order i 0 h in
@@ -108,15 +102,15 @@ module _ (keys marks order : List ℕ) (n : ℕ) (S : Sound keys marks order n) 
       ∙ ap (entryAt keys marks) (getD-take n order i 0 h)
 
   pub rank-within : (k : List ℕ) → rankOf texts k (index keys marks order n) ≤ n
-  rank-within k = omega (arith, rank-length texts nowhere k (index keys marks order n), index-length)
+  rank-within k = omega (arith, rank-length texts nowhere k (index keys marks order n), index-length keys marks order n S)
 
   -- a step of the search
   pub rank-more : (k : List ℕ) (i : ℕ) → i < n → isMore (lexOf k (keyAt keys marks (getD order i 0))) ≡ true → i < rankOf texts k (index keys marks order n)
   rank-more k i h g =
-      rank-behind texts nowhere k (index keys marks order n) i (S .ascends) (omega (arith, index-length))
+      rank-behind texts nowhere k (index keys marks order n) i (S .ascends) (omega (arith, index-length keys marks order n S))
       (ap (λ e. lexOf k (e .0)) (index-at i h) ∙ is-more (lexOf k (keyAt keys marks (getD order i 0))) g)
 
   pub rank-else : (k : List ℕ) (i : ℕ) → i < n → isMore (lexOf k (keyAt keys marks (getD order i 0))) ≡ false → rankOf texts k (index keys marks order n) ≤ i
   rank-else k i h g =
-      rank-before texts nowhere k (index keys marks order n) i (omega (arith, index-length))
+      rank-before texts nowhere k (index keys marks order n) i (omega (arith, index-length keys marks order n S))
       (ap (λ e. isMore (lexOf k (e .0))) (index-at i h) ∙ g)

@@ -17,7 +17,8 @@ use Rattle.decode.specs.Order.{texts, lex-itself, lex-same}
 use Rattle.decode.specs.Laws.{both-true, put-ascending}
 use Rattle.decode.specs.Index.{Place, keyAt, placeAt, entryAt, keyIn, slotted, index, Sound, Settled, rankOf, inserted, remarked}
 use Rattle.decode.proofs.Gaps.{gap-front, gap-length}
-use Rattle.decode.proofs.Ranks.{at, ascending-at, slotted-at, slotted-length, index-length, index-at, slot-below, rank-within, nowhere}
+use Rattle.decode.specs.Slots.{slotted-length, index-length}
+use Rattle.decode.proofs.Ranks.{at, ascending-at, slotted-at, index-at, slot-below, rank-within, nowhere}
 
 is-same : (o : Order) → isSame o ≡ true → o ≡ Same
 is-same Less e = absurd (let z : _≡_ {A = ℕ} 0 1 = cc in omega arith)

@@ -1,9 +1,9 @@
 -- Laws of maps: what is got after a put, the order that a put keeps, equality by what is got, and walks over entries both ways. Assumes nothing.
-use Prim.Native.Nat.{ℕ, suc, _≤_}
+use Prim.Native.Nat.{ℕ, zero, suc, _≤_}
 use mathlib.Core.Path.{_≡_, refl, sym, ap, _∙_}
 use mathlib.Core.Bool.{Bool, true, false, _&&_}
 use mathlib.Core.List.{List, [], _∷_, _++_}
-use lib.ListN.{length}
+use lib.ListN.{length, drop}
 use mathlib.Core.Option.{Option, none, some}
 use native.Mathlib.Omega.{arith}
 use Rattle.slices.specs.declared.Order.{Order}
@@ -11,6 +11,7 @@ use Rattle.slices.specs.declared.Order.the-variants.{Less, Same, More}
 use Rattle.realtime.specs.Tree.{orElse}
 use Rattle.formats.specs.Law.{All}
 use Rattle.decode.specs.Map.{Ordered, isLess, byOrder, get, put, puts, above, ascending, keep, keeps, lastAt, ifNone, mapValues}
+use Rattle.decode.specs.Index.{laid}
 
 pub both-true : (a b : Bool) → a && b ≡ true → (a ≡ true) × (b ≡ true)
 both-true true b e = (refl, e)
@@ -191,6 +192,10 @@ module _ {K : Type 0} (O : Ordered K) {A : Type 0} where
       go Same p = rw (get-above k m (rw (O .same k (e .0) p) h))
       go More p = or-none (get O k m)
 
+  -- the entries of a map, one after the other, are the map
+  pub puts-itself : (m : List (K × A)) → ascending O m ≡ true → puts O m [] ≡ m
+  puts-itself m h = equal-maps (puts O m []) m (puts-ascending m [] refl) h (λ k. get-puts k m [] ∙ or-none (lastAt O k m) ∙ lastAt-map k m h)
+
   -- FROM LAST TO FIRST: keys that are not there yet, and then those of the old map, are what the entries in order leave
   pub last-to-first : (l old : List (K × A)) → ascending O old ≡ true → keeps O old (keeps O l []) ≡ puts O l old
   last-to-first l old h =
@@ -238,6 +243,15 @@ module _ {K : Type 0} (O : Ordered K) {A : Type 0} where
   puts-longer [] m = omega arith
   puts-longer (e ∷ l) m = omega (arith, put-longer (e .0) (e .1) m, puts-longer l (put O (e .0) (e .1) m))
 
+  pub put-one-more : (k : K) (v : A) (m : List (K × A)) → length (put O k v m) ≤ suc (length m)
+  put-one-more k v [] = omega arith
+  put-one-more k v (e ∷ m) = go (O .compare k (e .0)) (put-one-more k v m)
+    where
+      go : (o : Order) → length (put O k v m) ≤ suc (length m) → length (byOrder o ((k, v) ∷ e ∷ m) ((k, v) ∷ m) (e ∷ put O k v m)) ≤ suc (suc (length m))
+      go Less i = omega arith
+      go Same i = omega arith
+      go More i = omega (arith, i)
+
   -- what holds of every entry holds after a put of another of which it holds
   pub put-all : (P : K × A → Type 0) (k : K) (v : A) (m : List (K × A)) → P (k, v) → All P m → All P (put O k v m)
   put-all P k v [] p h = (p, tt)
@@ -251,3 +265,8 @@ module _ {K : Type 0} (O : Ordered K) {A : Type 0} where
   pub puts-all : (P : K × A → Type 0) (l m : List (K × A)) → All P l → All P m → All P (puts O l m)
   puts-all P [] m g h = h
   puts-all P (e ∷ l) m g h = puts-all P l (put O (e .0) (e .1) m) (g .1) (put-all P (e .0) (e .1) m (g .0) h)
+
+-- the first n updates of a slice are n
+pub laid-length : (n : ℕ) (u : List ℕ) → length (laid n u) ≡ n
+laid-length zero u = refl
+laid-length (suc n) u = ap suc (laid-length n (drop 3 u))

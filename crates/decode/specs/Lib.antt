@@ -10,4 +10,5 @@ pub mod Leaves
 pub mod Places
 pub mod Fine
 pub mod Entity
+pub mod Slots
 pub mod Examples

@@ -8,7 +8,7 @@ ghost use Prim.Native.Nat.{_+_, _*_, _≤_, _<_};
 ghost use mathlib.Core.Bool.{_&&_};
 ghost use mathlib.Core.List.{[], _∷_, _++_};
 ghost use lib.Dec.{ltb, eqb};
-ghost use lib.ListN.{length, getD, set};
+ghost use lib.ListN.{length, getD, set, take, drop};
 ghost use Rattle.slices.specs.Lists.{lexOf};
 ghost use Rattle.decode.specs.Map.{isSame, isMore};
 ghost use Rattle.decode.specs.Order.{texts, numbers};
@@ -25,7 +25,7 @@ fn wide(x: u32) -> usize
     x as usize
 }
 
-fn word(a: &[u32], i: usize) -> usize
+pub fn word(a: &[u32], i: usize) -> usize
     requires { ⌜ i < length (now a) ⌝ }
     ensures { λ r. ⌜ r ≡ getD (now (a .entry)) i 0 ⌝ }
 {
@@ -247,17 +247,16 @@ pub fn note(updates: &mut [u32], n: usize, sequence: u32, from: u32, till: u32) 
     n + 1
 }
 
-// The raw trip id of an entity in slot n: how long the key is.
-fn write_base(keys: &mut [u8], n: usize, s: &[u8], t: Trip) -> usize
+// A key that stands in s, into slot n: how long it is.
+fn write_key(keys: &mut [u8], n: usize, s: &[u8], start: usize, len: usize) -> usize
     requires { ⌜ Room (now keys) n ⌝ }
-    requires { ⌜ Short (now s) t ⌝ }
-    ensures { λ r. ⌜ Keyed (now (keys .entry)) n (spanIn (now (s .entry)) (t .id)) (now (keys .exit)) r ⌝ }
+    requires { ⌜ (start + len ≤ length (now s)) × (len ≤ 137) ⌝ }
+    ensures { λ r. ⌜ Keyed (now (keys .entry)) n (take len (drop start (now (s .entry)))) (now (keys .exit)) r ⌝ }
 {
-    let id = t.id;
-    add(keys, 137 * n, wire::part(s, id.start, id.len)) - 137 * n
+    add(keys, 137 * n, wire::part(s, start, len)) - 137 * n
 }
 
-// And with its date.
+// The raw trip id of an entity with its date.
 fn write_dated(keys: &mut [u8], n: usize, s: &[u8], t: Trip) -> usize
     requires { ⌜ Room (now keys) n ⌝ }
     requires { ⌜ Short (now s) t ⌝ }
@@ -332,7 +331,28 @@ fn write_incomplete(keys: &mut [u8], n: usize, feed: &[u8], s: &[u8], t: Trip) -
     write_tail(keys, p, s, date, time) - 137 * n
 }
 
-// The key of an entity goes into the index with its place: by its raw trip id.
+// A key that stands in s goes into the index with its place.
+pub fn file_key(
+    keys: &mut [u8],
+    marks: &mut [u32],
+    order: &mut [u32],
+    n: usize,
+    s: &[u8],
+    start: usize,
+    len: usize,
+    from: u32,
+    till: u32,
+) -> usize
+    requires { ⌜ Sound (now keys) (now marks) (now order) n ⌝ }
+    requires { ⌜ n ≤ 2048 ⌝ }
+    requires { ⌜ (start + len ≤ length (now s)) × (len ≤ 137) ⌝ }
+    ensures { λ r. ⌜ Filed (now (keys .entry)) (now (marks .entry)) (now (order .entry)) n (take len (drop start (now (s .entry)))) from till (now (keys .exit)) (now (marks .exit)) (now (order .exit)) r ⌝ }
+{
+    let long = write_key(keys, n, s, start, len);
+    settle(keys, marks, order, n, long, from, till)
+}
+
+// The key of an entity: by its raw trip id.
 pub fn file_base(
     keys: &mut [u8],
     marks: &mut [u32],
@@ -348,8 +368,8 @@ pub fn file_base(
     requires { ⌜ Short (now s) t ⌝ }
     ensures { λ r. ⌜ Filed (now (keys .entry)) (now (marks .entry)) (now (order .entry)) n (spanIn (now (s .entry)) (t .id)) from till (now (keys .exit)) (now (marks .exit)) (now (order .exit)) r ⌝ }
 {
-    let len = write_base(keys, n, s, t);
-    settle(keys, marks, order, n, len, from, till)
+    let id = t.id;
+    file_key(keys, marks, order, n, s, id.start, id.len, from, till)
 }
 
 // By its raw trip id and its date.

@@ -9,11 +9,11 @@ use lib.ListN.{length}
 use lib.Seq.{take-length}
 use Rattle.wire.specs.Wire.{mapO}
 use Rattle.realtime.specs.Tree.{Schema, Tree, last, sub, tree}
-use Rattle.realtime.specs.Schema.{feedMessage, feedEntity}
+use Rattle.realtime.specs.Schema.{feedMessage, feedEntity, stopTimeUpdate}
 use Rattle.merged.specs.Scalars.{one, two, three, four, five, six, said, Lying, Lasting, StopLasting}
 use Rattle.merged.specs.Typed.{uint32, int32, int64, bool, enum, number, text, given, orZero}
 use Rattle.merged.specs.Narrow.{toSpan, toTimestamp, toDirection, toDelay, toTime, toSequence, toBool, isValue, toHeader, toTrip, toEvent, toStop}
-use Rattle.merged.specs.Views.{event, spanIn, viewTimestamp, viewDirection, viewDelay, viewTime, viewEvent, SpanInside, HeaderRead, DeletedRead, TripRead, StopRead}
+use Rattle.merged.specs.Views.{event, spanIn, viewTimestamp, viewDirection, viewDelay, viewTime, viewEvent, SpanInside, HeaderRead, DeletedRead, TripRead, StopRead, SequenceRead}
 use Rattle.merged.specs.declared.Scalar.{Scalar}
 use Rattle.merged.specs.declared.Scalars.{Scalars}
 use Rattle.merged.specs.declared.StopScalars.{StopScalars}
@@ -123,3 +123,6 @@ stop-read {σ} {s} {i} {l} {d} {r} L e = subst (StopRead σ s i l) (sym e) (reco
       };
   stop = span-inside (length s) (d .stop .f4) (L .stop .within four);
 })
+
+pub sequence-read : {σ : Schema} {s : List ℕ} {i l : ℕ} {d : Scalars} {r : ℕ} → Lasting σ stopTimeUpdate s i l [] d → r ≡ toSequence (d .f1) → SequenceRead σ s i l r
+sequence-read {σ} {s} {i} {l} {d} {r} L e = record { of = λ m q. e ∙ sequence-says s (d .f1) ∙ ap (λ o. uint32 (orZero (number o))) (L .of m q one) }

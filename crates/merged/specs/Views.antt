@@ -152,3 +152,6 @@ pub record TripRead (σ : Schema) (s : List ℕ) (i l : ℕ) (r : Trip) : Type 0
 pub record StopRead (σ : Schema) (s : List ℕ) (i l : ℕ) (r : StopUpdate) : Type 0 where
   pub of : (u : Tree) → tree σ stopTimeUpdate (take l (drop i s)) ≡ some u → viewStop s r ≡ stopUpdate u
   pub stop : SpanInside (length s) (r .stop)
+
+pub record SequenceRead (σ : Schema) (s : List ℕ) (i l : ℕ) (r : ℕ) : Type 0 where
+  pub of : (u : Tree) → tree σ stopTimeUpdate (take l (drop i s)) ≡ some u → r ≡ stopUpdate u .sequence

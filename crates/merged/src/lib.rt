@@ -15,7 +15,7 @@ ghost use Rattle.merged.specs.Narrow.{isValue, toBool, toDelay, toDirect
 ghost use Rattle.merged.specs.Typed as typed;
 ghost use Rattle.merged.specs.Walks.{NextEntity, NextUpdate, Sound, Walks, Yields, typeOf};
 ghost use Rattle.merged.specs.Starts.{atMerged, atPlain};
-ghost use Rattle.merged.specs.Views.{DeletedRead, HeaderRead, StopRead, TripRead};
+ghost use Rattle.merged.specs.Views.{DeletedRead, HeaderRead, SequenceRead, StopRead, TripRead};
 
 // The values of the enums that count.
 const DIFFERENTIAL: u64 = 1;
@@ -554,6 +554,16 @@ pub fn stop_of(s: &[u8], start: usize, len: usize) -> StopUpdate
     ensures { λ r. ⌜ StopRead feed (now (s .entry)) start len r ⌝ }
 {
     stop_from(stop_lasts(s, start, len))
+}
+
+// And its sequence alone: the messages in it are passed over.
+pub fn sequence_at(s: &[u8], start: usize, len: usize) -> u32
+    requires { ⌜ start + len ≤ length (now s) ⌝ }
+    ensures { λ r. ⌜ SequenceRead feed (now (s .entry)) start len r ⌝ }
+{
+    let u = lasts(s, start, len, STOP_TIME_UPDATE, 0, 0, 0);
+    let sequence = u.f1;
+    sequence_of(sequence)
 }
 
 // A walk over the messages at a repeated field, of all the messages at another field merged: the next place outside, and what is left of the message that is open.

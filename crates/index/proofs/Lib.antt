@@ -1,0 +1,3 @@
+-- Lemmas on plain values.
+mod Going
+mod Together

@@ -1,0 +1,79 @@
+// The old trips of a feed join the index before a message's entities: where the message says what has changed, and not all there is.
+mod table;
+
+use table::DEPTH;
+use table::NODE;
+use table::TRIP;
+ghost use mathlib.Core.Path.{_≡_};
+ghost use Prim.Native.Nat.{ℕ, _+_, _≤_};
+ghost use lib.ListN.{length};
+ghost use Rattle.formats.specs.Format.{Value};
+ghost use Rattle.places.specs.Here.{Here};
+ghost use Rattle.decode.specs.Trip.{trip};
+ghost use Rattle.decode.specs.Index.{Sound};
+ghost use Rattle.decode.specs.Places.{beyond};
+ghost use Rattle.old_trips.specs.Old.{Stands, Joined, Entry, Passes};
+
+// The place past the record at `at`.
+fn past_trip(old: &[u8], at: usize) -> usize
+    ensures { λ r. ⌜ ((v : Value trip) (q : ℕ) → Here trip (now (old .entry)) at q v → r ≡ q) ⌝ }
+{
+    places::past(&TRIP, DEPTH, NODE, old, at)
+}
+
+// A place of the old overlay's bytes, above all those of a message.
+fn old_place(p: usize) -> u32
+    requires { ⌜ p ≤ 4000000000 ⌝ }
+    ensures { λ r. ⌜ r ≡ beyond + p ⌝ }
+{
+    1048577 + p as u32
+}
+
+// How many slots are in use, and the place past the entry.
+struct Passed {
+    slots: usize,
+    next: usize,
+}
+
+// The key of the entry at `at` goes into the index with the place of its record.
+fn file_entry(
+    keys: &mut [u8],
+    marks: &mut [u32],
+    order: &mut [u32],
+    n: usize,
+    old: &[u8],
+    at: usize,
+) -> Passed
+    requires { ⌜ Sound (now keys) (now marks) (now order) n ⌝ }
+    requires { ⌜ n ≤ 2048 ⌝ }
+    requires { ⌜ Entry (now old) at ⌝ }
+    ensures { λ r. ⌜ Passes (now (old .entry)) at (now (keys .entry)) (now (marks .entry)) (now (order .entry)) n (now (keys .exit)) (now (marks .exit)) (now (order .exit)) (r .slots) (r .next) ⌝ }
+{
+    let key = places::text(old, at);
+    let start = key.from;
+    let end = key.to;
+    let next = past_trip(old, end);
+    let from = old_place(end);
+    let till = old_place(next);
+    let slots = decode::file_key(keys, marks, order, n, old, start, end - start, from, till);
+    Passed { slots, next }
+}
+
+// The index of the old trips that stand at `at`: how many slots are in use.
+pub fn join(keys: &mut [u8], marks: &mut [u32], order: &mut [u32], old: &[u8], at: usize) -> usize
+    requires { ⌜ (length (now keys) ≡ 280713) × (length (now marks) ≡ 6147) × (length (now order) ≡ 2049) ⌝ }
+    requires { ⌜ Stands (now old) at ⌝ }
+    ensures { λ r. ⌜ Joined (now (old .entry)) at (now (keys .exit)) (now (marks .exit)) (now (order .exit)) r ⌝ }
+{
+    let count = places::number(old, at);
+    let mut p = count.next;
+    let mut left = count.value;
+    let mut n: usize = 0;
+    while 0 < left {
+        let passed = file_entry(keys, marks, order, n, old, p);
+        n = passed.slots;
+        p = passed.next;
+        left -= 1;
+    }
+    n
+}
