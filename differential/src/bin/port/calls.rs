@@ -150,14 +150,14 @@ impl Index {
     }
 
     /// The key and the place of the trip at a rank.
-    pub fn at(&self, rank: usize) -> (&[u8], Place) {
-        let slot = self.order[rank] as usize;
-        let [length, from, till] = [0, 1, 2].map(|word| self.marks[3 * slot + word] as usize);
+    pub fn at(&self, rank: usize) -> Option<(&[u8], Place)> {
+        let slot = *self.order.get(rank)? as usize;
+        let [length, from, till] = self.marks.get(3 * slot..)?.first_chunk()?.map(|word| word as usize);
         let place = match from.checked_sub(OLD) {
             None => Place::Message(from..till),
-            Some(from) => Place::Old(from..till - OLD),
+            Some(from) => Place::Old(from..till.checked_sub(OLD)?),
         };
-        (&self.keys[137 * slot..][..length], place)
+        Some((self.keys.get(137 * slot..)?.get(..length)?, place))
     }
 
     /// Whether an entity's record is a given one.
@@ -186,8 +186,8 @@ impl Index {
             && found.delayed.then_some(found.delay.into()) == trip.delay
             && count == trip.updates.len()
             && self.updates.chunks(3).zip(&trip.updates).all(|(place, entry)| {
-                let update = &entity[place[1] as usize..place[2] as usize];
-                u64::from(place[0]) == entry.sequence && is_update(update, entry)
+                let update = entity.get(place[1] as usize..place[2] as usize);
+                u64::from(place[0]) == entry.sequence && update.is_some_and(|update| is_update(update, entry))
             })
     }
 }

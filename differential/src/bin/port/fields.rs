@@ -7,8 +7,8 @@ use differential::tree::field_end;
 const FIELDS: usize = 100_000;
 
 /// How many have another end.
-pub fn run() -> usize {
-    let mut random = Random::new(5);
+pub fn run(seed: u64) -> usize {
+    let mut random = Random::new(seed);
     let (mut whole, mut differ) = (0, 0);
     for turn in 0..FIELDS {
         let message = message(&mut random);

@@ -6,6 +6,7 @@ mod guards;
 mod trips;
 
 fn main() {
-    let differ = fields::run() + guards::run() + trips::run();
+    let seed = std::env::args().nth(1).map_or(5, |seed| seed.parse().expect("a number"));
+    let differ = fields::run(seed) + guards::run() + trips::run(seed);
     std::process::exit(i32::from(differ > 0));
 }

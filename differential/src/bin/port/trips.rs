@@ -17,10 +17,10 @@ const BIG: usize = 400;
 const FEEDS: &[&str] = &["f", "f", "f", "g", "a@b", "sixteen_bytes_id"];
 
 /// How many messages the port reads otherwise.
-pub fn run() -> usize {
+pub fn run(seed: u64) -> usize {
     let mut comparison = Comparison::default();
     comparison.at_bounds();
-    comparison.at_random();
+    comparison.at_random(seed);
     comparison.print();
     comparison.differ
 }
@@ -64,8 +64,8 @@ impl Comparison {
     }
 
     /// Messages two of three of which are damaged, half of them after a whole one.
-    fn at_random(&mut self) {
-        let mut random = Random::new(6);
+    fn at_random(&mut self, seed: u64) {
+        let mut random = Random::new(seed);
         for turn in 0..RANDOM + BIG {
             let any = if turn < RANDOM { small } else { big::message };
             let feed = random.pick(FEEDS);
@@ -170,12 +170,14 @@ fn agrees(index: &mut Index, Case { feed, old, message }: &Case, expected: &Resu
 
 /// Whether the trip at a rank of the index is a given one.
 fn is_left(index: &mut Index, rank: usize, entry: &TripEntry, message: &[u8], old: &[u8]) -> bool {
-    let (key, place) = index.at(rank);
-    key == entry.rest.0
-        && match place {
-            Place::Message(place) => index.is_trip(&message[place], &entry.trip),
-            Place::Old(place) => old[place] == entry.trip.written(),
+    match index.at(rank) {
+        Some((key, _)) if key != entry.rest.0 => false,
+        Some((_, Place::Message(place))) => {
+            message.get(place).is_some_and(|entity| index.is_trip(entity, &entry.trip))
         }
+        Some((_, Place::Old(place))) => old.get(place).is_some_and(|trip| trip == entry.trip.written()),
+        None => false,
+    }
 }
 
 fn hex(bytes: &[u8]) -> String {
