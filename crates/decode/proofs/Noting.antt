@@ -1,14 +1,14 @@
 -- An update goes into the updates of a trip at its sequence: over the place of an old one, or between the others. Assumes nothing.
 use Prim.Native.Nat.{ℕ, zero, suc, _+_, _-_, _*_, _≤_, _<_}
 use mathlib.Core.Path.{_≡_, refl, sym, ap, _∙_}
-use mathlib.Core.Bool.{Bool, true, false, _&&_}
+use mathlib.Core.Bool.{Bool, true, false, cond, _&&_}
 use mathlib.Core.List.{List, [], _∷_, _++_, append-assoc}
 use native.Mathlib.Omega.{arith}
 use lib.Dec.{ltb, eqb}
 use lib.ListN.{length, getD, take, drop, set, length-set, length-append, length-drop, take-append-drop}
 use lib.Seq.{getD-drop, ext-getD, getD-set-same, getD-set-other, drop-drop, drop-cons, take-at, drop-at, length-take-le}
 use borrow.Author.Tests.{lt-ltb, le-ltb, ltb-true, eqb-true, eqb-false}
-use Rattle.slices.specs.Lists.{lexOf, choose}
+use Rattle.slices.specs.Lists.{lexOf}
 use Rattle.slices.specs.declared.Order.{Order}
 use Rattle.slices.specs.declared.Order.the-variants.{Less, Same, More}
 use Rattle.decode.specs.Map.{isSame, isMore, put, ascending}
@@ -37,7 +37,7 @@ not-more : (x y : ℕ) → x ≤ y → isMore (lexOf (x ∷ []) (y ∷ [])) ≡ 
 unfolding lexOf
 not-more x y h = go (ltb x y) (ltb y x) (le-ltb y x h)
   where
-    go : (a b : Bool) → b ≡ false → isMore (choose a Less (choose b More Same)) ≡ false
+    go : (a b : Bool) → b ≡ false → isMore (cond a Less (cond b More Same)) ≡ false
     go true b e = refl
     go false b e = rw e
 

@@ -9,7 +9,7 @@ use native.Mathlib.Omega.{arith}
 use Rattle.slices.specs.declared.Order.{Order}
 use Rattle.slices.specs.declared.Order.the-variants.{Less, Same, More}
 use Rattle.realtime.specs.Tree.{orElse}
-use Rattle.formats.specs.Law.{All}
+use Rattle.formats.specs.Law.{All, none-some}
 use Rattle.decode.specs.Map.{Ordered, isLess, byOrder, get, put, puts, above, ascending, keep, keeps, lastAt, ifNone, mapValues}
 use Rattle.decode.specs.Index.{laid}
 
@@ -21,9 +21,6 @@ pub is-less : (o : Order) → isLess o ≡ true → o ≡ Less
 is-less Less e = refl
 is-less Same e = absurd (let z : _≡_ {A = ℕ} 0 1 = cc in omega arith)
 is-less More e = absurd (let z : _≡_ {A = ℕ} 0 1 = cc in omega arith)
-
-none-some : {A C : Type 0} {a : A} → none ≡ some a → C
-none-some e = absurd (let z : _≡_ {A = ℕ} 0 1 = cc in omega arith)
 
 unsome : {A : Type 0} {a b : A} → some a ≡ some b → a ≡ b
 unsome e = cc
