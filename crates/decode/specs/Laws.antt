@@ -1,9 +1,9 @@
 -- Laws of maps: what is got after a put, the order that a put keeps, equality by what is got, and walks over entries both ways. Assumes nothing.
-use Prim.Native.Nat.{ℕ, zero, suc, _≤_}
+use Prim.Native.Nat.{ℕ, suc, _≤_}
 use mathlib.Core.Path.{_≡_, refl, sym, ap, _∙_}
 use mathlib.Core.Bool.{Bool, true, false, _&&_}
 use mathlib.Core.List.{List, [], _∷_, _++_}
-use lib.ListN.{length, drop}
+use lib.ListN.{length}
 use mathlib.Core.Option.{Option, none, some}
 use native.Mathlib.Omega.{arith}
 use Rattle.slices.specs.declared.Order.{Order}
@@ -11,7 +11,6 @@ use Rattle.slices.specs.declared.Order.the-variants.{Less, Same, More}
 use Rattle.realtime.specs.Tree.{orElse}
 use Rattle.formats.specs.Law.{All, none-some}
 use Rattle.decode.specs.Map.{Ordered, isLess, byOrder, get, put, puts, above, ascending, keep, keeps, lastAt, ifNone, mapValues}
-use Rattle.decode.specs.Index.{laid}
 
 pub both-true : (a b : Bool) → a && b ≡ true → (a ≡ true) × (b ≡ true)
 both-true true b e = (refl, e)
@@ -262,8 +261,3 @@ module _ {K : Type 0} (O : Ordered K) {A : Type 0} where
   pub puts-all : (P : K × A → Type 0) (l m : List (K × A)) → All P l → All P m → All P (puts O l m)
   puts-all P [] m g h = h
   puts-all P (e ∷ l) m g h = puts-all P l (put O (e .0) (e .1) m) (g .1) (put-all P (e .0) (e .1) m (g .0) h)
-
--- the first n updates of a slice are n
-pub laid-length : (n : ℕ) (u : List ℕ) → length (laid n u) ≡ n
-laid-length zero u = refl
-laid-length (suc n) u = ap suc (laid-length n (drop 3 u))

@@ -18,10 +18,10 @@ use Rattle.decode.specs.Trip.{tripEntry}
 use Rattle.decode.specs.Map.{puts}
 use Rattle.decode.specs.Order.{texts}
 use Rattle.decode.specs.Laws.{puts-all}
-use Rattle.decode.specs.Index.{Place, placeAt, slotted, index, Sound}
-use Rattle.decode.specs.Slots.{index-length}
+use Rattle.slots.specs.Index.{Place, placeAt, slotted, index, Sound}
+use Rattle.slots.specs.Slots.{index-length}
 use Rattle.decode.specs.Leaves.{Trips, entries, differential, leaves}
-use Rattle.decode.specs.Places.{oldAt, heldAt, held, isNew, crowded, anyCrowded, Readable}
+use Rattle.slots.specs.Places.{oldAt, heldAt, held, isNew, crowded, anyCrowded, Readable}
 use Rattle.updates.specs.Updates.{ReadableSlot, crowdedIn}
 use Rattle.updates.specs.Laws.{crowded-held}
 use Rattle.old_trips.specs.Old.{Joined}

@@ -11,9 +11,9 @@ use Rattle.places.specs.Here.{Here}
 use Rattle.decode.specs.Trip.{tripEntry}
 use Rattle.decode.specs.Map.{puts}
 use Rattle.decode.specs.Order.{texts}
-use Rattle.decode.specs.Index.{index, Sound}
+use Rattle.slots.specs.Index.{index, Sound}
 use Rattle.decode.specs.Leaves.{Trips, leaves}
-use Rattle.decode.specs.Places.{held, isNew, crowded, anyCrowded}
+use Rattle.slots.specs.Places.{held, isNew, crowded, anyCrowded}
 use Rattle.old_trips.specs.Old.{Stands}
 use Rattle.index.specs.Message.{messageOf}
 use Rattle.index.specs.declared.Left.{Left}

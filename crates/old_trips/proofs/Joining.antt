@@ -19,11 +19,12 @@ use Rattle.decode.specs.Trip.{Trip, trip, tripEntry}
 use Rattle.decode.specs.Map.{put, puts}
 use Rattle.decode.specs.Order.{texts}
 use Rattle.decode.specs.Laws.{map-put, puts-append, put-all, put-one-more}
-use Rattle.decode.specs.Index.{Place, index, Sound}
-use Rattle.decode.specs.Entity.{Filed}
-use Rattle.decode.specs.Slots.{index-length, filed-length, sound-none}
+use Rattle.slots.specs.Index.{Place, index, Sound}
+use Rattle.filing.specs.Entity.{Filed}
+use Rattle.slots.specs.Slots.{index-length, sound-none}
+use Rattle.filing.specs.Lengths.{filed-length}
 use Rattle.decode.specs.Leaves.{Trips}
-use Rattle.decode.specs.Places.{beyond, isNew, orEmpty, bytesAt, recordAt, oldAt, heldAt, held}
+use Rattle.slots.specs.Places.{beyond, isNew, orEmpty, bytesAt, recordAt, oldAt, heldAt, held}
 use Rattle.old_trips.specs.Old.{Stands, Joined, Entry, Passes, Filled}
 
 -- the bytes of a value that stands somewhere are read as it, and nothing is left

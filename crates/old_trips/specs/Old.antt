@@ -10,10 +10,10 @@ use Rattle.places.specs.Here.{Here}
 use Rattle.decode.specs.Trip.{trip, tripEntry}
 use Rattle.decode.specs.Map.{puts}
 use Rattle.decode.specs.Order.{texts}
-use Rattle.decode.specs.Index.{index, Sound}
-use Rattle.decode.specs.Entity.{Filed}
+use Rattle.slots.specs.Index.{index, Sound}
+use Rattle.filing.specs.Entity.{Filed}
 use Rattle.decode.specs.Leaves.{Trips}
-use Rattle.decode.specs.Places.{beyond, isNew, held}
+use Rattle.slots.specs.Places.{beyond, isNew, held}
 
 -- a feed's trips stand in o from `at` on, and are as many and as short as the state lets them be
 pub record Stands (o : List ℕ) (at : ℕ) : Type 0 where

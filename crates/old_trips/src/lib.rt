@@ -10,8 +10,8 @@ ghost use lib.ListN.{length};
 ghost use Rattle.formats.specs.Format.{Value};
 ghost use Rattle.places.specs.Here.{Here};
 ghost use Rattle.decode.specs.Trip.{trip};
-ghost use Rattle.decode.specs.Index.{Sound};
-ghost use Rattle.decode.specs.Places.{beyond};
+ghost use Rattle.slots.specs.Index.{Sound};
+ghost use Rattle.slots.specs.Places.{beyond};
 ghost use Rattle.old_trips.specs.Old.{Stands, Joined, Entry, Passes};
 
 // The place past the record at `at`.
@@ -55,7 +55,7 @@ fn file_entry(
     let next = past_trip(old, end);
     let from = old_place(end);
     let till = old_place(next);
-    let slots = decode::file_key(keys, marks, order, n, old, start, end - start, from, till);
+    let slots = filing::file_key(keys, marks, order, n, old, start, end - start, from, till);
     Passed { slots, next }
 }
 

@@ -12,10 +12,11 @@ use native.Mathlib.Numerals.{add-one}
 use Rattle.formats.specs.Law.{All}
 use Rattle.realtime.specs.Schema.{feedEntity}
 use Rattle.realtime.specs.Schema as schema
-use Rattle.decode.specs.Laws.{map-length, laid-length}
+use Rattle.decode.specs.Laws.{map-length}
 use Rattle.decode.specs.Record.{updatesIn, tripIn}
-use Rattle.decode.specs.Index.{placeAt, laid}
-use Rattle.decode.specs.Places.{recordAt, updateAt, orEnd, Readable, crowded}
+use Rattle.slots.specs.Index.{placeAt}
+use Rattle.updates.specs.Line.{laid, laid-length}
+use Rattle.slots.specs.Places.{recordAt, updateAt, orEnd, Readable, crowded}
 use Rattle.updates.specs.Updates.{Listed, Crowded, ReadableSlot, crowdedSlot, crowdedIn}
 
 -- by the updates themselves

@@ -1,3 +1,4 @@
 -- Lemmas on plain values.
 mod Listing
 mod Crowding
+mod Noting

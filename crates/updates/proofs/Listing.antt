@@ -18,10 +18,10 @@ use Rattle.merged.specs.declared.Item.{Item}
 use Rattle.decode.specs.Trip.{StopUpdate}
 use Rattle.decode.specs.Map.{put, puts}
 use Rattle.decode.specs.Order.{numbers}
-use Rattle.decode.specs.Laws.{map-put, map-length, puts-longer, laid-length}
+use Rattle.decode.specs.Laws.{map-put, map-length, puts-longer}
 use Rattle.decode.specs.Record.{updateIn, updatesIn}
-use Rattle.decode.specs.Index.{laid, Lined, Noted}
-use Rattle.decode.specs.Places.{orEnd, updateAt}
+use Rattle.updates.specs.Line.{laid, Lined, Noted, laid-length}
+use Rattle.slots.specs.Places.{orEnd, updateAt}
 use Rattle.updates.specs.Updates.{updatesAt, Listed}
 
 -- an update with its sequence

@@ -11,8 +11,9 @@ use Rattle.realtime.specs.Schema as schema
 use Rattle.decode.specs.Trip.{StopUpdate}
 use Rattle.decode.specs.Map.{mapValues}
 use Rattle.decode.specs.Record.{updatesIn, tripIn}
-use Rattle.decode.specs.Index.{Place, placeAt, laid, Lined}
-use Rattle.decode.specs.Places.{recordAt, updateAt, isNew, Readable, crowded}
+use Rattle.slots.specs.Index.{Place, placeAt}
+use Rattle.updates.specs.Line.{laid, Lined}
+use Rattle.slots.specs.Places.{recordAt, updateAt, isNew, Readable, crowded}
 
 -- the updates that stand at places of the message s
 abbrev pub updatesAt : List ℕ → List (ℕ × Place) → List (ℕ × StopUpdate)

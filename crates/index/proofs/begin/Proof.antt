@@ -1,6 +1,6 @@
 -- `index::begin`: the old trips join, or there are none. Assumes nothing.
 use borrow.Author.Needs.{needs}
-use Rattle.decode.specs.Slots.{sound-none}
+use Rattle.slots.specs.Slots.{sound-none}
 use Rattle.index.proofs.Together.{begun-none, begun-old}
 use Rattle.index.proofs.begin.Statement.{statement}
 use Rattle.index.proofs.begin.Tie as tie
