@@ -1,17 +1,15 @@
 -- A key that is written into slot n leaves the index as it was, and then goes in. Assumes nothing.
-use Prim.Native.Nat.{suc, ℕ, _+_, _*_, _≤_, _<_}
+use Prim.Native.Nat.{ℕ, _+_, _*_, _≤_, _<_}
 use mathlib.Core.Path.{_≡_, refl, sym, ap, _∙_}
 use mathlib.Core.List.{List, [], _∷_, _++_}
 use native.Mathlib.Omega.{arith}
 use lib.ListN.{length, getD, take, drop}
 use Rattle.formats.specs.Law.{All}
 use Rattle.merged.specs.Reading.{front-part}
-use Rattle.decode.specs.Map.{byOrder, put, puts, ascending}
+use Rattle.decode.specs.Map.{put, puts, ascending}
 use Rattle.decode.specs.Order.{texts}
-use Rattle.slots.specs.Index.{Place, index, keyAt, placeAt, slotted, Sound, Settled}
-use Rattle.slices.specs.Lists.{lexOf}
-use Rattle.slices.specs.declared.Order.{Order}
-use Rattle.slices.specs.declared.Order.the-variants.{Less, Same, More}
+use Rattle.decode.specs.Laws.{put-longer}
+use Rattle.slots.specs.Index.{index, keyAt, placeAt, slotted, Sound, Settled}
 use Rattle.merged.specs.Views.{spanIn, viewDirection}
 use Rattle.merged.specs.declared.Trip.{Trip}
 use Rattle.decode.specs.Trip as held
@@ -54,16 +52,6 @@ module _ {keys marks order k keys′ : List ℕ} {n r : ℕ} (S : Sound keys mar
     map = T .map ∙ (λ t. put texts (K .key t) (from, till) (slots-kept (take n order) (S .slots) t));
     sound = T .sound;
   }
-
--- a put leaves no map shorter
-put-length : (k : List ℕ) (p : Place) (m : List (List ℕ × Place)) → length m ≤ length (put texts k p m)
-put-length k p [] = omega arith
-put-length k p (e ∷ m) = go (lexOf k (e .0)) (put-length k p m)
-  where
-    go : (o : Order) → length m ≤ length (put texts k p m) → suc (length m) ≤ length (byOrder o ((k, p) ∷ e ∷ m) ((k, p) ∷ m) (e ∷ put texts k p m))
-    go Less h = omega arith
-    go Same h = omega arith
-    go More h = omega arith
 
 module _ (feed : List ℕ) (u : held.Trip) where
   inserts-none : (raw : List ℕ) → length raw ≡ 0 → length (held.routeOf u) ≡ 0 → inserts feed raw u ≡ []
@@ -135,7 +123,7 @@ module _ (feed s : List ℕ) (t : Trip) (S : Short s t) where
       enters-over h = record {
         sound = F .sound;
         few = λ g u a. absurd (omega arith);
-        many = λ g u a. rw (two u a) (omega (arith, filed-length F, put-length (spanIn s (t .id)) (from, till) (put texts k (from, till) (index keys marks order n))));
+        many = λ g u a. rw (two u a) (omega (arith, filed-length F, put-longer texts (spanIn s (t .id)) (from, till) (put texts k (from, till) (index keys marks order n))));
       }
 
       pub enters-dated : {keys″ marks″ order″ : List ℕ} {q : ℕ} → Filed keys′ marks′ order′ r (spanIn s (t .id)) from till keys″ marks″ order″ q

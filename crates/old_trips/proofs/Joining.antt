@@ -14,9 +14,9 @@ use Rattle.writing.specs.Slices.{slice-is}
 use Rattle.places.specs.Here.{Here, halves}
 use Rattle.places.specs.Lists.{Many, listed}
 use Rattle.places.specs.Reads.{ReadsNumber, ReadsText}
-use Rattle.places.specs.Walk.{At, Walk, begin, onward, ended, of-list}
+use Rattle.places.specs.Walk.{At, Walk, ended, of-list}
 use Rattle.decode.specs.Trip.{Trip, trip, tripEntry}
-use Rattle.decode.specs.Map.{put, puts}
+use Rattle.decode.specs.Map.{put}
 use Rattle.decode.specs.Order.{texts}
 use Rattle.decode.specs.Laws.{map-put, puts-append, put-all, put-one-more}
 use Rattle.slots.specs.Index.{Place, index, Sound}
@@ -24,7 +24,7 @@ use Rattle.filing.specs.Entity.{Filed}
 use Rattle.slots.specs.Slots.{index-length, sound-none}
 use Rattle.filing.specs.Lengths.{filed-length}
 use Rattle.decode.specs.Leaves.{Trips}
-use Rattle.slots.specs.Places.{beyond, isNew, orEmpty, bytesAt, recordAt, oldAt, heldAt, held}
+use Rattle.slots.specs.Places.{beyond, isNew, orEmpty, recordAt, oldAt, heldAt, held}
 use Rattle.old_trips.specs.Old.{Stands, Joined, Entry, Passes, Filled}
 
 -- the bytes of a value that stands somewhere are read as it, and nothing is left
