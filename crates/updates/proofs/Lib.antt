@@ -1,3 +1,5 @@
 -- Lemmas on plain values.
+mod Walking
 mod Listing
+mod Counting
 mod Crowding
