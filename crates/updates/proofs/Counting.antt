@@ -14,7 +14,7 @@ use Rattle.merged.specs.declared.Item.{Item}
 use Rattle.decode.specs.Order.{numbers}
 use Rattle.decode.specs.Laws.{puts-most}
 use Rattle.decode.specs.Record.{updatesIn, tripIn}
-use Rattle.updates.specs.Updates.{Counted, Crowded}
+use Rattle.updates.specs.Updates.{Counted, CrowdedRead}
 use Rattle.updates.proofs.Walking.{Walked, starts, walks-on, ends}
 use Rattle.updates.proofs.Listing.{pair}
 
@@ -39,7 +39,7 @@ module _ {s : List ℕ} {start len n : ℕ} {w : Walk} (W : Counting s start len
     counts-on a h = record { most = omega arith; walked = walks-on (W .walked) X N a (λ e t k y p. omega (arith, p)) }
 
 -- no more than 128 are no more at their sequences
-pub crowded-counted : {s : List ℕ} {start len r : ℕ} → Counted s start len r → r ≤ 128 → Crowded s start len false
+pub crowded-counted : {s : List ℕ} {start len r : ℕ} → Counted s start len r → r ≤ 128 → CrowdedRead s start len false
 unfolding tripIn updatesIn
 crowded-counted C h = record {
   of = λ e q. sym (le-ltb 128 (length (updatesIn e)) (omega (arith, C .of e q, puts-most numbers (map pair (rep 2 (sub 3 e))) [], length-map (rep 2 (sub 3 e)) pair)));

@@ -16,10 +16,10 @@ use Rattle.decode.specs.Laws.{map-length, laid-length}
 use Rattle.decode.specs.Record.{updatesIn, tripIn}
 use Rattle.decode.specs.Index.{placeAt, laid}
 use Rattle.decode.specs.Places.{recordAt, updateAt, orEnd, Readable, crowded}
-use Rattle.updates.specs.Updates.{Listed, Crowded, ReadableSlot, crowdedSlot, crowdedIn}
+use Rattle.updates.specs.Updates.{Listed, CrowdedRead, ReadableSlot, crowdedSlot, crowdedIn}
 
 -- by the updates themselves
-pub crowded-listed : {s u : List ℕ} {start len r : ℕ} → Listed s start len u r → Crowded s start len (ltb 128 r)
+pub crowded-listed : {s u : List ℕ} {start len r : ℕ} → Listed s start len u r → CrowdedRead s start len (ltb 128 r)
 unfolding tripIn
 crowded-listed {s} {u} {start} {len} {r} L = record {
   of = λ e q. go (ltb 128 r) refl (length (updatesIn e)) (L .of e q .many) (λ h. sym (ap length (L .of e q .few h)) ∙ map-length (updateAt s) (laid r u) ∙ laid-length r u);
@@ -39,7 +39,7 @@ module _ (s marks : List ℕ) (j : ℕ) where
     slot-reads = R .1 (lt-ltb (getD marks (3 * j + 1) 0) 1048577 (omega arith))
 
     -- a record of the message
-    pub slot-new : {till : ℕ} {r : Bool} → till ≡ getD marks (3 * j + 2) 0 → Crowded s from (till - from) r → r ≡ crowdedSlot s marks j
+    pub slot-new : {till : ℕ} {r : Bool} → till ≡ getD marks (3 * j + 2) 0 → CrowdedRead s from (till - from) r → r ≡ crowdedSlot s marks j
     unfolding recordAt
     slot-new {till} {r} f C =
         let q = slot-reads .read in

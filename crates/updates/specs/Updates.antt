@@ -33,7 +33,7 @@ pub record Counted (s : List ℕ) (start len : ℕ) (r : ℕ) : Type 0 where
   pub of : (e : Tree) → tree schema.feed feedEntity (take len (drop start s)) ≡ some e → r ≡ min 129 (length (rep 2 (sub 3 e)))
 
 -- THE ANSWER r of whether its record has more than 128
-pub record Crowded (s : List ℕ) (start len : ℕ) (r : Bool) : Type 0 where
+pub record CrowdedRead (s : List ℕ) (start len : ℕ) (r : Bool) : Type 0 where
   pub of : (e : Tree) → tree schema.feed feedEntity (take len (drop start s)) ≡ some e → r ≡ crowded (tripIn e)
 
 -- a slot of the index whose record, where it is of the message, is not broken

@@ -4,7 +4,7 @@ ghost use mathlib.Core.Path.{_≡_};
 ghost use Prim.Native.Nat.{_+_, _≤_};
 ghost use lib.ListN.{length, take};
 ghost use Rattle.formats.specs.Law.{All};
-ghost use Rattle.updates.specs.Updates.{Listed, Counted, Crowded, ReadableSlot, crowdedSlot, crowdedIn};
+ghost use Rattle.updates.specs.Updates.{Listed, Counted, CrowdedRead, ReadableSlot, crowdedSlot, crowdedIn};
 
 // The most updates that a trip may have.
 const LIMIT: usize = 128;
@@ -68,7 +68,7 @@ fn count_updates(s: &[u8], start: usize, len: usize) -> usize
 fn is_crowded(updates: &mut [u32], s: &[u8], start: usize, len: usize) -> bool
     requires { ⌜ length (now updates) ≡ 387 ⌝ }
     requires { ⌜ (start + len ≤ length (now s)) × (length (now s) ≤ 1048576) ⌝ }
-    ensures { λ r. ⌜ Crowded (now (s .entry)) start len r ⌝ }
+    ensures { λ r. ⌜ CrowdedRead (now (s .entry)) start len r ⌝ }
 {
     if count_updates(s, start, len) <= LIMIT {
         return false;
