@@ -1,12 +1,12 @@
 -- `count_updates` on plain values: those so far and those that are left. Assumes nothing.
 use Prim.Native.Nat.{ℕ, _+_, _≤_, _<_}
-use mathlib.Core.Path.{_≡_, refl, sym, ap, _∙_}
+use mathlib.Core.Path.{_≡_, sym}
 use mathlib.Core.Bool.{false}
 use mathlib.Core.List.{List, [], map}
 use native.Mathlib.Omega.{arith}
 use lib.ListN.{length, take, length-map}
 use borrow.Author.Tests.{le-ltb}
-use Rattle.realtime.specs.Tree.{Tree, sub, rep}
+use Rattle.realtime.specs.Tree.{sub, rep}
 use Rattle.merged.specs.Walks.{NextUpdate}
 use Rattle.merged.specs.Starts.{atMerged}
 use Rattle.merged.specs.declared.Walk.{Walk}

@@ -1,8 +1,8 @@
 -- Whether a record has more than 128 updates: of one entity, of a slot, of many slots. Assumes nothing.
-use Prim.Native.Nat.{ℕ, suc, _+_, _-_, _*_, _≤_, _<_}
+use Prim.Native.Nat.{ℕ, _+_, _-_, _*_, _≤_, _<_}
 use mathlib.Core.Path.{_≡_, refl, sym, ap, _∙_}
 use mathlib.Core.Bool.{Bool, true, false, _&&_, _||_}
-use mathlib.Core.List.{List, [], _∷_}
+use mathlib.Core.List.{List, _∷_}
 use native.Mathlib.Omega.{arith}
 use lib.Dec.{ltb}
 use lib.ListN.{length, getD, take, drop, length-take, drop-of-length-le}
@@ -10,8 +10,6 @@ use lib.Seq.{drop-cons, getD-take}
 use borrow.Author.Tests.{lt-ltb, le-ltb, ltb-true, ltb-false}
 use native.Mathlib.Numerals.{add-one}
 use Rattle.formats.specs.Law.{All}
-use Rattle.realtime.specs.Schema.{feedEntity}
-use Rattle.realtime.specs.Schema as schema
 use Rattle.decode.specs.Laws.{map-length, laid-length}
 use Rattle.decode.specs.Record.{updatesIn, tripIn}
 use Rattle.decode.specs.Index.{placeAt, laid}

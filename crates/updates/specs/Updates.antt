@@ -40,10 +40,11 @@ pub record CrowdedRead (s : List ℕ) (start len : ℕ) (r : Bool) : Type 0 wher
 abbrev pub ReadableSlot : List ℕ → List ℕ → ℕ → Type 0
 ReadableSlot s marks j = (j < 2049) × (isNew (placeAt marks j) ≡ true → Readable s (placeAt marks j))
 
--- whether one of the slots has a record of the message with more than 128 updates
+-- whether a slot's record is of the message, and has more than 128 updates
 abbrev pub crowdedSlot : List ℕ → List ℕ → ℕ → Bool
 crowdedSlot s marks j = isNew (placeAt marks j) && crowded (recordAt s (placeAt marks j))
 
+-- WHETHER ONE OF THE SLOTS has such a record
 unfoldable pub crowdedIn : List ℕ → List ℕ → List ℕ → Bool
 crowdedIn s marks [] = false
 crowdedIn s marks (j ∷ l) = crowdedSlot s marks j || crowdedIn s marks l
