@@ -1,5 +1,5 @@
 -- Laws of maps: what is got after a put, the order that a put keeps, equality by what is got, and walks over entries both ways. Assumes nothing.
-use Prim.Native.Nat.{ℕ, suc, _≤_}
+use Prim.Native.Nat.{ℕ, suc, _+_, _≤_}
 use mathlib.Core.Path.{_≡_, refl, sym, ap, _∙_}
 use mathlib.Core.Bool.{Bool, true, false, _&&_}
 use mathlib.Core.List.{List, [], _∷_, _++_}
@@ -239,6 +239,7 @@ module _ {K : Type 0} (O : Ordered K) {A : Type 0} where
   puts-longer [] m = omega arith
   puts-longer (e ∷ l) m = omega (arith, put-longer (e .0) (e .1) m, puts-longer l (put O (e .0) (e .1) m))
 
+  -- and longer by one at most for each entry
   pub put-one-more : (k : K) (v : A) (m : List (K × A)) → length (put O k v m) ≤ suc (length m)
   put-one-more k v [] = omega arith
   put-one-more k v (e ∷ m) = go (O .compare k (e .0)) (put-one-more k v m)
@@ -247,6 +248,10 @@ module _ {K : Type 0} (O : Ordered K) {A : Type 0} where
       go Less i = omega arith
       go Same i = omega arith
       go More i = omega (arith, i)
+
+  pub puts-most : (l m : List (K × A)) → length (puts O l m) ≤ length l + length m
+  puts-most [] m = omega arith
+  puts-most (e ∷ l) m = omega (arith, put-one-more (e .0) (e .1) m, puts-most l (put O (e .0) (e .1) m))
 
   -- what holds of every entry holds after a put of another of which it holds
   pub put-all : (P : K × A → Type 0) (k : K) (v : A) (m : List (K × A)) → P (k, v) → All P m → All P (put O k v m)

@@ -9,7 +9,7 @@ ghost use Rattle.formats.specs.Law.{All};
 ghost use Rattle.decode.specs.Order.{numbers};
 ghost use Rattle.slots.specs.Index.{rankOf};
 ghost use Rattle.updates.specs.Line.{three, laid, Lined, Noted};
-ghost use Rattle.updates.specs.Updates.{Listed, Crowded, ReadableSlot, crowdedSlot, crowdedIn};
+ghost use Rattle.updates.specs.Updates.{Listed, Counted, CrowdedRead, ReadableSlot, crowdedSlot, crowdedIn};
 
 // The most updates that a trip may have.
 const LIMIT: usize = 128;
@@ -96,12 +96,39 @@ pub fn updates_of(updates: &mut [u32], s: &[u8], start: usize, len: usize) -> us
     }
 }
 
-// Whether the record of an entity has more than 128.
+// How many updates an entity has, at their sequences or not: counted up to the first above 128.
+fn count_updates(s: &[u8], start: usize, len: usize) -> usize
+    requires { ⌜ start + len ≤ length (now s) ⌝ }
+    ensures { λ r. ⌜ Counted (now (s .entry)) start len r ⌝ }
+{
+    let end = start + len;
+    let mut walk = merged::updates(start);
+    let mut n: usize = 0;
+    while n <= LIMIT {
+        match merged::next_update(wire::part(s, 0, end), walk) {
+            Item::Done => return n,
+            Item::At {
+                start: _,
+                len: _,
+                walk: rest,
+            } => {
+                walk = rest;
+                n += 1;
+            }
+        }
+    }
+    n
+}
+
+// Whether the record of an entity has more than 128. Few records do, and counting tells of nearly all others.
 fn is_crowded(updates: &mut [u32], s: &[u8], start: usize, len: usize) -> bool
     requires { ⌜ length (now updates) ≡ 387 ⌝ }
     requires { ⌜ (start + len ≤ length (now s)) × (length (now s) ≤ 1048576) ⌝ }
-    ensures { λ r. ⌜ Crowded (now (s .entry)) start len r ⌝ }
+    ensures { λ r. ⌜ CrowdedRead (now (s .entry)) start len r ⌝ }
 {
+    if count_updates(s, start, len) <= LIMIT {
+        return false;
+    }
     updates_of(updates, s, start, len) > LIMIT
 }
 
