@@ -127,30 +127,15 @@ fn over_message(s: &[u8], from: usize, message: u64, before: Scalars) -> Scalars
         match next(s, at, message) {
             Step::Broken => return d,
             Step::End => return d,
-            Step::Number {
-                field,
-                value,
-                next: after,
-            } => {
+            Step::Number(field, value, after) => {
                 d = keep(d, field, Scalar::Number(value));
                 at = after;
             }
-            Step::Text {
-                field,
-                start,
-                len,
-                next: after,
-            } => {
+            Step::Text(field, start, len, after) => {
                 d = keep(d, field, Scalar::Text { start, len });
                 at = after;
             }
-            Step::Message {
-                field: _,
-                message: _,
-                start: _,
-                len: _,
-                next: after,
-            } => {
+            Step::Message(_, _, _, _, after) => {
                 at = after;
             }
         }
@@ -179,28 +164,13 @@ fn over_path(
         match next(s, at, message) {
             Step::Broken => return d,
             Step::End => return d,
-            Step::Number {
-                field: _,
-                value: _,
-                next: after,
-            } => {
+            Step::Number(_, _, after) => {
                 at = after;
             }
-            Step::Text {
-                field: _,
-                start: _,
-                len: _,
-                next: after,
-            } => {
+            Step::Text(_, _, _, after) => {
                 at = after;
             }
-            Step::Message {
-                field,
-                message: inner,
-                start,
-                len: _,
-                next: after,
-            } => {
+            Step::Message(field, inner, start, _, after) => {
                 if field == a {
                     d = over_path(wire::part(s, 0, after), start, inner, depth - 1, b, 0, d);
                 }
@@ -258,30 +228,15 @@ fn over_stop(s: &[u8], from: usize) -> StopScalars
                     departure,
                 };
             }
-            Step::Number {
-                field,
-                value,
-                next: after,
-            } => {
+            Step::Number(field, value, after) => {
                 stop = keep(stop, field, Scalar::Number(value));
                 at = after;
             }
-            Step::Text {
-                field,
-                start,
-                len,
-                next: after,
-            } => {
+            Step::Text(field, start, len, after) => {
                 stop = keep(stop, field, Scalar::Text { start, len });
                 at = after;
             }
-            Step::Message {
-                field,
-                message: inner,
-                start,
-                len: _,
-                next: after,
-            } => {
+            Step::Message(field, inner, start, _, after) => {
                 if field == 2 {
                     arrival = over_message(wire::part(s, 0, after), start, inner, arrival);
                 } else if field == 3 {
@@ -593,28 +548,13 @@ fn next_item(s: &[u8], message: u64, a: u64, inner: u64, k: u64, walk: Walk) -> 
     loop {
         match next(wire::part(s, 0, end), at, inner) {
             Step::Broken => return Item::Done,
-            Step::Number {
-                field: _,
-                value: _,
-                next: after,
-            } => {
+            Step::Number(_, _, after) => {
                 at = after;
             }
-            Step::Text {
-                field: _,
-                start: _,
-                len: _,
-                next: after,
-            } => {
+            Step::Text(_, _, _, after) => {
                 at = after;
             }
-            Step::Message {
-                field,
-                message: _,
-                start,
-                len,
-                next: after,
-            } => {
+            Step::Message(field, _, start, len, after) => {
                 if field == k {
                     return Item::At {
                         start,
@@ -631,28 +571,13 @@ fn next_item(s: &[u8], message: u64, a: u64, inner: u64, k: u64, walk: Walk) -> 
             Step::End => match next(s, outer, message) {
                 Step::Broken => return Item::Done,
                 Step::End => return Item::Done,
-                Step::Number {
-                    field: _,
-                    value: _,
-                    next: after,
-                } => {
+                Step::Number(_, _, after) => {
                     outer = after;
                 }
-                Step::Text {
-                    field: _,
-                    start: _,
-                    len: _,
-                    next: after,
-                } => {
+                Step::Text(_, _, _, after) => {
                     outer = after;
                 }
-                Step::Message {
-                    field,
-                    message: _,
-                    start,
-                    len: _,
-                    next: after,
-                } => {
+                Step::Message(field, _, start, _, after) => {
                     if field == a {
                         at = start;
                         end = after;
