@@ -4,9 +4,10 @@ use crate::{equation, Definition, Equation};
 use differential::bounds::bounds;
 use differential::form::Form;
 use differential::gens::history;
-use differential::layout::overlay;
+use differential::layout;
 use differential::literal::{list, pairs, Literal};
 use differential::panel::{Answer, Call, Panel};
+use differential::questions::LONGEST_CARD;
 
 pub const DEFINITIONS: &[Definition] = &[
     Definition { name: "histories", cases: AtRandom(200, |random| equal(&history(random, 5))), ..OF_PANEL },
@@ -18,7 +19,8 @@ const OF_PANEL: Definition = Definition {
     name: "",
     of: "panel",
     preamble: "\
-use mathlib.Core.List.{map}
+use mathlib.Core.List.{map, _++_}
+use lib.ListN.{replicate}
 use Rattle.panel.specs.Questions.{Lengths}
 use Rattle.panel.specs.Calls.{Call, fresh, message, alertSheet, vehicleSheet, card, report, Gave, gives, run}
 
@@ -32,9 +34,10 @@ given n m calls =
     cases: Listed(Vec::new),
 };
 
-/// The bounds of the questions, as far as the checker takes their inputs.
+/// The bounds of the questions. Of 1,048,576 bytes the checker takes no list: there `panel/Third` has question
+/// 3 for every input.
 fn questions() -> Vec<Equation> {
-    const LONGEST: usize = 4_000;
+    const LONGEST: usize = 100_000;
     let lists = bounds().into_iter().flat_map(|bound| [bound.within, bound.past]).flatten();
     lists
         .filter(|calls| calls.iter().map(input).all(|input| input <= LONGEST))
@@ -55,24 +58,37 @@ fn input(call: &Call) -> usize {
 /// The calls on a fresh overlay, in buffers a little longer than what is written into them.
 fn equal(calls: &[Call]) -> Equation {
     let mut panel = Panel::default();
-    let answers: Vec<_> = calls.iter().map(|call| answer(&mut panel, call)).collect();
-    let longest = |card: bool| {
-        let of = calls.iter().zip(&answers).filter(|(call, _)| matches!(call, Call::Card { .. }) == card);
-        of.map(|(_, (_, written))| written.len()).max().unwrap_or(0).max(3) + 2
-    };
-    let (overlay, card) = (longest(false), longest(true));
+    let (mut overlay, mut card) = (5, 5);
+    let mut answers = Vec::new();
+    for call in calls {
+        let before = panel.clone();
+        let (number, written) = answer(&mut panel, call);
+        match call {
+            Call::Report { .. } => {}
+            Call::Card { .. } if number == 8 => card = LONGEST_CARD,
+            Call::Card { .. } => card = card.max(LONGEST_CARD.min(written.len() + 2)),
+            // What question 7 refuses has room, and is refused for its counts alone.
+            _ if number == 7 => overlay = overlay.max(layout::overlay(&before.left(call)).written().len()),
+            _ => overlay = overlay.max(written.len() + 2),
+        }
+        answers.push((number, written));
+    }
     let length = |call: &Call| match call {
         Call::Card { .. } => card,
         Call::Report { .. } => 25,
         _ => overlay,
     };
-    let gave = calls.iter().zip(answers).map(|(call, (number, mut output))| {
-        output.resize(length(call), 0);
-        pairs(&[number.literal(), list(&output)])
+    let gave = calls.iter().zip(answers).map(|(call, (number, written))| {
+        pairs(&[number.literal(), filled(length(call), &written)]) + " ∷ "
     });
-    let right = format!("({}[])", gave.map(|gave| gave + " ∷ ").collect::<String>());
+    let right = format!("({}[])", gave.collect::<String>());
     let calls: String = calls.iter().map(|call| format!("{} ∷ ", term(call, length(call)))).collect();
     equation("given", &[overlay.to_string(), card.to_string(), format!("({calls}[])")], right)
+}
+
+/// The bytes, and zeros up to a length.
+fn filled(length: usize, bytes: &[u8]) -> String {
+    format!("({} ++ replicate {} 0)", list(bytes), length - bytes.len())
 }
 
 /// The number that a call gives and what it writes.
@@ -81,7 +97,7 @@ fn answer(panel: &mut Panel, call: &Call) -> (u8, Vec<u8>) {
     let number = answer.number();
     let written = match answer {
         Answer::Refused(_) => vec![],
-        Answer::Written => overlay(&panel.original).written(),
+        Answer::Written => layout::overlay(&panel.original).written(),
         Answer::Card(card) => card,
         Answer::Report(report) => report.written(),
     };
