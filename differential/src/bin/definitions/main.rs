@@ -8,6 +8,7 @@ mod journey;
 mod opened;
 mod overlay;
 mod panel;
+mod refusals;
 
 use differential::random::Random;
 use opened::{opened, stands_on};
@@ -68,6 +69,7 @@ fn main() {
         overlay::DEFINITIONS,
         journey::DEFINITIONS,
         panel::DEFINITIONS,
+        refusals::DEFINITIONS,
     ];
     let mut needed = BTreeSet::new();
     for definition in known.into_iter().flatten() {

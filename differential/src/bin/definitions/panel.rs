@@ -15,7 +15,7 @@ pub const DEFINITIONS: &[Definition] = &[
 ];
 
 /// What lists of calls have in common.
-const OF_PANEL: Definition = Definition {
+pub const OF_PANEL: Definition = Definition {
     name: "",
     of: "panel",
     preamble: "\
@@ -72,7 +72,7 @@ fn equal(calls: &[Call]) -> Equation {
         pairs(&[number.literal(), filled(length(call), &written)]) + " ∷ "
     });
     let right = format!("({}[])", gave.collect::<String>());
-    let terms: String = calls.iter().map(|call| format!("{} ∷ ", term(call, length(call)))).collect();
+    let terms: String = calls.iter().map(|call| format!("{} ∷ ", term(call, length(call), &[]))).collect();
     let inputs = [overlay.to_string(), card.to_string(), format!("({terms}[])")];
     if computed == 0 {
         equation("given", &inputs, right)
@@ -108,12 +108,12 @@ fn buffers(panel: &mut Panel, calls: &[Call]) -> Buffers {
 }
 
 /// The bytes, and zeros up to a length.
-fn filled(length: usize, bytes: &[u8]) -> String {
+pub fn filled(length: usize, bytes: &[u8]) -> String {
     format!("({} ++ replicate {} 0)", list(bytes), length - bytes.len())
 }
 
 /// The number that a call gives and what it writes.
-fn answer(panel: &mut Panel, call: &Call) -> (u8, Vec<u8>) {
+pub fn answer(panel: &mut Panel, call: &Call) -> (u8, Vec<u8>) {
     let answer = panel.run(call).expect("an answer");
     let number = answer.number();
     let written = match answer {
@@ -125,8 +125,8 @@ fn answer(panel: &mut Panel, call: &Call) -> (u8, Vec<u8>) {
     (number, written)
 }
 
-/// A call with the length of its output, and no working buffers.
-fn term(call: &Call, length: usize) -> String {
+/// A call with the lengths of its output and its working buffers.
+pub fn term(call: &Call, length: usize, work: &[usize]) -> String {
     let term = match call {
         Call::Fresh => "fresh".into(),
         Call::Message { feed, message } => format!("message {} {}", list(feed), list(message)),
@@ -137,6 +137,7 @@ fn term(call: &Call, length: usize) -> String {
         Call::Card { card } => format!("card {}", list(card)),
         Call::Report { feed } => format!("report {}", list(feed)),
     };
-    let work = if matches!(call, Call::Fresh | Call::Report { .. }) { "" } else { " []" };
-    format!("({term} {length}{work})")
+    let work: Vec<_> = work.iter().map(|length| *length as u64).collect();
+    let work = if matches!(call, Call::Fresh | Call::Report { .. }) { "".into() } else { list(&work) };
+    format!("({term} {length} {work})")
 }
