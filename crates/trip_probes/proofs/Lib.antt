@@ -1,0 +1,2 @@
+-- Lemmas on plain values.
+mod Reading

@@ -1,0 +1,22 @@
+-- `trip_probes::trips_texts` meets its contract. Assumes nothing.
+use borrow.Author.Needs.{needs}
+use mathlib.Core.Path.{sym, ap, _∙_}
+use Rattle.realtime.specs.Schema.{feedEntity}
+use Rattle.merged.specs.Views.{trip}
+use Rattle.trip_probes.specs.Answers.{textsAre}
+use mathlib.Core.Bool.{false}
+use Rattle.trip_probes.proofs.Reading.{of-whole, of-broken, all-of, texts-read}
+use Rattle.trip_probes.proofs.trips_texts.Statement.{statement}
+use Rattle.trip_probes.proofs.trips_texts.Tie as tie
+
+pub trips-texts-spec : {M : Type 1} → statement M
+trips-texts-spec =
+    tie.close
+    (tie.spec
+    (λ c κs. search needs)
+    (λ c κs. search needs)
+    (λ c κs. search needs)
+    (λ c κs. search needs)
+    (λ c κs. search needs)
+    (λ c. of-whole false (λ m. textsAre (trip m) (c .before .before .before .before .before .before .before .before .before .before .before .before .before .args .time .now) (c .before .before .before .before .before .before .before .before .before .before .before .before .before .args .date .now) (c .before .before .before .before .before .before .before .before .before .before .before .before .before .args .route .now)) feedEntity (c .before .before .before .before .before .before .before .before .before .before .before .before .before .args .e .now) (sym (c .before .before .before .before .before .before .before .before .is-whole .ensures) ∙ c .before .before .before .before .before .before .before .if1 .taken) (λ m e. texts-read (c .before .before .before .before .before .before .before .before .before .before .before .before .before .args .e .now) (c .before .before .before .before .before .before .before .before .before .before .before .before .before .args .time .now) (c .before .before .before .before .before .before .before .before .before .before .before .before .before .args .date .now) (c .before .before .before .before .before .before .before .before .before .before .before .before .before .args .route .now) (c .before .before .before .before .before .before .trip-of .result) (c .before .before .reads .ensures) (c .before .reads2 .ensures) (c .reads3 .ensures) (c .before .before .before .before .before .before .trip-of .ensures .of m (all-of feedEntity (c .before .before .before .before .before .before .before .before .before .before .before .before .before .args .e .now) e))))
+    (λ c. of-broken false (λ m. textsAre (trip m) (c .before .before .before .before .before .before .args .time .now) (c .before .before .before .before .before .before .args .date .now) (c .before .before .before .before .before .before .args .route .now)) feedEntity (c .before .before .before .before .before .before .args .e .now) (sym (c .before .is-whole .ensures) ∙ c .if1 .left)))

@@ -1,0 +1,297 @@
+// Calls of the readers of trip messages for a C host: the comparison with the original runs them. They ask nothing of their caller.
+use merged::Delay;
+use merged::Direction;
+use merged::Event;
+use merged::Header;
+use merged::Span;
+use merged::StopUpdate;
+use merged::Time;
+use merged::Timestamp;
+use merged::Trip;
+use realtime::FEED_ENTITY;
+use realtime::FEED_MESSAGE;
+use realtime::STOP_TIME_UPDATE;
+use realtime::Verdict;
+ghost use mathlib.Core.Path.{_≡_};
+ghost use mathlib.Core.Bool.{_&&_, false};
+ghost use lib.ListN.{length};
+ghost use Rattle.slices.specs.Lists.{equal};
+ghost use Rattle.realtime.specs.Tree.{tree};
+ghost use Rattle.realtime.specs.Schema.{feed, feedMessage, feedEntity, stopTimeUpdate};
+ghost use Rattle.realtime.specs.Judge.{asked, rules};
+ghost use Rattle.merged.specs.Views.{SpanInside, header, spanIn, stopUpdate, trip, viewDelay, viewDirection, viewEvent, viewHeader, viewTime, viewTimestamp};
+ghost use Rattle.trip_probes.specs.Answers.{questionOf, whole, present, orZero, orNought, ofWhole, headerNumbers, noHeader, tripNumbers, tripNumbersOf, noTrip, eventNumbers, stopNumbers, stopNumbersOf, noStop, textsAre};
+
+fn question_of(v: Verdict) -> u32
+    ensures { λ r. ⌜ r ≡ questionOf v ⌝ }
+{
+    match v {
+        Verdict::Fine => 0,
+        Verdict::Broken => 4,
+        Verdict::Text => 5,
+        Verdict::Time => 6,
+    }
+}
+
+// The first of the questions 4 to 6 that a message fails, else 0.
+#[no_mangle]
+pub extern "C" fn trips_judge(s: &[u8]) -> u32
+    ensures { λ r. ⌜ r ≡ questionOf (asked rules feedMessage (tree feed feedMessage (now (s .entry)))) ⌝ }
+{
+    question_of(realtime::judge(s, FEED_MESSAGE))
+}
+
+// Whether a message of a type is not broken.
+fn is_whole(s: &[u8], message: u64) -> bool
+    ensures { λ r. ⌜ r ≡ whole (tree feed message (now (s .entry))) ⌝ }
+{
+    match realtime::judge(s, message) {
+        Verdict::Broken => false,
+        Verdict::Text => true,
+        Verdict::Time => true,
+        Verdict::Fine => true,
+    }
+}
+
+fn has_timestamp(t: Timestamp) -> bool
+    ensures { λ r. ⌜ r ≡ present (viewTimestamp t) ⌝ }
+{
+    match t {
+        Timestamp::Given(_) => true,
+        Timestamp::Absent => false,
+    }
+}
+
+fn timestamp_or_zero(t: Timestamp) -> u64
+    ensures { λ r. ⌜ r ≡ orZero (viewTimestamp t) ⌝ }
+{
+    match t {
+        Timestamp::Given(n) => n,
+        Timestamp::Absent => 0,
+    }
+}
+
+fn has_direction(d: Direction) -> bool
+    ensures { λ r. ⌜ r ≡ present (viewDirection d) ⌝ }
+{
+    match d {
+        Direction::Given(_) => true,
+        Direction::Absent => false,
+    }
+}
+
+fn direction_or_zero(d: Direction) -> u32
+    ensures { λ r. ⌜ r ≡ orZero (viewDirection d) ⌝ }
+{
+    match d {
+        Direction::Given(n) => n,
+        Direction::Absent => 0,
+    }
+}
+
+fn has_delay(d: Delay) -> bool
+    ensures { λ r. ⌜ r ≡ present (viewDelay d) ⌝ }
+{
+    match d {
+        Delay::Given(_) => true,
+        Delay::Absent => false,
+    }
+}
+
+fn delay_or_zero(d: Delay) -> i32
+    ensures { λ r. ⌜ r ≡ orNought (viewDelay d) ⌝ }
+{
+    match d {
+        Delay::Given(n) => n,
+        Delay::Absent => 0,
+    }
+}
+
+fn has_time(t: Time) -> bool
+    ensures { λ r. ⌜ r ≡ present (viewTime t) ⌝ }
+{
+    match t {
+        Time::Given(_) => true,
+        Time::Absent => false,
+    }
+}
+
+fn time_or_zero(t: Time) -> i64
+    ensures { λ r. ⌜ r ≡ orNought (viewTime t) ⌝ }
+{
+    match t {
+        Time::Given(n) => n,
+        Time::Absent => 0,
+    }
+}
+
+// The header of a message.
+#[repr(C)]
+pub struct HeaderNumbers {
+    pub differential: bool,
+    pub timed: bool,
+    pub timestamp: u64,
+}
+
+fn header_numbers(h: Header) -> HeaderNumbers
+    ensures { λ r. ⌜ r ≡ headerNumbers (viewHeader h) ⌝ }
+{
+    let timestamp = h.timestamp;
+    HeaderNumbers {
+        differential: h.differential,
+        timed: has_timestamp(timestamp),
+        timestamp: timestamp_or_zero(timestamp),
+    }
+}
+
+#[no_mangle]
+pub extern "C" fn trips_header(s: &[u8]) -> HeaderNumbers
+    ensures { λ r. ⌜ r ≡ ofWhole noHeader (λ m. headerNumbers (header m)) (tree feed feedMessage (now (s .entry))) ⌝ }
+{
+    if is_whole(s, FEED_MESSAGE) {
+        return header_numbers(merged::header_of(s));
+    }
+    HeaderNumbers {
+        differential: false,
+        timed: false,
+        timestamp: 0,
+    }
+}
+
+// The numbers of an entity's trip.
+#[repr(C)]
+pub struct TripNumbers {
+    pub cancelled: bool,
+    pub directed: bool,
+    pub direction: u32,
+    pub delayed: bool,
+    pub delay: i32,
+}
+
+fn trip_numbers(t: Trip) -> TripNumbers
+    ensures { λ r. ⌜ r ≡ tripNumbers (t .cancelled) (viewDirection (t .direction)) (viewDelay (t .delay)) ⌝ }
+{
+    let direction = t.direction;
+    let delay = t.delay;
+    TripNumbers {
+        cancelled: t.cancelled,
+        directed: has_direction(direction),
+        direction: direction_or_zero(direction),
+        delayed: has_delay(delay),
+        delay: delay_or_zero(delay),
+    }
+}
+
+#[no_mangle]
+pub extern "C" fn trips_trip(e: &[u8]) -> TripNumbers
+    ensures { λ r. ⌜ r ≡ ofWhole noTrip (λ m. tripNumbersOf (trip m)) (tree feed feedEntity (now (e .entry))) ⌝ }
+{
+    if is_whole(e, FEED_ENTITY) {
+        return trip_numbers(merged::trip_of(e, 0, e.len()));
+    }
+    TripNumbers {
+        cancelled: false,
+        directed: false,
+        direction: 0,
+        delayed: false,
+        delay: 0,
+    }
+}
+
+// Whether a text of s is x.
+fn reads(s: &[u8], p: Span, x: &[u8]) -> bool
+    requires { ⌜ SpanInside (length (now s)) p ⌝ }
+    ensures { λ r. ⌜ r ≡ equal (spanIn (now (s .entry)) p) (now (x .entry)) ⌝ }
+{
+    slices::same(wire::part(s, p.start, p.len), x)
+}
+
+// Whether the start time, the start date and the route of an entity's trip are these.
+#[no_mangle]
+pub extern "C" fn trips_texts(e: &[u8], time: &[u8], date: &[u8], route: &[u8]) -> bool
+    ensures { λ r. ⌜ r ≡ ofWhole false (λ m. textsAre (trip m) (now (time .entry)) (now (date .entry)) (now (route .entry))) (tree feed feedEntity (now (e .entry))) ⌝ }
+{
+    if is_whole(e, FEED_ENTITY) {
+        let t = merged::trip_of(e, 0, e.len());
+        let a = t.time;
+        let b = t.date;
+        let c = t.route;
+        return reads(e, a, time) & reads(e, b, date) & reads(e, c, route);
+    }
+    false
+}
+
+// The numbers of a stop time update.
+#[repr(C)]
+pub struct EventNumbers {
+    pub delayed: bool,
+    pub delay: i32,
+    pub timed: bool,
+    pub time: i64,
+}
+
+#[repr(C)]
+pub struct StopNumbers {
+    pub sequence: u32,
+    pub skipped: bool,
+    pub arrival: EventNumbers,
+    pub departure: EventNumbers,
+}
+
+fn event_numbers(e: Event) -> EventNumbers
+    ensures { λ r. ⌜ r ≡ eventNumbers (viewEvent e) ⌝ }
+{
+    let delay = e.delay;
+    let time = e.time;
+    EventNumbers {
+        delayed: has_delay(delay),
+        delay: delay_or_zero(delay),
+        timed: has_time(time),
+        time: time_or_zero(time),
+    }
+}
+
+fn stop_numbers(u: StopUpdate) -> StopNumbers
+    ensures { λ r. ⌜ r ≡ stopNumbers (u .sequence) (u .skipped) (viewEvent (u .arrival)) (viewEvent (u .departure)) ⌝ }
+{
+    StopNumbers {
+        sequence: u.sequence,
+        skipped: u.skipped,
+        arrival: event_numbers(u.arrival),
+        departure: event_numbers(u.departure),
+    }
+}
+
+#[no_mangle]
+pub extern "C" fn trips_stop(u: &[u8]) -> StopNumbers
+    ensures { λ r. ⌜ r ≡ ofWhole noStop (λ m. stopNumbersOf (stopUpdate m)) (tree feed stopTimeUpdate (now (u .entry))) ⌝ }
+{
+    if is_whole(u, STOP_TIME_UPDATE) {
+        return stop_numbers(merged::stop_of(u, 0, u.len()));
+    }
+    let none = EventNumbers {
+        delayed: false,
+        delay: 0,
+        timed: false,
+        time: 0,
+    };
+    StopNumbers {
+        sequence: 0,
+        skipped: false,
+        arrival: none,
+        departure: none,
+    }
+}
+
+// Whether the stop id of a stop time update is this.
+#[no_mangle]
+pub extern "C" fn trips_stop_text(u: &[u8], stop: &[u8]) -> bool
+    ensures { λ r. ⌜ r ≡ ofWhole false (λ m. equal (stopUpdate m .stop) (now (stop .entry))) (tree feed stopTimeUpdate (now (u .entry))) ⌝ }
+{
+    if is_whole(u, STOP_TIME_UPDATE) {
+        let r = merged::stop_of(u, 0, u.len());
+        let place = r.stop;
+        return reads(u, place, stop);
+    }
+    false
+}
