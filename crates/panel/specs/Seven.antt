@@ -10,9 +10,9 @@ use lib.ListN.{length}
 use Rattle.formats.specs.Class.{all, utf8, printable}
 use Rattle.formats.specs.Format.{Format, text, list, _&_, Value}
 use Rattle.judging.specs.Judged.{ok}
-use Rattle.decode.specs.Trip.{Trip, updatesOf, number32, stopUpdate}
+use Rattle.decode.specs.Trip.{Trip, updatesOf, number32, stopUpdate, tripEntry}
 use Rattle.alerts.specs.Alert.{Alert, alert, informed-trip-ids, informed-route-ids, informed-stop-ids}
-use Rattle.overlay.specs.State.{Feed, State, tripEntry, vehicleEntry, feedEntry, overlay, tripsOf, vehiclesOf, alertsOf, feedsOf}
+use Rattle.overlay.specs.State.{Feed, State, vehicleEntry, feedEntry, overlay, tripsOf, vehiclesOf, alertsOf, feedsOf}
 use Rattle.overlay.specs.Rules.{judges, all-true, unjudged}
 use Rattle.journey.specs.Card.{middle, transit, leg, card, cardOf, transitOf}
 
