@@ -362,6 +362,10 @@ fn advice(rows: &mut Rows) {
         }
     }
     let marker = "SATURATION";
+    for word in BESIDE_ADVICE {
+        let named = |name: &str| format!("{word}-{marker}-{name}");
+        rows.pair(&table, &format!("{marker} and {word}"), &[], &named("5"), &named("6"));
+    }
     for needle in NEEDLE_ROWS.iter().map(|row| around(row, "5")) {
         let row = format!("{marker} near {needle}");
         let before = |letters: usize| format!("{marker}{}{needle}X", "-".repeat(letters - marker.len()));
