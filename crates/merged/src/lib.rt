@@ -1,6 +1,7 @@
 // The merged messages of a feed, read after the validator: a broken message is answered with anything.
 use realtime::FEED_ENTITY;
 use realtime::FEED_MESSAGE;
+use realtime::STOP_TIME_EVENT;
 use realtime::STOP_TIME_UPDATE;
 use realtime::Step;
 use realtime::TRIP_UPDATE;
@@ -10,8 +11,9 @@ ghost use Prim.Native.Nat.{_+_, _≤_};
 ghost use lib.ListN.{length};
 ghost use Rattle.realtime.specs.Schema.{feed};
 ghost use Rattle.merged.specs.Reading.{Ready, Reads};
-ghost use Rattle.merged.specs.Scalars.{Lasting, StopLasting, StopReads, blank, kept, own, path, scalars, takesAlong};
-ghost use Rattle.merged.specs.Narrow.{isValue, toBool, toDelay, toDirection, toEvent, toHeader, toSequence, toSpan, toStop, toTime, toTimestamp, toTrip};
+ghost use Rattle.merged.specs.Scalars.{Lasting, blank, kept, own, path, scalars, takesAlong};
+ghost use Rattle.merged.specs.Narrow.{isValue, toBool, toDelay, toDirection, toHeader, toSpan, toTimestamp, toTrip};
+ghost use Rattle.merged.specs.Numbers.{EventReads, SequenceReads, StopReads, fromDelay, fromEvent, fromStop, fromTime, noNumbers};
 ghost use Rattle.merged.specs.Typed as typed;
 ghost use Rattle.merged.specs.Walks.{NextEntity, NextUpdate, Sound, Walks, Yields, typeOf};
 ghost use Rattle.merged.specs.Starts.{atMerged, atPlain};
@@ -196,65 +198,6 @@ fn lasts(s: &[u8], start: usize, len: usize, message: u64, depth: usize, a: u64,
     )
 }
 
-// Of a stop_time_update: its own last values, those of its arrivals and those of its departures.
-pub struct StopScalars {
-    pub stop: Scalars,
-    pub arrival: Scalars,
-    pub departure: Scalars,
-}
-
-// In one walk from `from` to the end.
-fn over_stop(s: &[u8], from: usize) -> StopScalars
-    requires { ⌜ from ≤ length (now s) ⌝ }
-    ensures { λ r. ⌜ StopReads feed (now (s .entry)) from r ⌝ }
-{
-    let mut at = from;
-    let mut stop = nothing();
-    let mut arrival = nothing();
-    let mut departure = nothing();
-    loop {
-        match next(s, at, STOP_TIME_UPDATE) {
-            Step::Broken => {
-                return StopScalars {
-                    stop,
-                    arrival,
-                    departure,
-                };
-            }
-            Step::End => {
-                return StopScalars {
-                    stop,
-                    arrival,
-                    departure,
-                };
-            }
-            Step::Number(field, value, after) => {
-                stop = keep(stop, field, Scalar::Number(value));
-                at = after;
-            }
-            Step::Text(field, start, len, after) => {
-                stop = keep(stop, field, Scalar::Text { start, len });
-                at = after;
-            }
-            Step::Message(field, inner, start, _, after) => {
-                if field == 2 {
-                    arrival = over_message(wire::part(s, 0, after), start, inner, arrival);
-                } else if field == 3 {
-                    departure = over_message(wire::part(s, 0, after), start, inner, departure);
-                }
-                at = after;
-            }
-        }
-    }
-}
-
-fn stop_lasts(s: &[u8], start: usize, len: usize) -> StopScalars
-    requires { ⌜ start + len ≤ length (now s) ⌝ }
-    ensures { λ r. ⌜ StopLasting feed (now (s .entry)) start len r ⌝ }
-{
-    over_stop(wire::part(s, 0, start + len), start)
-}
-
 // Where a text stands. An absent text is empty.
 pub struct Span {
     pub start: usize,
@@ -376,26 +319,6 @@ fn delay_of(x: Scalar) -> Delay
     }
 }
 
-fn time_of(x: Scalar) -> Time
-    ensures { λ r. ⌜ r ≡ toTime x ⌝ }
-{
-    match x {
-        Scalar::Number(n) => Time::Given(int64(n)),
-        Scalar::Text { start: _, len: _ } => Time::Absent,
-        Scalar::Nothing => Time::Absent,
-    }
-}
-
-fn sequence_of(x: Scalar) -> u32
-    ensures { λ r. ⌜ r ≡ toSequence x ⌝ }
-{
-    match x {
-        Scalar::Number(n) => uint32(n),
-        Scalar::Text { start: _, len: _ } => 0,
-        Scalar::Nothing => 0,
-    }
-}
-
 fn bool_of(x: Scalar) -> bool
     ensures { λ r. ⌜ r ≡ toBool x ⌝ }
 {
@@ -449,30 +372,169 @@ fn trip_from(d: Scalars, u: Scalars) -> Trip
     }
 }
 
-fn event_from(e: Scalars) -> Event
-    ensures { λ r. ⌜ r ≡ toEvent e ⌝ }
+// A number that may be absent: `given` is 0 or 1. Plain words, where an enum would be copied with the bytes between its parts,
+// which takes longer than the reading.
+pub struct Number {
+    pub given: u64,
+    pub value: u64,
+}
+
+// The last numbers of an event.
+pub struct EventNumbers {
+    pub delay: Number,
+    pub time: Number,
+}
+
+fn no_numbers() -> EventNumbers
+    ensures { λ r. ⌜ r ≡ noNumbers ⌝ }
 {
-    let delay = e.f1;
-    let time = e.f2;
-    Event {
-        delay: delay_of(delay),
-        time: time_of(time),
+    let delay = Number { given: 0, value: 0 };
+    let time = Number { given: 0, value: 0 };
+    EventNumbers { delay, time }
+}
+
+// From `from` to the end, over what is known already.
+fn over_event(s: &[u8], from: usize, before: EventNumbers) -> EventNumbers
+    requires { ⌜ from ≤ length (now s) ⌝ }
+    ensures { λ r. ⌜ EventReads (now (s .entry)) from before r ⌝ }
+{
+    let mut at = from;
+    let mut delay = before.delay;
+    let mut time = before.time;
+    loop {
+        match next(s, at, STOP_TIME_EVENT) {
+            Step::Broken => return EventNumbers { delay, time },
+            Step::End => return EventNumbers { delay, time },
+            Step::Number(field, value, after) => {
+                if field == 1 {
+                    delay = Number { given: 1, value };
+                } else if field == 2 {
+                    time = Number { given: 1, value };
+                }
+                at = after;
+            }
+            Step::Text(_, _, _, after) => {
+                at = after;
+            }
+            Step::Message(_, _, _, _, after) => {
+                at = after;
+            }
+        }
     }
 }
 
-fn stop_from(r: StopScalars) -> StopUpdate
-    ensures { λ u. ⌜ u ≡ toStop r ⌝ }
+fn delay_from(n: Number) -> Delay
+    ensures { λ r. ⌜ r ≡ fromDelay n ⌝ }
 {
-    let own = r.stop;
-    let sequence = own.f1;
-    let stop = own.f4;
-    let relationship = own.f5;
+    if n.given == 1 {
+        return Delay::Given(int32(n.value));
+    }
+    Delay::Absent
+}
+
+fn time_from(n: Number) -> Time
+    ensures { λ r. ⌜ r ≡ fromTime n ⌝ }
+{
+    if n.given == 1 {
+        return Time::Given(int64(n.value));
+    }
+    Time::Absent
+}
+
+fn event_from(e: EventNumbers) -> Event
+    ensures { λ r. ⌜ r ≡ fromEvent e ⌝ }
+{
+    let delay = e.delay;
+    let time = e.time;
+    Event {
+        delay: delay_from(delay),
+        time: time_from(time),
+    }
+}
+
+fn stop_from(
+    sequence: u64,
+    stop: Span,
+    relationship: u64,
+    arrival: EventNumbers,
+    departure: EventNumbers,
+) -> StopUpdate
+    ensures { λ r. ⌜ r ≡ fromStop sequence stop relationship arrival departure ⌝ }
+{
     StopUpdate {
-        sequence: sequence_of(sequence),
-        stop: span_of(stop),
-        arrival: event_from(r.arrival),
-        departure: event_from(r.departure),
-        skipped: is_value(SKIPPED, relationship),
+        sequence: uint32(sequence),
+        stop,
+        arrival: event_from(arrival),
+        departure: event_from(departure),
+        skipped: relationship % 4294967296 == SKIPPED,
+    }
+}
+
+// A stop_time_update from `from` to the end: the last of each, in its arrivals and in its departures too.
+fn over_stop(s: &[u8], from: usize) -> StopUpdate
+    requires { ⌜ from ≤ length (now s) ⌝ }
+    ensures { λ r. ⌜ StopReads (now (s .entry)) from r ⌝ }
+{
+    let mut at = from;
+    let mut sequence: u64 = 0;
+    let mut stop = Span { start: 0, len: 0 };
+    let mut relationship: u64 = 0;
+    let mut arrival = no_numbers();
+    let mut departure = no_numbers();
+    loop {
+        match next(s, at, STOP_TIME_UPDATE) {
+            Step::Broken => return stop_from(sequence, stop, relationship, arrival, departure),
+            Step::End => return stop_from(sequence, stop, relationship, arrival, departure),
+            Step::Number(field, value, after) => {
+                if field == 1 {
+                    sequence = value;
+                } else if field == 5 {
+                    relationship = value;
+                }
+                at = after;
+            }
+            Step::Text(field, start, len, after) => {
+                if field == 4 {
+                    stop = Span { start, len };
+                }
+                at = after;
+            }
+            Step::Message(field, _, start, _, after) => {
+                if field == 2 {
+                    arrival = over_event(wire::part(s, 0, after), start, arrival);
+                } else if field == 3 {
+                    departure = over_event(wire::part(s, 0, after), start, departure);
+                }
+                at = after;
+            }
+        }
+    }
+}
+
+// Its last sequence alone, 0 where there is none: the messages in it are passed over.
+fn over_sequence(s: &[u8], from: usize) -> u64
+    requires { ⌜ from ≤ length (now s) ⌝ }
+    ensures { λ r. ⌜ SequenceReads (now (s .entry)) from r ⌝ }
+{
+    let mut at = from;
+    let mut sequence: u64 = 0;
+    loop {
+        match next(s, at, STOP_TIME_UPDATE) {
+            Step::Broken => return sequence,
+            Step::End => return sequence,
+            Step::Number(field, value, after) => {
+                if field == 1 {
+                    sequence = value;
+                }
+                at = after;
+            }
+            Step::Text(_, _, _, after) => {
+                at = after;
+            }
+            Step::Message(_, _, _, _, after) => {
+                at = after;
+            }
+        }
     }
 }
 
@@ -508,17 +570,15 @@ pub fn stop_of(s: &[u8], start: usize, len: usize) -> StopUpdate
     requires { ⌜ start + len ≤ length (now s) ⌝ }
     ensures { λ r. ⌜ StopRead feed (now (s .entry)) start len r ⌝ }
 {
-    stop_from(stop_lasts(s, start, len))
+    over_stop(wire::part(s, 0, start + len), start)
 }
 
-// And its sequence alone: the messages in it are passed over.
+// And its sequence alone.
 pub fn sequence_at(s: &[u8], start: usize, len: usize) -> u32
     requires { ⌜ start + len ≤ length (now s) ⌝ }
     ensures { λ r. ⌜ SequenceRead feed (now (s .entry)) start len r ⌝ }
 {
-    let u = lasts(s, start, len, STOP_TIME_UPDATE, 0, 0, 0);
-    let sequence = u.f1;
-    sequence_of(sequence)
+    uint32(over_sequence(wire::part(s, 0, start + len), start))
 }
 
 // A walk over the messages at a repeated field, of all the messages at another field merged: the next place outside, and what is left of the message that is open.
