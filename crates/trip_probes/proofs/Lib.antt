@@ -1,2 +1,5 @@
 -- Lemmas on plain values.
 mod Reading
+mod Ascent
+mod Asking
+mod Outcomes

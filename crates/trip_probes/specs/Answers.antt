@@ -7,6 +7,7 @@ use lib.IntN.{ℤ, pos}
 use Rattle.realtime.specs.Tree.{Tree}
 use Rattle.realtime.specs.declared.Verdict.{Verdict}
 use Rattle.slices.specs.Lists.{equal}
+use Rattle.merged.specs.Typed.{orZero}
 use Rattle.merged.specs.Views.{HeaderView, TripView, EventView, StopView}
 use Rattle.trip_probes.specs.declared.HeaderNumbers.{HeaderNumbers}
 use Rattle.trip_probes.specs.declared.TripNumbers.{TripNumbers}
@@ -26,10 +27,6 @@ present (some a) = true
 
 abbrev pub whole : Option Tree → Bool
 whole t = present t
-
-abbrev pub orZero : Option ℕ → ℕ
-orZero none = 0
-orZero (some n) = n
 
 abbrev pub orNought : Option ℤ → ℤ
 orNought none = pos 0

@@ -1,10 +1,10 @@
 -- `trip_probes::trips_stop_text` meets its contract. Assumes nothing.
 use borrow.Author.Needs.{needs}
 use mathlib.Core.Path.{sym, ap, _∙_}
+use mathlib.Core.Bool.{false}
 use Rattle.realtime.specs.Schema.{stopTimeUpdate}
 use Rattle.slices.specs.Lists.{equal}
 use Rattle.merged.specs.Views.{stopUpdate}
-use mathlib.Core.Bool.{false}
 use Rattle.trip_probes.proofs.Reading.{of-whole, of-broken, all-of}
 use Rattle.trip_probes.proofs.trips_stop_text.Statement.{statement}
 use Rattle.trip_probes.proofs.trips_stop_text.Tie as tie
@@ -16,5 +16,8 @@ trips-stop-text-spec =
     (λ c κs. search needs)
     (λ c κs. search needs)
     (λ c κs. search needs)
-    (λ c. of-whole false (λ m. equal (stopUpdate m .stop) (c .before .before .before .before .before .before .before .args .stop .now)) stopTimeUpdate (c .before .before .before .before .before .before .before .args .u .now) (sym (c .before .before .before .before .is-whole .ensures) ∙ c .before .before .before .if1 .taken) (λ m e. c .reads .ensures ∙ ap (λ v. equal (v .stop) (c .before .before .before .before .before .before .before .args .stop .now)) (c .before .before .stop-of .ensures .of m (all-of stopTimeUpdate (c .before .before .before .before .before .before .before .args .u .now) e))))
-    (λ c. of-broken false (λ m. equal (stopUpdate m .stop) (c .before .before .before .before .args .stop .now)) stopTimeUpdate (c .before .before .before .before .args .u .now) (sym (c .before .is-whole .ensures) ∙ c .if1 .left)))
+    (λ c. let a = c .before .before .before .before .before .before .before .args in
+    of-whole false (λ m. equal (stopUpdate m .stop) (a .stop .now)) stopTimeUpdate (a .u .now) (sym (c .before .before .before .before .is-whole .ensures) ∙ c .before .before .before .if1 .taken)
+    (λ m e. c .reads .ensures ∙ ap (λ v. equal (v .stop) (a .stop .now)) (c .before .before .stop-of .ensures .of m (all-of stopTimeUpdate (a .u .now) e))))
+    (λ c. let a = c .before .before .before .before .args in
+    of-broken false (λ m. equal (stopUpdate m .stop) (a .stop .now)) stopTimeUpdate (a .u .now) (sym (c .before .is-whole .ensures) ∙ c .if1 .left)))

@@ -1,10 +1,10 @@
 -- `trip_probes::trips_texts` meets its contract. Assumes nothing.
 use borrow.Author.Needs.{needs}
-use mathlib.Core.Path.{sym, ap, _∙_}
+use mathlib.Core.Path.{sym, _∙_}
+use mathlib.Core.Bool.{false}
 use Rattle.realtime.specs.Schema.{feedEntity}
 use Rattle.merged.specs.Views.{trip}
 use Rattle.trip_probes.specs.Answers.{textsAre}
-use mathlib.Core.Bool.{false}
 use Rattle.trip_probes.proofs.Reading.{of-whole, of-broken, all-of, texts-read}
 use Rattle.trip_probes.proofs.trips_texts.Statement.{statement}
 use Rattle.trip_probes.proofs.trips_texts.Tie as tie
@@ -18,5 +18,8 @@ trips-texts-spec =
     (λ c κs. search needs)
     (λ c κs. search needs)
     (λ c κs. search needs)
-    (λ c. of-whole false (λ m. textsAre (trip m) (c .before .before .before .before .before .before .before .before .before .before .before .before .before .args .time .now) (c .before .before .before .before .before .before .before .before .before .before .before .before .before .args .date .now) (c .before .before .before .before .before .before .before .before .before .before .before .before .before .args .route .now)) feedEntity (c .before .before .before .before .before .before .before .before .before .before .before .before .before .args .e .now) (sym (c .before .before .before .before .before .before .before .before .is-whole .ensures) ∙ c .before .before .before .before .before .before .before .if1 .taken) (λ m e. texts-read (c .before .before .before .before .before .before .before .before .before .before .before .before .before .args .e .now) (c .before .before .before .before .before .before .before .before .before .before .before .before .before .args .time .now) (c .before .before .before .before .before .before .before .before .before .before .before .before .before .args .date .now) (c .before .before .before .before .before .before .before .before .before .before .before .before .before .args .route .now) (c .before .before .before .before .before .before .trip-of .result) (c .before .before .reads .ensures) (c .before .reads2 .ensures) (c .reads3 .ensures) (c .before .before .before .before .before .before .trip-of .ensures .of m (all-of feedEntity (c .before .before .before .before .before .before .before .before .before .before .before .before .before .args .e .now) e))))
-    (λ c. of-broken false (λ m. textsAre (trip m) (c .before .before .before .before .before .before .args .time .now) (c .before .before .before .before .before .before .args .date .now) (c .before .before .before .before .before .before .args .route .now)) feedEntity (c .before .before .before .before .before .before .args .e .now) (sym (c .before .is-whole .ensures) ∙ c .if1 .left)))
+    (λ c. let a = c .before .before .before .before .before .before .before .before .before .before .before .before .before .args in
+    of-whole false (λ m. textsAre (trip m) (a .time .now) (a .date .now) (a .route .now)) feedEntity (a .e .now) (sym (c .before .before .before .before .before .before .before .before .is-whole .ensures) ∙ c .before .before .before .before .before .before .before .if1 .taken)
+    (λ m e. texts-read (a .e .now) (a .time .now) (a .date .now) (a .route .now) (c .before .before .before .before .before .before .trip-of .result) (c .before .before .reads .ensures) (c .before .reads2 .ensures) (c .reads3 .ensures) (c .before .before .before .before .before .before .trip-of .ensures .of m (all-of feedEntity (a .e .now) e))))
+    (λ c. let a = c .before .before .before .before .before .before .args in
+    of-broken false (λ m. textsAre (trip m) (a .time .now) (a .date .now) (a .route .now)) feedEntity (a .e .now) (sym (c .before .is-whole .ensures) ∙ c .if1 .left)))

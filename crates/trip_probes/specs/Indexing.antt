@@ -1,0 +1,72 @@
+-- What `trips_index` answers: the first question with the answer no, or what a message leaves. Assumes nothing: these are definitions.
+use Prim.Native.Nat.{ℕ, zero, suc, _-_}
+use mathlib.Core.Bool.{Bool, false, _&&_, cond}
+use mathlib.Core.List.{List, []}
+use mathlib.Core.Option.{Option, none, some}
+use lib.Dec.{eqb, leb, ltb}
+use lib.ListN.{length}
+use Rattle.formats.specs.Format.{list, read}
+use Rattle.judging.specs.Judged.{judgeTo}
+use Rattle.judging.specs.declared.Judge.{Judge}
+use Rattle.realtime.specs.Tree.{tree}
+use Rattle.realtime.specs.Schema.{feedMessage}
+use Rattle.realtime.specs.Schema as schema
+use Rattle.realtime.specs.Judge.{asked, rules}
+use Rattle.decode.specs.Trip.{tripEntry}
+use Rattle.decode.specs.Map.{ascending}
+use Rattle.decode.specs.Order.{texts}
+use Rattle.decode.specs.Leaves.{Trips, leaves}
+use Rattle.index.specs.Message.{messageOf}
+use Rattle.index.specs.Leaving.{Leaving, manyTrips, manyUpdates, trips, leaving}
+use Rattle.trip_probes.specs.Answers.{questionOf}
+
+-- the lengths of the working slices
+abbrev pub sized : ℕ → ℕ → ℕ → ℕ → Bool
+sized keys marks order updates = ((eqb keys 280713 && eqb marks 6147) && eqb order 2049) && eqb updates 387
+
+abbrev pub unfailed : Judge → Bool
+unfailed Judge.Broken = false
+unfailed (Judge.At p x) = eqb x 0
+
+-- the trips with which bytes begin
+abbrev pub tripsRead : Option (Trips × List ℕ) → Trips
+tripsRead none = []
+tripsRead (some x) = x .0
+
+abbrev pub oldTrips : List ℕ → Trips
+oldTrips o = tripsRead (read (list 2048 tripEntry) o)
+
+-- they are within questions 5 to 7, and their keys ascend
+abbrev pub areOld : List ℕ → Bool
+areOld o = leb (length o) 4000000000 && (unfailed (judgeTo (list 2048 tripEntry) o 0) && ascending texts (oldTrips o))
+
+-- question 5 asks for the feed's id, too
+abbrev pub judgedQuestion : Bool → ℕ → ℕ
+judgedQuestion short q = cond (eqb q 4) 4 (cond short q 5)
+
+abbrev pub messageQuestion : List ℕ → List ℕ → ℕ
+messageQuestion feed s = cond (leb (length s) 1048576) (judgedQuestion (leb (length feed) 16) (questionOf (asked rules feedMessage (tree schema.feed feedMessage s)))) 3
+
+abbrev pub question : Bool → List ℕ → List ℕ → List ℕ → ℕ
+question fit feed s old = cond fit (cond (areOld old) (messageQuestion feed s) 2) 1
+
+-- A QUESTION with the answer no, or the trips that are left
+pub data Outcome : Type 0 where
+  refused : ℕ → Outcome
+  left : Trips → Outcome
+
+abbrev pub seven : Leaving → Outcome
+seven manyTrips = refused 7
+seven manyUpdates = refused 7
+seven (trips t) = left t
+
+abbrev pub unlessAsked : ℕ → Outcome → Outcome
+unlessAsked zero x = x
+unlessAsked (suc n) x = refused (suc n)
+
+abbrev pub outcome : Bool → List ℕ → List ℕ → List ℕ → Outcome
+outcome fit feed s old = unlessAsked (question fit feed s old) (seven (leaving (leaves feed (messageOf s) (oldTrips old))))
+
+-- what the answer says, where n slots hold the trips t n
+abbrev pub answered : (ℕ → Trips) → ℕ → Outcome
+answered t r = cond (ltb r 16) (refused r) (left (t (r - 16)))
