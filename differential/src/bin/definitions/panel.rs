@@ -46,7 +46,9 @@ fn questions() -> Vec<Equation> {
 
 fn taken(call: &Call) -> bool {
     match call {
-        Call::Message { message: input, .. } | Call::VehicleSheet { sheet: input, .. } => input.len() <= 4_000,
+        Call::Message { message: input, .. } | Call::VehicleSheet { sheet: input, .. } => {
+            input.len() <= 4_000
+        }
         Call::AlertSheet { sheet: input, .. } | Call::Card { card: input } => input.len() <= 100_000,
         Call::Fresh | Call::Report { .. } => true,
     }
@@ -68,9 +70,10 @@ fn equal(calls: &[Call]) -> Equation {
         _ => overlay,
     };
     let calls = &calls[computed..];
-    let gave = calls.iter().zip(answers).map(|(call, (number, written))| {
-        pairs(&[number.literal(), filled(length(call), &written)]) + " ∷ "
-    });
+    let gave = calls
+        .iter()
+        .zip(answers)
+        .map(|(call, (number, written))| pairs(&[number.literal(), filled(length(call), &written)]) + " ∷ ");
     let right = format!("({}[])", gave.collect::<String>());
     let terms: String = calls.iter().map(|call| format!("{} ∷ ", term(call, length(call), &[]))).collect();
     let inputs = [overlay.to_string(), card.to_string(), format!("({terms}[])")];
