@@ -1,11 +1,10 @@
--- Questions 1 and 3 for every input: a call answers 1 where a buffer's length is wrong and nowhere else; and 3 where the lengths are right, the old buffer
--- is an overlay and the input is too long, and nowhere else. Assumes nothing.
+-- Questions 1 to 3 for every input (document 01, "Questions before work"): a call answers 1 where a buffer's length is wrong; 2 where the lengths are right and
+-- the old buffer is no overlay; 3 where both are right and the input is too long; each there and nowhere else. Assumes nothing.
 use Prim.Native.Nat.{ℕ}
-use mathlib.Core.Path.{_≡_, refl}
+use mathlib.Core.Path.{_≡_, refl, ap, _∙_}
 use mathlib.Core.Bool.{Bool, true, false, not, _&&_}
 use mathlib.Core.List.{List, []}
 use mathlib.Core.Option.{Option, none, some}
-use lib.IntN.{ℤ}
 use lib.Dec.{eqb, leb}
 use lib.ListN.{length}
 use Rattle.formats.specs.Format.{write}
@@ -33,6 +32,19 @@ lengthsRight L old (vehicleSheet f sheet clock new work) = lengthsOk L old new (
 lengthsRight L old (card bytes out work) = lengthsOk L old out (L .card) work (L .cardWork)
 lengthsRight L old (report f out) = lengthsOk L old out 25 [] []
 
+-- whether the old buffer is an overlay; a fresh call has none
+abbrev pub isSome : {A : Type 0} → Option A → Bool
+isSome none = false
+isSome (some a) = true
+
+abbrev pub overlayRight : Call → List ℕ → Bool
+overlayRight (fresh new) old = true
+overlayRight (message f m new work) old = isSome (stateOf old)
+overlayRight (alertSheet f sheet new work) old = isSome (stateOf old)
+overlayRight (vehicleSheet f sheet clock new work) old = isSome (stateOf old)
+overlayRight (card bytes out work) old = isSome (stateOf old)
+overlayRight (report f out) old = isSome (stateOf old)
+
 -- whether a call's message, sheet or card is at most as long as question 3 lets it be
 abbrev pub shortEnough : Call → Bool
 shortEnough (fresh new) = true
@@ -42,138 +54,132 @@ shortEnough (vehicleSheet f sheet clock new work) = leb (length sheet) 1048576
 shortEnough (card bytes out work) = leb (length bytes) 65536
 shortEnough (report f out) = true
 
-abbrev pub isSome : {A : Type 0} → Option A → Bool
-isSome none = false
-isSome (some a) = true
+-- what the questions after the third give
+abbrev later : Lengths → State → Call → Outcome
+later L s (fresh new) = accepted (write overlay noState)
+later L s (message f m new work) = needSome (tree feed feedMessage m) 4 (treeOf L f s)
+later L s (alertSheet f sheet new work) = needSome (whole alertForm sheet) 4 (alertsOf L f s)
+later L s (vehicleSheet f sheet clock new work) = needSome (keysAscend (whole vehicleForm sheet)) 4 (vehiclesOf L f clock s)
+later L s (card bytes out work) = needSome (whole cardForm bytes) 4 (arrivingOf L s)
+later L s (report f out) = need (feedOk f) 5 (accepted (report.report f s))
 
--- an outcome that has another number than q
-record Never (q : ℕ) (o : Outcome) : Type 0 where
-  is : eqb (numberOf o) q ≡ false
+-- the state that a call goes on with: the old buffer's. A fresh call opens none, and goes on as from no feeds
+abbrev openedBy : Call → List ℕ → Option State
+openedBy (fresh new) old = some noState
+openedBy (message f m new work) old = stateOf old
+openedBy (alertSheet f sheet new work) old = stateOf old
+openedBy (vehicleSheet f sheet clock new work) old = stateOf old
+openedBy (card bytes out work) old = stateOf old
+openedBy (report f out) old = stateOf old
 
-never : {q n : ℕ} {o : Outcome} (b : Bool) → Never q (refused n) → Never q o → Never q (need b n o)
-never true e h = h
-never false e h = e
+opened-right : (c : Call) (old : List ℕ) → isSome (openedBy c old) ≡ overlayRight c old
+opened-right (fresh new) old = refl
+opened-right (message f m new work) old = refl
+opened-right (alertSheet f sheet new work) old = refl
+opened-right (vehicleSheet f sheet clock new work) old = refl
+opened-right (card bytes out work) old = refl
+opened-right (report f out) old = refl
 
-neverSome : {q n : ℕ} {A : Type 0} {k : A → Outcome} (a : Option A) → Never q (refused n) → ((v : A) → Never q (k v)) → Never q (needSome a n k)
-neverSome none e h = e
-neverSome (some v) e h = h v
+-- the first three questions of every call
+abbrev three : Bool → Option State → Bool → (State → Outcome) → Outcome
+three lengths state short k = need lengths 1 (needSome state 2 (λ s. need short 3 (k s)))
 
--- a question that is put before the fourth
-record Early (q : ℕ) : Type 0 where
-  four : Never q (refused 4)
-  five : Never q (refused 5)
-  six : Never q (refused 6)
-  seven : Never q (refused 7)
-  eight : Never q (refused 8)
-  done : (x : List ℕ) → Never q (accepted x)
-
-module _ {q : ℕ} (Q : Early q) where
-  never-changed : (n : ℕ) (s : State) → Never q (changed n s)
-  never-changed n s = never (ok 7 overlay s && room n s) (Q .seven) (Q .done _)
-
-  never-message : (L : Lengths) (f : List ℕ) (s : State) (m : List ℕ) → Never q (needSome (tree feed feedMessage m) 4 (treeOf L f s))
-  unfolding treeOf
-  never-message L f s m =
-      neverSome (tree feed feedMessage m) (Q .four) (λ t.
-      never (feedOk f && textsFine rules feedMessage t) (Q .five) (never (numbersFine rules feedMessage t) (Q .six) (never-changed (L .overlay) (afterMessage f t s))))
-
-  never-alerts : (L : Lengths) (f : List ℕ) (s : State) (b : List ℕ) → Never q (needSome (whole alertForm b) 4 (alertsOf L f s))
-  unfolding alertsOf
-  never-alerts L f s b =
-      neverSome (whole alertForm b) (Q .four) (λ v. never (feedOk f && ok 5 alertForm v) (Q .five) (never-changed (L .overlay) (afterAlerts f (v .1) s)))
-
-  never-vehicles : (L : Lengths) (f : List ℕ) (clock : ℤ) (s : State) (b : List ℕ)
-      → Never q (needSome (keysAscend (whole vehicleForm b)) 4 (vehiclesOf L f clock s))
-  unfolding vehiclesOf
-  never-vehicles L f clock s b =
-      neverSome (keysAscend (whole vehicleForm b)) (Q .four) (λ v.
-      never (feedOk f && ok 5 vehicleForm v) (Q .five) (never (ok 6 vehicleForm v && ok 6 instant clock) (Q .six) (never-changed (L .overlay) (afterVehicles f (v .1) clock s))))
-
-  never-card : (L : Lengths) (s : State) (b : List ℕ) → Never q (needSome (whole cardForm b) 4 (arrivingOf L s))
-  unfolding arrivingOf
-  never-card L s b =
-      neverSome (whole cardForm b) (Q .four) (λ v.
-      never (ok 5 cardForm v) (Q .five)
-      (never (ok 6 cardForm v) (Q .six)
-      (never (ok 7 cardForm v && ok 7 cardForm (finished s v)) (Q .seven)
-      (never (leb (length (write cardForm (finished s v))) (L .card)) (Q .eight) (Q .done _)))))
-
-first-early : Early 1
-first-early = record {
-  four = record { is = refl };
-  five = record { is = refl };
-  six = record { is = refl };
-  seven = record { is = refl };
-  eight = record { is = refl };
-  done = λ x. record { is = refl };
-}
-
-third-early : Early 3
-third-early = record {
-  four = record { is = refl };
-  five = record { is = refl };
-  six = record { is = refl };
-  seven = record { is = refl };
-  eight = record { is = refl };
-  done = λ x. record { is = refl };
-}
-
--- the first question alone answers 1
-first-no : (b : Bool) (o : Outcome) → Never 1 o → eqb (numberOf (need b 1 o)) 1 ≡ not b
-first-no true o h = h .is
-first-no false o h = refl
-
-opened-first : (b : Bool) (o : Option State) (k : State → Outcome) → ((s : State) → Never 1 (k s))
-    → eqb (numberOf (need b 1 (needSome o 2 k))) 1 ≡ not b
-opened-first b o k h = first-no b _ (neverSome o (record { is = refl }) h)
-
-asked-third : (c : Call) {o : Outcome} → Never 1 o → Never 1 (need (shortEnough c) 3 o)
-asked-third c h = never (shortEnough c) (record { is = refl }) h
-
--- the third alone answers 3
-opened-third : (b : Bool) (o : Option State) (c : Bool) (k : State → Outcome) → ((s : State) → Never 3 (k s))
-    → eqb (numberOf (need b 1 (needSome o 2 (λ s. need c 3 (k s))))) 3 ≡ (b && (isSome o && not c))
-opened-third false o c k h = refl
-opened-third true none c k h = refl
-opened-third true (some s) true k h = h s .is
-opened-third true (some s) false k h = refl
-
--- and not where it isn't asked
-unasked : (b : Bool) (o : Option State) {x : Outcome} → Never 3 x → eqb (numberOf x) 3 ≡ (b && (isSome o && false))
-unasked false o h = h .is
-unasked true none h = h .is
-unasked true (some s) h = h .is
-
--- QUESTION 1
-pub first : (L : Lengths) (old : List ℕ) (c : Call) → eqb (gives L old c .number) 1 ≡ not (lengthsRight L old c)
+ends-three : (L : Lengths) (old : List ℕ) (c : Call) → ends L old c ≡ three (lengthsRight L old c) (openedBy c old) (shortEnough c) (λ s. later L s c)
 unfolding freshOf messageOf alertSheetOf vehicleSheetOf cardCallOf reportOf
-first L old (fresh new) = first-no (lengthsRight L old (fresh new)) _ (first-early .done (write overlay noState))
-first L old (message f m new work) =
-    opened-first (lengthsRight L old (message f m new work)) (stateOf old) _ (λ s. asked-third (message f m new work) (never-message first-early L f s m))
-first L old (alertSheet f sheet new work) =
-    opened-first (lengthsRight L old (alertSheet f sheet new work)) (stateOf old) _ (λ s. asked-third (alertSheet f sheet new work) (never-alerts first-early L f s sheet))
-first L old (vehicleSheet f sheet clock new work) =
-    opened-first (lengthsRight L old (vehicleSheet f sheet clock new work)) (stateOf old) _ (λ s. asked-third (vehicleSheet f sheet clock new work) (never-vehicles first-early L f clock s sheet))
-first L old (card bytes out work) =
-    opened-first (lengthsRight L old (card bytes out work)) (stateOf old) _ (λ s. asked-third (card bytes out work) (never-card first-early L s bytes))
-first L old (report f out) =
-    opened-first (lengthsRight L old (report f out)) (stateOf old) _ (λ s. never (feedOk f) (first-early .five) (first-early .done (report.report f s)))
+ends-three L old (fresh new) = refl
+ends-three L old (message f m new work) = refl
+ends-three L old (alertSheet f sheet new work) = refl
+ends-three L old (vehicleSheet f sheet clock new work) = refl
+ends-three L old (card bytes out work) = refl
+ends-three L old (report f out) = refl
 
--- QUESTION 3
-pub third : (L : Lengths) (old : List ℕ) (c : Call)
-    → eqb (gives L old c .number) 3 ≡ (lengthsRight L old c && (isSome (stateOf old) && not (shortEnough c)))
-unfolding freshOf messageOf alertSheetOf vehicleSheetOf cardCallOf reportOf
-third L old (fresh new) =
-    unasked (lengthsRight L old (fresh new)) (stateOf old) (never (eqb new (L .overlay)) (record { is = refl }) (third-early .done (write overlay noState)))
-third L old (message f m new work) =
-    opened-third (lengthsRight L old (message f m new work)) (stateOf old) (leb (length m) 1048576) _ (λ s. never-message third-early L f s m)
-third L old (alertSheet f sheet new work) =
-    opened-third (lengthsRight L old (alertSheet f sheet new work)) (stateOf old) (leb (length sheet) 1048576) _ (λ s. never-alerts third-early L f s sheet)
-third L old (vehicleSheet f sheet clock new work) =
-    opened-third (lengthsRight L old (vehicleSheet f sheet clock new work)) (stateOf old) (leb (length sheet) 1048576) _ (λ s. never-vehicles third-early L f clock s sheet)
-third L old (card bytes out work) =
-    opened-third (lengthsRight L old (card bytes out work)) (stateOf old) (leb (length bytes) 65536) _ (λ s. never-card third-early L s bytes)
-third L old (report f out) =
-    unasked (lengthsRight L old (report f out)) (stateOf old)
-    (never (lengthsRight L old (report f out)) (record { is = refl })
-    (neverSome (stateOf old) (record { is = refl }) (λ s. never (feedOk f) (third-early .five) (third-early .done (report.report f s)))))
+-- an outcome that none of the first three questions gives
+record Later (o : Outcome) : Type 0 where
+  first : eqb (numberOf o) 1 ≡ false
+  second : eqb (numberOf o) 2 ≡ false
+  third : eqb (numberOf o) 3 ≡ false
+
+done : {x : List ℕ} → Later (accepted x)
+done = record { first = refl; second = refl; third = refl }
+
+four : Later (refused 4)
+four = record { first = refl; second = refl; third = refl }
+
+five : Later (refused 5)
+five = record { first = refl; second = refl; third = refl }
+
+six : Later (refused 6)
+six = record { first = refl; second = refl; third = refl }
+
+seven : Later (refused 7)
+seven = record { first = refl; second = refl; third = refl }
+
+eight : Later (refused 8)
+eight = record { first = refl; second = refl; third = refl }
+
+asks : {n : ℕ} {o : Outcome} (b : Bool) → Later (refused n) → Later o → Later (need b n o)
+asks true e h = h
+asks false e h = e
+
+asksSome : {n : ℕ} {A : Type 0} {k : A → Outcome} (a : Option A) → Later (refused n) → ((v : A) → Later (k v)) → Later (needSome a n k)
+asksSome none e h = e
+asksSome (some v) e h = h v
+
+changes : (n : ℕ) (s : State) → Later (changed n s)
+changes n s = asks (ok 7 overlay s && room n s) seven done
+
+later-on : (L : Lengths) (s : State) (c : Call) → Later (later L s c)
+unfolding treeOf alertsOf vehiclesOf arrivingOf
+later-on L s (fresh new) = done
+later-on L s (message f m new work) =
+    asksSome (tree feed feedMessage m) four (λ t.
+    asks (feedOk f && textsFine rules feedMessage t) five (asks (numbersFine rules feedMessage t) six (changes (L .overlay) (afterMessage f t s))))
+later-on L s (alertSheet f sheet new work) =
+    asksSome (whole alertForm sheet) four (λ v. asks (feedOk f && ok 5 alertForm v) five (changes (L .overlay) (afterAlerts f (v .1) s)))
+later-on L s (vehicleSheet f sheet clock new work) =
+    asksSome (keysAscend (whole vehicleForm sheet)) four (λ v.
+    asks (feedOk f && ok 5 vehicleForm v) five
+    (asks (ok 6 vehicleForm v && ok 6 instant clock) six (changes (L .overlay) (afterVehicles f (v .1) clock s))))
+later-on L s (card bytes out work) =
+    asksSome (whole cardForm bytes) four (λ v.
+    asks (ok 5 cardForm v) five
+    (asks (ok 6 cardForm v) six
+    (asks (ok 7 cardForm v && ok 7 cardForm (finished s v)) seven (asks (leb (length (write cardForm (finished s v))) (L .card)) eight done))))
+later-on L s (report f out) = asks (feedOk f) five done
+
+-- which of the three decides
+module _ (k : State → Outcome) (h : (s : State) → Later (k s)) where
+  first-no : (a : Bool) (o : Option State) (b : Bool) → eqb (numberOf (three a o b k)) 1 ≡ not a
+  first-no false o b = refl
+  first-no true none b = refl
+  first-no true (some s) true = h s .first
+  first-no true (some s) false = refl
+
+  second-no : (a : Bool) (o : Option State) (b : Bool) → eqb (numberOf (three a o b k)) 2 ≡ (a && not (isSome o))
+  second-no false o b = refl
+  second-no true none b = refl
+  second-no true (some s) true = h s .second
+  second-no true (some s) false = refl
+
+  third-no : (a : Bool) (o : Option State) (b : Bool) → eqb (numberOf (three a o b k)) 3 ≡ (a && (isSome o && not b))
+  third-no false o b = refl
+  third-no true none b = refl
+  third-no true (some s) true = h s .third
+  third-no true (some s) false = refl
+
+module _ (L : Lengths) (old : List ℕ) (c : Call) where
+  -- QUESTION 1
+  pub first : eqb (gives L old c .number) 1 ≡ not (lengthsRight L old c)
+  first = ap (λ o. eqb (numberOf o) 1) (ends-three L old c) ∙ first-no _ (λ s. later-on L s c) (lengthsRight L old c) (openedBy c old) (shortEnough c)
+
+  -- QUESTION 2
+  pub second : eqb (gives L old c .number) 2 ≡ (lengthsRight L old c && not (overlayRight c old))
+  second =
+      ap (λ o. eqb (numberOf o) 2) (ends-three L old c) ∙ second-no _ (λ s. later-on L s c) (lengthsRight L old c) (openedBy c old) (shortEnough c)
+      ∙ ap (λ b. lengthsRight L old c && not b) (opened-right c old)
+
+  -- QUESTION 3
+  pub third : eqb (gives L old c .number) 3 ≡ (lengthsRight L old c && (overlayRight c old && not (shortEnough c)))
+  third =
+      ap (λ o. eqb (numberOf o) 3) (ends-three L old c) ∙ third-no _ (λ s. later-on L s c) (lengthsRight L old c) (openedBy c old) (shortEnough c)
+      ∙ ap (λ b. lengthsRight L old c && (b && not (shortEnough c))) (opened-right c old)

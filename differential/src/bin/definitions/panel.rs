@@ -38,15 +38,19 @@ given n m calls = givenOn (gives (lengths n m) [] (fresh n) .out) n m calls
 
 /// The bounds of the questions. Left out are inputs that the checker doesn't take: what question 3 refuses or
 /// lets pass at 1,048,576 bytes, and a single message or vehicle sheet with as many entries as question 7 lets
-/// pass. `panel/Asked: third` and `panel/Seven` have those for every input.
+/// pass. `panel/Asked` and `panel/Seven` have those for every input.
 fn questions() -> Vec<Equation> {
     let lists = bounds().into_iter().flat_map(|bound| [bound.within, bound.past]).flatten();
-    lists.filter(|calls| calls.last().is_some_and(taken)).map(|calls| equal(&calls)).collect()
+    let (computed, left): (Vec<_>, Vec<_>) = lists.partition(|calls| calls.last().is_some_and(taken));
+    println!("bounds: {} lists of calls computed, {} left out", computed.len(), left.len());
+    computed.iter().map(|calls| equal(calls)).collect()
 }
 
 fn taken(call: &Call) -> bool {
     match call {
-        Call::Message { message: input, .. } | Call::VehicleSheet { sheet: input, .. } => input.len() <= 4_000,
+        Call::Message { message: input, .. } | Call::VehicleSheet { sheet: input, .. } => {
+            input.len() <= 4_000
+        }
         Call::AlertSheet { sheet: input, .. } | Call::Card { card: input } => input.len() <= 100_000,
         Call::Fresh | Call::Report { .. } => true,
     }
@@ -68,9 +72,10 @@ fn equal(calls: &[Call]) -> Equation {
         _ => overlay,
     };
     let calls = &calls[computed..];
-    let gave = calls.iter().zip(answers).map(|(call, (number, written))| {
-        pairs(&[number.literal(), filled(length(call), &written)]) + " ∷ "
-    });
+    let gave = calls
+        .iter()
+        .zip(answers)
+        .map(|(call, (number, written))| pairs(&[number.literal(), filled(length(call), &written)]) + " ∷ ");
     let right = format!("({}[])", gave.collect::<String>());
     let terms: String = calls.iter().map(|call| format!("{} ∷ ", term(call, length(call), &[]))).collect();
     let inputs = [overlay.to_string(), card.to_string(), format!("({terms}[])")];
