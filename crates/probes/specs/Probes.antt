@@ -1,4 +1,4 @@
--- What the probes answer, by the definitions of `slices` and `wire`. Assumes nothing: these are definitions.
+-- What the probes answer, by the definitions of `slices`, `wire` and `realtime`. Assumes nothing: these are definitions.
 use Prim.Native.Nat.{ℕ, _-_}
 use mathlib.Core.List.{List, [], _∷_}
 use mathlib.Core.Option.{Option, none, some}
@@ -8,6 +8,7 @@ use lib.Dec.{leb}
 use Rattle.slices.specs.Lists.{choose, pasted}
 use Rattle.slices.specs.declared.Order.{Order}
 use Rattle.slices.specs.declared.Order.the-variants.{Less, Same, More}
+use Rattle.realtime.specs.declared.Verdict.{Verdict}
 use Rattle.wire.specs.Wire.{Read, broken, read, varint, Field, field, many}
 
 abbrev pub endOf : List ℕ → Read Field → ℕ
@@ -38,3 +39,10 @@ abbrev pub orderNumber : Order → ℕ
 orderNumber Less = 0
 orderNumber Same = 1
 orderNumber More = 2
+
+-- the question that a message fails
+abbrev pub questionOf : Verdict → ℕ
+questionOf Verdict.Broken = 4
+questionOf Verdict.Text = 5
+questionOf Verdict.Time = 6
+questionOf Verdict.Fine = 0

@@ -1,9 +1,18 @@
-// Calls of `slices` and `wire` for a C host: bench/bytes.c measures them, and runs the wire reader on an input too long for a
-// program's own arrays.
+// Calls for a C host of what bench/ measures: bytes, the wire reader on an input too long for a program's own arrays, and messages.
 ghost use mathlib.Core.Path.{_≡_};
 ghost use lib.ListN.{length, replicate};
 ghost use Rattle.slices.specs.Lists.{zeros, lexOf};
-ghost use Rattle.probes.specs.Probes.{fieldEnd, xorNumbers, copied, orderNumber};
+ghost use Prim.Native.Nat.{_+_, _≤_};
+ghost use Rattle.realtime.specs.Tree.{tree};
+ghost use Rattle.realtime.specs.Judge.{asked, rules};
+ghost use Rattle.realtime.specs.Schema.{feed, feedMessage};
+ghost use Rattle.probes.specs.Probes.{fieldEnd, xorNumbers, copied, orderNumber, questionOf};
+use merged::Delay;
+use merged::Event;
+use merged::Item;
+use merged::Time;
+use realtime::FEED_MESSAGE;
+use realtime::Verdict;
 use slices::Order;
 use wire::Cursor;
 use wire::GotKey;
@@ -80,5 +89,89 @@ pub extern "C" fn probes_compare(a: &[u8], b: &[u8]) -> u8
         Order::Less => 0,
         Order::Same => 1,
         Order::More => 2,
+    }
+}
+
+// The question that a message fails, 4, 5 or 6, or 0.
+#[no_mangle]
+pub extern "C" fn probes_judge(s: &[u8]) -> u8
+    ensures { λ r. ⌜ r ≡ questionOf (asked rules feedMessage (tree feed feedMessage (now (s .entry)))) ⌝ }
+{
+    match realtime::judge(s, FEED_MESSAGE) {
+        Verdict::Broken => 4,
+        Verdict::Text => 5,
+        Verdict::Time => 6,
+        Verdict::Fine => 0,
+    }
+}
+
+// Whether an event has a delay and a time.
+fn events(e: Event) -> u64 {
+    let delay = e.delay;
+    let time = e.time;
+    let given = match delay {
+        Delay::Given(_) => 1,
+        Delay::Absent => 0,
+    };
+    match time {
+        Time::Given(_) => given ^ 2,
+        Time::Absent => given,
+    }
+}
+
+// The updates of the entity that starts at `start` and ends with `s`.
+fn read_updates(s: &[u8], start: usize) -> u64
+    requires { ⌜ start ≤ length (now s) ⌝ }
+{
+    let mut sum: u64 = 0;
+    let mut w = merged::updates(start);
+    loop {
+        match merged::next_update(s, w) {
+            Item::Done => return sum,
+            Item::At {
+                start: i,
+                len: n,
+                walk: rest,
+            } => {
+                let u = merged::stop_of(s, i, n);
+                sum = sum ^ (u.sequence as u64) ^ events(u.arrival) ^ events(u.departure);
+                w = rest;
+            }
+        }
+    }
+}
+
+fn read_entity(s: &[u8], start: usize, len: usize) -> u64
+    requires { ⌜ start + len ≤ length (now s) ⌝ }
+{
+    if merged::is_deleted(s, start, len) {
+        return 1;
+    }
+    let t = merged::trip_of(s, start, len);
+    let id = t.id;
+    read_updates(wire::part(s, 0, start + len), start) ^ (id.len as u64)
+}
+
+// All that a message says is read, each once: its cost. The answer hangs on all of it and says nothing.
+#[no_mangle]
+pub extern "C" fn probes_read(s: &[u8]) -> u64 {
+    let h = merged::header_of(s);
+    let mut sum: u64 = 0;
+    if h.differential {
+        sum = 1;
+    }
+    let mut w = merged::entities(s);
+    loop {
+        match merged::next_entity(s, w) {
+            Item::Done => return sum,
+            Item::At {
+                start: i,
+                len: n,
+                walk: rest,
+            } => {
+                sum = sum ^ read_entity(s, i, n);
+                w = rest;
+            }
+        }
     }
 }
