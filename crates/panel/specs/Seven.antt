@@ -8,13 +8,18 @@ use mathlib.Core.Logic.{inl, inr}
 use lib.Dec.{leb}
 use lib.ListN.{length}
 use Rattle.formats.specs.Class.{all, utf8, printable}
-use Rattle.formats.specs.Format.{Format, text, list, _&_, Value}
+use Rattle.formats.specs.Format.{Format, text, list, _&_, Value, write}
 use Rattle.judging.specs.Judged.{ok}
 use Rattle.decode.specs.Trip.{Trip, updatesOf, number32, stopUpdate, tripEntry}
 use Rattle.alerts.specs.Alert.{Alert, alert, informed-trip-ids, informed-route-ids, informed-stop-ids}
 use Rattle.overlay.specs.State.{Feed, State, vehicleEntry, feedEntry, overlay, tripsOf, vehiclesOf, alertsOf, feedsOf}
+use Rattle.overlay.specs.Image.{room}
+use Rattle.overlay.specs.Buffer.{published}
 use Rattle.overlay.specs.Rules.{judges, all-true, unjudged}
+use Rattle.overlay.specs.Kept.{StateKept, kept-room}
 use Rattle.journey.specs.Card.{middle, transit, leg, card, cardOf, transitOf}
+use Rattle.panel.specs.Outcome.{accepted, need}
+use Rattle.panel.specs.Questions.{changed}
 
 abbrev pub tripFew : List ℕ × Trip → Bool
 tripFew e = leb (length (updatesOf (e .1))) 128
@@ -103,3 +108,11 @@ seven-state s = let w : Says overlay s (stateFew s) = behind refl (behind refl (
 -- QUESTION 7 OF A CARD
 pub seven-card : (v : Value card) → ok 7 card v ≡ cardFew v
 seven-card v = of-card v .is
+
+-- AT THE PUBLISHED LENGTH question 7 of what a call leaves is these counts alone: what is within them always has room
+pub seven-published : (s : State) → StateKept s → changed published s ≡ need (stateFew s) 7 (accepted (write overlay s))
+seven-published s k = go (ok 7 overlay s) refl ∙ ap (λ b. need b 7 (accepted (write overlay s))) (seven-state s)
+  where
+    go : (b : Bool) → ok 7 overlay s ≡ b → need (b && room published s) 7 (accepted (write overlay s)) ≡ need b 7 (accepted (write overlay s))
+    go true e = rw (kept-room s k e) refl
+    go false e = refl

@@ -3,6 +3,7 @@
 //! usage: definitions DIRECTORY SEED (in the repository's folder)
 mod alerts;
 mod branches;
+mod buffers;
 mod decode;
 mod formats;
 mod journey;
@@ -72,6 +73,7 @@ fn main() {
         branches::DEFINITIONS,
         decode::DEFINITIONS,
         overlay::DEFINITIONS,
+        buffers::DEFINITIONS,
         journey::DEFINITIONS,
         panel::DEFINITIONS,
         refusals::DEFINITIONS,
