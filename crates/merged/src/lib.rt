@@ -8,14 +8,16 @@ use realtime::TRIP_UPDATE;
 use realtime::next;
 ghost use mathlib.Core.Path.{_≡_};
 ghost use Prim.Native.Nat.{_+_, _≤_};
+ghost use lib.Dec.{eqb};
 ghost use lib.ListN.{length};
+ghost use Rattle.wire.specs.Wire.{choose};
 ghost use Rattle.realtime.specs.Schema.{feed};
 ghost use Rattle.merged.specs.Reading.{Ready, Reads};
 ghost use Rattle.merged.specs.Scalars.{Lasting, blank, kept, own, path, scalars, takesAlong};
 ghost use Rattle.merged.specs.Narrow.{isValue, toBool, toDelay, toDirection, toHeader, toSpan, toTimestamp, toTrip};
 ghost use Rattle.merged.specs.Numbers.{EventReads, SequenceReads, StopReads, fromDelay, fromEvent, fromStop, fromTime, noNumbers};
 ghost use Rattle.merged.specs.Typed as typed;
-ghost use Rattle.merged.specs.Walks.{NextEntity, NextUpdate, Sound, Walks, Yields, typeOf};
+ghost use Rattle.merged.specs.Walks.{NextEntity, NextUpdate, Sound, Walks, Yields, met, typeOf};
 ghost use Rattle.merged.specs.Starts.{atMerged, atPlain};
 ghost use Rattle.merged.specs.Views.{DeletedRead, HeaderRead, SequenceRead, StopRead, TripRead};
 
@@ -56,6 +58,15 @@ fn nothing() -> Scalars
     }
 }
 
+fn pick(field: u64, own: u64, x: Scalar, old: Scalar) -> Scalar
+    ensures { λ r. ⌜ r ≡ choose (eqb field own) x old ⌝ }
+{
+    if field == own {
+        return x;
+    }
+    old
+}
+
 fn keep(d: Scalars, field: u64, x: Scalar) -> Scalars
     ensures { λ r. ⌜ r ≡ kept d field x ⌝ }
 {
@@ -65,56 +76,13 @@ fn keep(d: Scalars, field: u64, x: Scalar) -> Scalars
     let f4 = d.f4;
     let f5 = d.f5;
     let f6 = d.f6;
-    match field {
-        1 => Scalars {
-            f1: x,
-            f2,
-            f3,
-            f4,
-            f5,
-            f6,
-        },
-        2 => Scalars {
-            f1,
-            f2: x,
-            f3,
-            f4,
-            f5,
-            f6,
-        },
-        3 => Scalars {
-            f1,
-            f2,
-            f3: x,
-            f4,
-            f5,
-            f6,
-        },
-        4 => Scalars {
-            f1,
-            f2,
-            f3,
-            f4: x,
-            f5,
-            f6,
-        },
-        5 => Scalars {
-            f1,
-            f2,
-            f3,
-            f4,
-            f5: x,
-            f6,
-        },
-        6 => Scalars {
-            f1,
-            f2,
-            f3,
-            f4,
-            f5,
-            f6: x,
-        },
-        _ => d,
+    Scalars {
+        f1: pick(field, 1, x, f1),
+        f2: pick(field, 2, x, f2),
+        f3: pick(field, 3, x, f3),
+        f4: pick(field, 4, x, f4),
+        f5: pick(field, 5, x, f5),
+        f6: pick(field, 6, x, f6),
     }
 }
 
@@ -597,6 +565,33 @@ pub enum Item {
     Done,
 }
 
+// What a step meets, where messages at one field are looked for.
+pub enum Met {
+    // start, length, next place
+    Sought(usize, usize, usize),
+    // next place
+    Other(usize),
+    End,
+    Broken,
+}
+
+fn meet(k: u64, step: Step) -> Met
+    ensures { λ r. ⌜ r ≡ met k step ⌝ }
+{
+    match step {
+        Step::Broken => Met::Broken,
+        Step::End => Met::End,
+        Step::Number(_, _, after) => Met::Other(after),
+        Step::Text(_, _, _, after) => Met::Other(after),
+        Step::Message(field, _, start, len, after) => {
+            if field == k {
+                return Met::Sought(start, len, after);
+            }
+            Met::Other(after)
+        }
+    }
+}
+
 // The next message at field `k` of those of type `inner` at field `a` of a message.
 fn next_item(s: &[u8], message: u64, a: u64, inner: u64, k: u64, walk: Walk) -> Item
     requires { ⌜ Walks feed message a inner (now s) walk ⌝ }
@@ -606,42 +601,25 @@ fn next_item(s: &[u8], message: u64, a: u64, inner: u64, k: u64, walk: Walk) -> 
     let mut end = walk.end;
     let mut at = walk.at;
     loop {
-        match next(wire::part(s, 0, end), at, inner) {
-            Step::Broken => return Item::Done,
-            Step::Number(_, _, after) => {
+        match meet(k, next(wire::part(s, 0, end), at, inner)) {
+            Met::Broken => return Item::Done,
+            Met::Other(after) => {
                 at = after;
             }
-            Step::Text(_, _, _, after) => {
+            Met::Sought(start, len, after) => {
                 at = after;
+                let walk = Walk { outer, end, at };
+                return Item::At { start, len, walk };
             }
-            Step::Message(field, _, start, len, after) => {
-                if field == k {
-                    return Item::At {
-                        start,
-                        len,
-                        walk: Walk {
-                            outer,
-                            end,
-                            at: after,
-                        },
-                    };
-                }
-                at = after;
-            }
-            Step::End => match next(s, outer, message) {
-                Step::Broken => return Item::Done,
-                Step::End => return Item::Done,
-                Step::Number(_, _, after) => {
+            Met::End => match meet(a, next(s, outer, message)) {
+                Met::Broken => return Item::Done,
+                Met::End => return Item::Done,
+                Met::Other(after) => {
                     outer = after;
                 }
-                Step::Text(_, _, _, after) => {
-                    outer = after;
-                }
-                Step::Message(field, _, start, _, after) => {
-                    if field == a {
-                        at = start;
-                        end = after;
-                    }
+                Met::Sought(start, _, after) => {
+                    at = start;
+                    end = after;
                     outer = after;
                 }
             },
