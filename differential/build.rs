@@ -28,11 +28,13 @@ fn main() {
     fs::copy(schema, out.join("transit_realtime.rs")).unwrap();
 
     if env::var("CARGO_FEATURE_PORT").is_ok() {
-        let library = found(&directory("PORT_LIBRARY"));
-        let name = library.file_stem().unwrap().to_str().unwrap().strip_prefix("lib").unwrap();
-        println!("cargo:rerun-if-env-changed=PORT_LIBRARY");
-        println!("cargo:rustc-link-search=native={}", library.parent().unwrap().display());
-        println!("cargo:rustc-link-lib=static={name}");
+        let libraries = directory("PORT_LIBRARIES");
+        println!("cargo:rerun-if-env-changed=PORT_LIBRARIES");
+        println!("cargo:rustc-link-search=native={}", libraries.display());
+        for name in ["probes", "trip_probes"] {
+            found(&libraries.join(format!("lib{name}.a")));
+            println!("cargo:rustc-link-lib=static={name}");
+        }
     }
 }
 
