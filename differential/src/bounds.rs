@@ -313,15 +313,16 @@ impl Bounds {
     }
 
     fn message_counts(&mut self) {
-        let trips = |count: usize| -> Vec<Vec<u8>> {
-            (0..count).map(|name| entity(&[trip_update(&[trip(&[trip_id(&name.to_string())])])])).collect()
+        let trips = |names: std::ops::Range<usize>| -> Vec<Vec<u8>> {
+            names.map(|name| entity(&[trip_update(&[trip(&[trip_id(&numbered(name))])])])).collect()
         };
-        self.most(7, "keys of a feed", 2_048, |count| message_call(&trips(count)));
+        self.most(7, "keys of a feed", 2_048, |count| message_call(&trips(0..count)));
         let onto = |count: usize| {
-            let added = [vec![header(&[incrementality(DIFFERENTIAL)])], trips(count)].concat();
-            vec![message_call(&[entity(&[trip_update(&[trip(&[trip_id("old")])])])]), message_call(&added)]
+            let added = trips(2_047..count).concat();
+            let added = [header(&[incrementality(DIFFERENTIAL)]), added];
+            vec![message_call(&trips(0..2_047)), message_call(&added)]
         };
-        self.lists(7, "keys, 2047 and 2048 onto one by DIFFERENTIAL", vec![onto(2_047)], vec![onto(2_048)]);
+        self.lists(7, "keys onto 2,047 by DIFFERENTIAL", vec![onto(2_048)], vec![onto(2_049)]);
         let stops = |count: usize, distinct: usize| -> Vec<Vec<u8>> {
             (0..count).map(|place| stop_time_update(&[stop_sequence((place % distinct) as i64)])).collect()
         };
@@ -353,16 +354,18 @@ impl Bounds {
         self.most(7, "stops of an alert", 32, |count| {
             alerts_call(vec![Alert { stops: ids(count), ..alert() }])
         });
-        let vehicles = |count: usize, updated: i64| -> Vec<Vehicle> {
-            (0..count).map(|name| vehicle(&format!("{name:05}"), None, updated)).collect()
+        let vehicles = |names: std::ops::Range<usize>, updated: i64| -> Vec<Vehicle> {
+            names.map(|name| vehicle(&numbered(name), None, updated)).collect()
         };
-        self.most(7, "vehicles", 1_024, |count| vehicles_call(vehicles(count, NOON), NOON));
-        self.calls(
-            7,
-            "1,025 vehicles, stale and fresh",
-            &[vehicles_call(vehicles(1_025, NOON), NOON + 901)],
-            &[vehicles_call(vehicles(1_025, NOON), NOON + 900)],
-        );
+        self.most(7, "vehicles", 1_024, |count| vehicles_call(vehicles(0..count, NOON), NOON));
+        let onto = |old: usize, count: usize, clock: i64| {
+            let added = vehicles(old..count, clock);
+            vec![vehicles_call(vehicles(0..old, NOON), NOON), vehicles_call(added, clock)]
+        };
+        let (within, past) = (onto(1_023, 1_024, NOON), onto(1_023, 1_025, NOON));
+        self.lists(7, "vehicles onto 1,023", vec![within], vec![past]);
+        let (stale, fresh) = (onto(1_024, 1_025, NOON + 901), onto(1_024, 1_025, NOON + 900));
+        self.lists(7, "a vehicle onto 1,024, stale and fresh", vec![stale], vec![fresh]);
         self.most(7, "legs", 16, |count| card_call(&card(vec![Leg::Walk("".into()); count])));
         self.most(7, "middle stops of a leg", 64, |count| {
             leg_call(Transit { middles: vec![middle("f:C"); count], ..leg() })
@@ -412,6 +415,11 @@ impl Bounds {
         };
         self.calls(5, "a card with 5, 6 and 7", &fine(), &[leg_call(leg)]);
     }
+}
+
+/// Names of two letters, in ascending order. Few have the first letter in common.
+fn numbered(name: usize) -> String {
+    [65 + name / 48, 65 + name % 48].iter().map(|letter| char::from(*letter as u8)).collect()
 }
 
 fn x(count: usize) -> String {

@@ -3,6 +3,7 @@
 //! place here.
 use crate::form::Form;
 use crate::host::{Original, Report};
+use crate::papers::{AlertSheet, VehicleSheet};
 use crate::questions::{self, yes, LONGEST_CARD};
 use std::panic::{catch_unwind, AssertUnwindSafe};
 
@@ -52,20 +53,15 @@ impl Panel {
             Call::Fresh => self.original = Original::default(),
             Call::Message { feed, message } => {
                 questions::message(feed, message)?;
-                self.write(feed, |original, feed| {
-                    assert!(
-                        original.message(feed, message),
-                        "prost refuses a message that document 01 takes"
-                    );
-                })?;
+                self.keep(feed, call)?;
             }
             Call::AlertSheet { feed, sheet } => {
-                let sheet = questions::alert_sheet(feed, sheet)?;
-                self.write(feed, |original, feed| original.alert_sheet(feed, &sheet))?;
+                questions::alert_sheet(feed, sheet)?;
+                self.keep(feed, call)?;
             }
             Call::VehicleSheet { feed, sheet, clock } => {
-                let sheet = questions::vehicle_sheet(feed, sheet, *clock)?;
-                self.write(feed, |original, feed| original.vehicle_sheet(feed, &sheet, *clock))?;
+                questions::vehicle_sheet(feed, sheet, *clock)?;
+                self.keep(feed, call)?;
             }
             Call::Card { card } => {
                 let finished = self.original.card(&questions::card(card)?).written();
@@ -80,17 +76,35 @@ impl Panel {
         Ok(Answer::Written)
     }
 
-    /// Writes one feed and keeps it where what is left is within question 7.
-    fn write(&mut self, feed: &[u8], change: impl FnOnce(&mut Original, &str)) -> Result<(), u8> {
-        let feed = text(feed);
-        let mut after = self.original.clone();
-        change(&mut after, feed);
-        let state = after.feed(feed);
+    /// Keeps what a writing call leaves where it is within question 7.
+    fn keep(&mut self, feed: &[u8], call: &Call) -> Result<(), u8> {
+        let mut after = self.left(call);
+        let state = after.feed(text(feed));
         let updates = state.trips.values().all(|trip| trip.stop_updates.len() <= 128);
         yes(updates && state.trips.len() <= 2_048 && state.vehicles.len() <= 1_024, 7)?;
         yes(after.0.feeds.len() <= 4, 7)?;
         self.original = after;
         Ok(())
+    }
+
+    /// What a call within questions 3 to 6 leaves, whatever its counts are.
+    pub fn left(&self, call: &Call) -> Original {
+        let mut after = self.original.clone();
+        match call {
+            Call::Message { feed, message } => {
+                let taken = after.message(text(feed), message);
+                assert!(taken, "prost refuses a message that document 01 takes");
+            }
+            Call::AlertSheet { feed, sheet } => {
+                after.alert_sheet(text(feed), &AlertSheet::of(sheet).expect("a sheet"));
+            }
+            Call::VehicleSheet { feed, sheet, clock } => {
+                after.vehicle_sheet(text(feed), &VehicleSheet::of(sheet).expect("a sheet"), *clock);
+            }
+            Call::Fresh => after = Original::default(),
+            Call::Card { .. } | Call::Report { .. } => {}
+        }
+        after
     }
 }
 

@@ -2,14 +2,13 @@
 -- lent in parts is joined here; `&blob[start..end]` is those bytes, also where a character is cut.
 use mathlib.Core.List.{List, [], _∷_, _++_}
 use mathlib.Core.Option.{Option, none, some}
-use mathlib.Core.Bool.{Bool, true, false, not, _&&_, _||_}
+use mathlib.Core.Bool.{Bool, true, false, cond, not, _&&_, _||_}
 use Prim.Native.Nat.{ℕ, _+_, _-_}
 use Prim.Native.String.{String}
 use Prim.Native.String as String
 use Prim.Native.Char.{code}
 use lib.Dec.{leb, eqb}
 use lib.ListN.{length, take, drop}
-use Rattle.formats.specs.Law.{pick}
 use Rattle.formats.specs.Class.{all}
 use Rattle.alerts.specs.Lists.{any, member, filter, isEmpty}
 use Rattle.alerts.specs.Text.{text, same, begins, ends, contains, find, upperByte, upper, alike, digit, alphanumeric, trim, split}
@@ -23,7 +22,7 @@ isCode (b ∷ s) = leb 4 (length s) && leb (length s) 7 && eqb (upperByte b) 67 
 
 abbrev pub firstCode : List (List ℕ) → Option (List ℕ)
 firstCode [] = none
-firstCode (p ∷ l) = let r = firstCode l in pick (isCode (trim p)) (some (upper (trim p))) r
+firstCode (p ∷ l) = let r = firstCode l in cond (isCode (trim p)) (some (upper (trim p))) r
 
 abbrev pub product-code-token : List ℕ → Option (List ℕ)
 product-code-token raw = firstCode (split (λ b. not (alphanumeric b)) raw)
@@ -31,7 +30,7 @@ product-code-token raw = firstCode (split (λ b. not (alphanumeric b)) raw)
 -- the last piece of an id, cut at ':' and '/', that a test takes, or else the id
 abbrev pub lastOf : (List ℕ → Bool) → List ℕ → List (List ℕ) → List ℕ
 lastOf p whole [] = whole
-lastOf p whole (x ∷ l) = lastOf p (pick (p x) x whole) l
+lastOf p whole (x ∷ l) = lastOf p (cond (p x) x whole) l
 
 abbrev pub rfind : (List ℕ → Bool) → List ℕ → List ℕ
 rfind p x = lastOf p x (split (λ b. eqb b 0x3a || eqb b 0x2f) x)
@@ -53,12 +52,12 @@ tails-match leg informed = not (isEmpty leg) && leb 3 (length leg) && alike leg 
 
 abbrev pub route-refs-match : List ℕ → List ℕ → Bool
 route-refs-match leg informed =
-    pick (isEmpty leg || isEmpty informed) false
-    (pick (same leg informed) true
+    cond (isEmpty leg || isEmpty informed) false
+    (cond (same leg informed) true
     (decided (product-code-token leg) (product-code-token informed) (tails-match (segment leg) (segment informed))))
 
 abbrev pub short-names-equal : List ℕ → List ℕ → Bool
-short-names-equal leg other = pick (isEmpty (trim leg) || isEmpty (trim other)) false (alike (trim leg) (trim other))
+short-names-equal leg other = cond (isEmpty (trim leg) || isEmpty (trim other)) false (alike (trim leg) (trim other))
 
 -- road traffic
 abbrev pub has : List ℕ → String → Bool
@@ -95,10 +94,10 @@ accents =
 
 abbrev pub plain : ℕ → List (ℕ × List ℕ) → Option ℕ
 plain c [] = none
-plain c (row ∷ l) = let r = plain c l in pick (member c (row .1)) (some (row .0)) r
+plain c (row ∷ l) = let r = plain c l in cond (member c (row .1)) (some (row .0)) r
 
 abbrev pub unaccented : ℕ → ℕ → Option ℕ
-unaccented a b = pick (eqb a 0xc3) (plain (b + 64) accents) none
+unaccented a b = cond (eqb a 0xc3) (plain (b + 64) accents) none
 
 abbrev pub folded : Option ℕ → ℕ → List ℕ → List ℕ → List ℕ
 folded (some letter) a past next = letter ∷ past
@@ -200,15 +199,15 @@ legBlob a = fold-alert-blob (given (header a) ++ text " " ++ given (description 
 
 abbrev pub text-compatible : List ℕ → List ℕ → Bool
 text-compatible blob short =
-    pick (isEmpty blob) true
-    (pick (isEmpty (commercial-lines-in-text blob)) true
-    (pick (not (any (λ m. same m short) (commercial-lines-in-text blob))) false
+    cond (isEmpty blob) true
+    (cond (isEmpty (commercial-lines-in-text blob)) true
+    (cond (not (any (λ m. same m short) (commercial-lines-in-text blob))) false
     (not (is-secondary-line-context blob short
     && any (λ m. not (same m short) && is-primary-context blob m) (commercial-lines-in-text blob)))))
 
 abbrev pub alert-text-compatible-with-leg : Alert → List ℕ → Bool
 alert-text-compatible-with-leg a route-short =
-    pick (isEmpty (trim route-short)) true (text-compatible (legBlob a) (upper (trim route-short)))
+    cond (isEmpty (trim route-short)) true (text-compatible (legBlob a) (upper (trim route-short)))
 
 -- product codes and their lines
 abbrev pub products : List (List ℕ × List ℕ)
@@ -222,7 +221,7 @@ products =
 
 abbrev pub nameOf : List ℕ → List (List ℕ × List ℕ) → Option (List ℕ)
 nameOf c [] = none
-nameOf c (row ∷ l) = let r = nameOf c l in pick (same c (row .0)) (some (row .1)) r
+nameOf c (row ∷ l) = let r = nameOf c l in cond (same c (row .0)) (some (row .1)) r
 
 abbrev pub idfm-product-to-short : List ℕ → Option (List ℕ)
 idfm-product-to-short code = nameOf (upper code) products
@@ -276,6 +275,6 @@ stop-hit a sid =
 
 abbrev pub alert-applies-to-leg-with-mode : Alert → List ℕ → List ℕ → List ℕ → List ℕ → List ℕ → List ℕ → Bool
 alert-applies-to-leg-with-mode a trip-id route-id route-short from-stop-id to-stop-id mode =
-    pick (is-rail-like-mode mode && is-road-traffic-alert a) false
+    cond (is-rail-like-mode mode && is-road-traffic-alert a) false
     (trip-hit a trip-id || (stop-hit a from-stop-id || stop-hit a to-stop-id)
     || route-hit a route-id route-short && alert-text-compatible-with-leg a route-short)

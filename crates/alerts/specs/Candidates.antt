@@ -1,11 +1,10 @@
 -- `search-is-index`: the search by ids takes exactly the alerts that the index gives.
 use mathlib.Core.Path.{_≡_, refl, sym, ap, _∙_}
 use mathlib.Core.List.{List, [], _∷_, _++_}
-use mathlib.Core.Bool.{Bool, true, false, not, _&&_, _||_}
+use mathlib.Core.Bool.{Bool, true, false, cond, not, _&&_, _||_}
 use Prim.Native.Nat.{ℕ, suc}
 use lib.Dec.{eqb}
 use borrow.Author.Tests.{eqb-true, eq-eqb}
-use Rattle.formats.specs.Law.{pick}
 use Rattle.alerts.specs.Lists.{any, member, join}
 use Rattle.alerts.specs.Text.{same}
 use Rattle.alerts.specs.Alert.{Alert, informed-trip-ids, informed-route-ids, informed-stop-ids}
@@ -16,11 +15,11 @@ use Rattle.alerts.specs.ListLaws.{and-no, false-true, or-false, or-assoc
 distinct-step : (j i : ℕ) (seen l : List ℕ) (t : Bool) → member i seen ≡ t
     → member j (distinct seen l) ≡ not (member j seen) && member j l
     → member j (distinct (i ∷ seen) l) ≡ not (member j (i ∷ seen)) && member j l
-    → member j (pick t (distinct seen l) (i ∷ distinct (i ∷ seen) l)) ≡ not (member j seen) && member j (i ∷ l)
+    → member j (cond t (distinct seen l) (i ∷ distinct (i ∷ seen) l)) ≡ not (member j seen) && member j (i ∷ l)
 distinct-step j i seen l t e ih ih′ = go (eqb j i) refl t e
   where
     go : (u : Bool) → eqb j i ≡ u → (t : Bool) → member i seen ≡ t
-        → member j (pick t (distinct seen l) (i ∷ distinct (i ∷ seen) l)) ≡ not (member j seen) && member j (i ∷ l)
+        → member j (cond t (distinct seen l) (i ∷ distinct (i ∷ seen) l)) ≡ not (member j seen) && member j (i ∷ l)
     go true eu true et = rw (ih, eu, ap (λ n. member n seen) (eqb-true j i eu) ∙ et) refl
     go true eu false et = rw (eu, ap (λ n. member n seen) (eqb-true j i eu) ∙ et) refl
     go false eu true et = rw (ih, eu) refl
@@ -32,7 +31,7 @@ member-distinct j seen (i ∷ l) =
     distinct-step j i seen l (member i seen) refl (member-distinct j seen l) (member-distinct j (i ∷ seen) l)
 
 -- what a push leaves at a key
-get-push : (k k′ : List ℕ) (i : ℕ) (m : Map) → get k (push k′ i m) ≡ pick (same k k′) (get k m ++ (i ∷ [])) (get k m)
+get-push : (k k′ : List ℕ) (i : ℕ) (m : Map) → get k (push k′ i m) ≡ cond (same k k′) (get k m ++ (i ∷ [])) (get k m)
 get-push k k′ i [] = refl
 get-push k k′ i (e ∷ m) = go (same k′ (e .0)) refl (same k (e .0)) refl (get-push k k′ i m)
   where
@@ -43,8 +42,8 @@ get-push k k′ i (e ∷ m) = go (same k′ (e .0)) refl (same k (e .0)) refl (g
     other g h false x = refl
 
     go : (t : Bool) → same k′ (e .0) ≡ t → (u : Bool) → same k (e .0) ≡ u
-        → get k (push k′ i m) ≡ pick (same k k′) (get k m ++ (i ∷ [])) (get k m)
-        → get k (push k′ i (e ∷ m)) ≡ pick (same k k′) (get k (e ∷ m) ++ (i ∷ [])) (get k (e ∷ m))
+        → get k (push k′ i m) ≡ cond (same k k′) (get k m ++ (i ∷ [])) (get k m)
+        → get k (push k′ i (e ∷ m)) ≡ cond (same k k′) (get k (e ∷ m) ++ (i ∷ [])) (get k (e ∷ m))
     go true g true h ih = rw (g, h, ap (same k) (same-true k′ (e .0) g) ∙ h) refl
     go true g false h ih = rw (g, h, ap (same k) (same-true k′ (e .0) g) ∙ h) refl
     go false g true h ih = rw (g, h, other g h (same k k′) refl) refl
@@ -53,7 +52,7 @@ get-push k k′ i (e ∷ m) = go (same k′ (e .0)) refl (same k (e .0)) refl (g
 member-push : (j : ℕ) (k k′ : List ℕ) (i : ℕ) (m : Map) → member j (get k (push k′ i m)) ≡ member j (get k m) || same k k′ && eqb j i
 member-push j k k′ i m = ap (member j) (get-push k k′ i m) ∙ go (same k k′)
   where
-    go : (t : Bool) → member j (pick t (get k m ++ (i ∷ [])) (get k m)) ≡ member j (get k m) || t && eqb j i
+    go : (t : Bool) → member j (cond t (get k m ++ (i ∷ [])) (get k m)) ≡ member j (get k m) || t && eqb j i
     go true = any-append (eqb j) (get k m) (i ∷ []) ∙ ap (λ x. member j (get k m) || x) (or-false (eqb j i))
     go false = sym (or-false (member j (get k m)))
 
@@ -82,7 +81,7 @@ member-indexed j k keys i (a ∷ l) m =
     ∙ go (any (same k) (keys a))
   where
     go : (t : Bool) → member j (get k m) || t && eqb j i || member j (numbers (λ a. any (same k) (keys a)) (suc i) l)
-        ≡ member j (get k m) || member j (pick t (i ∷ numbers (λ a. any (same k) (keys a)) (suc i) l) (numbers (λ a. any (same k) (keys a)) (suc i) l))
+        ≡ member j (get k m) || member j (cond t (i ∷ numbers (λ a. any (same k) (keys a)) (suc i) l) (numbers (λ a. any (same k) (keys a)) (suc i) l))
     go true = or-assoc (member j (get k m)) (eqb j i) (member j (numbers (λ a. any (same k) (keys a)) (suc i) l))
     go false = ap (λ x. x || member j (numbers (λ a. any (same k) (keys a)) (suc i) l)) (or-false (member j (get k m)))
 
@@ -93,8 +92,8 @@ numbers-or j p q i [] = refl
 numbers-or j p q i (a ∷ l) = go (p a) (q a) (numbers-or j p q (suc i) l)
   where
     go : (t u : Bool) → member j (numbers (λ a. p a || q a) (suc i) l) ≡ member j (numbers p (suc i) l) || member j (numbers q (suc i) l)
-        → member j (pick (t || u) (i ∷ numbers (λ a. p a || q a) (suc i) l) (numbers (λ a. p a || q a) (suc i) l))
-        ≡ member j (pick t (i ∷ numbers p (suc i) l) (numbers p (suc i) l)) || member j (pick u (i ∷ numbers q (suc i) l) (numbers q (suc i) l))
+        → member j (cond (t || u) (i ∷ numbers (λ a. p a || q a) (suc i) l) (numbers (λ a. p a || q a) (suc i) l))
+        ≡ member j (cond t (i ∷ numbers p (suc i) l) (numbers p (suc i) l)) || member j (cond u (i ∷ numbers q (suc i) l) (numbers q (suc i) l))
     go true true ih = rw ih (once (eqb j i) (member j (numbers p (suc i) l)) (member j (numbers q (suc i) l)))
       where
         once : (e x y : Bool) → e || (x || y) ≡ e || x || (e || y)
@@ -138,7 +137,7 @@ member-lookup j ks keys ids l =
 meets-trip : (ks : List (List ℕ)) (t : List ℕ) → meets ks (tripKeys t) ≡ meets ks (t ∷ undated t ∷ [])
 meets-trip ks t = any-same _ _ (λ k. go k (same (undated t) t) refl) ks
   where
-    go : (k : List ℕ) (e : Bool) → same (undated t) t ≡ e → any (same k) (undated t ∷ pick e [] (t ∷ [])) ≡ any (same k) (t ∷ undated t ∷ [])
+    go : (k : List ℕ) (e : Bool) → same (undated t) t ≡ e → any (same k) (undated t ∷ cond e [] (t ∷ [])) ≡ any (same k) (t ∷ undated t ∷ [])
     go k true h = rw (same-true (undated t) t h) (once (same k t))
       where
         once : (x : Bool) → x || false ≡ x || (x || false)

@@ -3,13 +3,12 @@ use mathlib.Core.Path.{_≡_, refl, sym, ap, _∙_}
 use mathlib.Core.List.{List, [], _∷_, _++_}
 use mathlib.Core.Logic.{⊎-elim}
 use mathlib.Core.Option.{Option, none, some}
-use mathlib.Core.Bool.{Bool, true, false, not, _&&_, _||_}
+use mathlib.Core.Bool.{Bool, true, false, cond, not, _&&_, _||_}
 use Prim.Native.Nat.{ℕ}
 use Prim.Native.String.{String}
 use lib.Dec.{leb, eqb}
 use lib.ListN.{length, drop}
 use borrow.Author.Tests.{eqb-true}
-use Rattle.formats.specs.Law.{pick}
 use Rattle.formats.specs.Class.{all}
 use Rattle.alerts.specs.Lists.{any, filter, isEmpty}
 use Rattle.alerts.specs.Text.{text, same, begins, ends, contains, find, upper, alike, alphanumeric, trimStart, trimEnd, trim, rsplit-once, onto, split}
@@ -54,9 +53,9 @@ trip-reduced a trip =
 lastOf-nonempty : (p : List ℕ → Bool) → ((x : List ℕ) → p x ≡ true → isEmpty x ≡ false) → (whole : List ℕ) (l : List (List ℕ))
     → isEmpty whole ≡ false → isEmpty (lastOf p whole l) ≡ false
 lastOf-nonempty p h whole [] e = e
-lastOf-nonempty p h whole (x ∷ l) e = lastOf-nonempty p h (pick (p x) x whole) l (go (p x) refl)
+lastOf-nonempty p h whole (x ∷ l) e = lastOf-nonempty p h (cond (p x) x whole) l (go (p x) refl)
   where
-    go : (t : Bool) → p x ≡ t → isEmpty (pick t x whole) ≡ false
+    go : (t : Bool) → p x ≡ t → isEmpty (cond t x whole) ≡ false
     go true g = h x g
     go false g = e
 
@@ -82,7 +81,7 @@ split-pieces cut [] = refl
 split-pieces cut (b ∷ s) = go (cut b) refl (split cut s) (split-pieces cut s)
   where
     go : (t : Bool) → cut b ≡ t → (l : List (List ℕ)) → all (all (λ b. not (cut b))) l ≡ true
-        → all (all (λ b. not (cut b))) (pick t ([] ∷ l) (onto b l)) ≡ true
+        → all (all (λ b. not (cut b))) (cond t ([] ∷ l) (onto b l)) ≡ true
     go true e l ih = ih
     go false e [] ih = rw e refl
     go false e (p ∷ l) ih = rw e ih
@@ -127,7 +126,7 @@ refs-reduced : (q r : List ℕ) → route-refs-match q r ≡ refs q r
 refs-reduced q r =
     let other = decided (token q) (token r) (leb 3 (length (segment q)) && alike (segment q) (segment r)) in
     rw (token-reduced q, token-reduced r, tails-reduced (segment q) (segment r))
-    (pick-and (isEmpty q || isEmpty r) (pick (same q r) true other) ∙ ap (λ x. not (isEmpty q || isEmpty r) && x) (pick-or (same q r) other))
+    (pick-and (isEmpty q || isEmpty r) (cond (same q r) true other) ∙ ap (λ x. not (isEmpty q || isEmpty r) && x) (pick-or (same q r) other))
 
 -- the line's name, trimmed once
 trimEnd-twice : (s : List ℕ) → trimEnd (trimEnd s) ≡ trimEnd s
@@ -135,7 +134,7 @@ trimEnd-twice [] = refl
 trimEnd-twice (b ∷ s) = go (eqb b 32 && isEmpty (trimEnd s)) refl (trimEnd-twice s)
   where
     go : (t : Bool) → eqb b 32 && isEmpty (trimEnd s) ≡ t → trimEnd (trimEnd s) ≡ trimEnd s
-        → trimEnd (pick t [] (b ∷ trimEnd s)) ≡ pick t [] (b ∷ trimEnd s)
+        → trimEnd (cond t [] (b ∷ trimEnd s)) ≡ cond t [] (b ∷ trimEnd s)
     go true e ih = refl
     go false e ih = rw (ih, e) refl
 
@@ -144,7 +143,7 @@ trimStart-once [] = refl
 trimStart-once (b ∷ s) = go (eqb b 32) refl (trimStart-once s)
   where
     go : (t : Bool) → eqb b 32 ≡ t → trimStart (trimEnd (trimStart s)) ≡ trimEnd (trimStart s)
-        → trimStart (trimEnd (pick t (trimStart s) (b ∷ s))) ≡ trimEnd (pick t (trimStart s) (b ∷ s))
+        → trimStart (trimEnd (cond t (trimStart s) (b ∷ s))) ≡ trimEnd (cond t (trimStart s) (b ∷ s))
     go true e ih = ih
     go false e ih = rw (e, e) refl
 
@@ -155,7 +154,7 @@ name-reduced : (s t : List ℕ) → isEmpty s ≡ false → trim s ≡ s → sho
 name-reduced [] t e h = false-true (sym e)
 name-reduced (b ∷ s) t e h = rw h (go (trim t))
   where
-    go : (x : List ℕ) → pick (isEmpty x) false (alike (b ∷ s) x) ≡ alike (b ∷ s) x
+    go : (x : List ℕ) → cond (isEmpty x) false (alike (b ∷ s) x) ≡ alike (b ∷ s) x
     go [] = refl
     go (c ∷ x) = refl
 
@@ -240,7 +239,7 @@ filter-passes : (p : List ℕ → Bool) (u : List ℕ) (l : List (List ℕ)) →
 filter-passes p u [] e = false-true e
 filter-passes p u (m ∷ l) e = go (p m) refl e (filter-passes p u l)
   where
-    go : (t : Bool) → p m ≡ t → any (λ m. same m u) (pick t (m ∷ filter p l) (filter p l)) ≡ true
+    go : (t : Bool) → p m ≡ t → any (λ m. same m u) (cond t (m ∷ filter p l) (filter p l)) ≡ true
         → (any (λ m. same m u) (filter p l) ≡ true → p u ≡ true) → p u ≡ true
     go true h e ih = ⊎-elim (λ g. ap p (sym (same-true m u g)) ∙ h) ih (or-true (same m u) (any (λ m. same m u) (filter p l)) e)
     go false h e ih = ih e
@@ -292,14 +291,14 @@ text-reduced : (blob u : List ℕ) → isEmpty blob ≡ false → text-compatibl
 text-reduced blob u e = rw e (go (commercial-lines-in-text blob) (line-contained blob u))
   where
     go : (lines : List (List ℕ)) → (any (λ m. same m u) lines ≡ true → contains u blob ≡ true)
-        → pick (isEmpty lines) true
-        (pick (not (any (λ m. same m u) lines)) false
+        → cond (isEmpty lines) true
+        (cond (not (any (λ m. same m u) lines)) false
         (not (is-secondary-line-context blob u && any (λ m. not (same m u) && is-primary-context blob m) lines)))
         ≡ textOk blob lines u
     go lines h = named-line (isEmpty lines) (any (λ m. same m u) lines) refl
       where
         named-line : (x y : Bool) → any (λ m. same m u) lines ≡ y
-            → pick x true (pick (not y) false (not (is-secondary-line-context blob u && any (λ m. not (same m u) && is-primary-context blob m) lines)))
+            → cond x true (cond (not y) false (not (is-secondary-line-context blob u && any (λ m. not (same m u) && is-primary-context blob m) lines)))
             ≡ x || y && not (secondary blob u && any (λ m. not (same m u) && primary blob m) lines)
         named-line true y g = refl
         named-line false false g = refl

@@ -2,9 +2,8 @@
 -- of the alerts' ids that needs no index.
 use mathlib.Core.List.{List, [], _∷_, _++_}
 use mathlib.Core.Option.{Option, none, some}
-use mathlib.Core.Bool.{Bool, _||_}
+use mathlib.Core.Bool.{Bool, cond, _||_}
 use Prim.Native.Nat.{ℕ, suc}
-use Rattle.formats.specs.Law.{pick}
 use Rattle.alerts.specs.Lists.{any, member, isEmpty, join}
 use Rattle.alerts.specs.Text.{same, rsplit-once}
 use Rattle.alerts.specs.Alert.{Alert, informed-trip-ids, informed-route-ids, informed-stop-ids}
@@ -27,7 +26,7 @@ tail x = after (rsplit-once 0x3a x)
 
 abbrev pub nonempty : List (List ℕ) → List (List ℕ)
 nonempty [] = []
-nonempty (x ∷ l) = pick (isEmpty x) [] (x ∷ l)
+nonempty (x ∷ l) = cond (isEmpty x) [] (x ∷ l)
 
 -- A map from keys to alert numbers: `entry(k).or_default().push(i)`, and `get`, where a missing key has no numbers
 abbrev pub Map : Type 0
@@ -35,11 +34,11 @@ Map = List (List ℕ × List ℕ)
 
 abbrev pub push : List ℕ → ℕ → Map → Map
 push k i [] = (k, i ∷ []) ∷ []
-push k i (e ∷ m) = pick (same k (e .0)) ((e .0, e .1 ++ (i ∷ [])) ∷ m) (e ∷ push k i m)
+push k i (e ∷ m) = cond (same k (e .0)) ((e .0, e .1 ++ (i ∷ [])) ∷ m) (e ∷ push k i m)
 
 abbrev pub get : List ℕ → Map → List ℕ
 get k [] = []
-get k (e ∷ m) = pick (same k (e .0)) (e .1) (get k m)
+get k (e ∷ m) = cond (same k (e .0)) (e .1) (get k m)
 
 -- alert number i is pushed at each of its keys, the alerts in order
 abbrev pub pushAll : List (List ℕ) → ℕ → Map → Map
@@ -52,7 +51,7 @@ indexed keys i (a ∷ l) m = indexed keys (suc i) l (pushAll (keys a) i m)
 
 -- the keys of a trip id, and of a route or stop id
 abbrev pub tripKeys : List ℕ → List (List ℕ)
-tripKeys t = undated t ∷ pick (same (undated t) t) [] (t ∷ [])
+tripKeys t = undated t ∷ cond (same (undated t) t) [] (t ∷ [])
 
 abbrev pub idKeys : List ℕ → List (List ℕ)
 idKeys x = x ∷ nonempty (tail x)
@@ -82,7 +81,7 @@ legStops from to = (from ∷ tail from) ++ (to ∷ tail to)
 -- each number at its first place only
 abbrev pub distinct : List ℕ → List ℕ → List ℕ
 distinct seen [] = []
-distinct seen (i ∷ l) = pick (member i seen) (distinct seen l) (i ∷ distinct (i ∷ seen) l)
+distinct seen (i ∷ l) = cond (member i seen) (distinct seen l) (i ∷ distinct (i ∷ seen) l)
 
 abbrev pub lookups : AlertIndex → List ℕ → List ℕ → List ℕ → List ℕ → List ℕ
 lookups x trip route from to =
@@ -106,7 +105,7 @@ candidate trip route from to a =
 -- the numbers, from i on, of the alerts that a test takes
 abbrev pub numbers : (Alert → Bool) → ℕ → List Alert → List ℕ
 numbers p i [] = []
-numbers p i (a ∷ l) = let r = numbers p (suc i) l in pick (p a) (i ∷ r) r
+numbers p i (a ∷ l) = let r = numbers p (suc i) l in cond (p a) (i ∷ r) r
 
 abbrev pub search : List Alert → List ℕ → List ℕ → List ℕ → List ℕ → List ℕ
 search l trip route from to = numbers (candidate trip route from to) 0 l

@@ -2,10 +2,9 @@
 -- description's first 120 characters. An empty text is no label.
 use mathlib.Core.Path.{_≡_}
 use mathlib.Core.List.{List, [], _∷_}
-use mathlib.Core.Bool.{Bool}
+use mathlib.Core.Bool.{Bool, cond}
 use Prim.Native.Nat.{ℕ, zero, suc, _≤_}
 use lib.ListN.{length, take}
-use Rattle.formats.specs.Law.{pick}
 use Rattle.formats.specs.Class.{inside, trail}
 use Rattle.alerts.specs.Alert.{Alert, header, description, present, given}
 
@@ -15,8 +14,8 @@ continues b = inside trail b
 
 abbrev pub characters : ℕ → List ℕ → List ℕ
 characters n [] = []
-characters zero (b ∷ s) = let r = characters zero s in pick (continues b) (b ∷ r) []
-characters (suc n) (b ∷ s) = b ∷ characters (pick (continues b) (suc n) n) s
+characters zero (b ∷ s) = let r = characters zero s in cond (continues b) (b ∷ r) []
+characters (suc n) (b ∷ s) = b ∷ characters (cond (continues b) (suc n) n) s
 
 -- a place where the first n characters end
 pub record Ends (s : List ℕ) (n r : ℕ) : Type 0 where
@@ -24,7 +23,7 @@ pub record Ends (s : List ℕ) (n r : ℕ) : Type 0 where
   pub taken : take r s ≡ characters n s
 
 abbrev pub labelOf : Bool → List ℕ → List ℕ → List ℕ
-labelOf has-header header description = pick has-header header (characters 120 description)
+labelOf has-header header description = cond has-header header (characters 120 description)
 
 abbrev pub label : Alert → List ℕ
 label a = labelOf (present (header a)) (given (header a)) (given (description a))

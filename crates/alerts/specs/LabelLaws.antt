@@ -3,13 +3,13 @@ use mathlib.Core.Path.{_≡_, refl}
 use mathlib.Core.List.{List, [], _∷_}
 use mathlib.Core.Logic.{⊎-elim}
 use mathlib.Core.Option.{Option, none, some}
-use mathlib.Core.Bool.{Bool, true, false, _&&_, _||_}
+use mathlib.Core.Bool.{Bool, true, false, cond, _&&_, _||_}
 use Prim.Native.Nat.{ℕ, zero, suc, _+_, _*_, _≤_}
 use native.Mathlib.Omega.{arith}
 use lib.Dec.{leb, ltb}
 use lib.ListN.{length}
 use borrow.Author.Tests.{leb-true, ltb-true, le-leb, lt-leb}
-use Rattle.formats.specs.Law.{pick, none-some}
+use Rattle.formats.specs.Law.{none-some}
 use Rattle.formats.specs.Class.{Range, all, inside, rows, due, goesOn, sequences, inClass, utf8}
 use Rattle.alerts.specs.ListLaws.{false-true, or-true, and-true}
 use Rattle.alerts.specs.Label.{continues, characters, labelOf}
@@ -49,7 +49,7 @@ due-leads [] b rest e h = none-some h
 due-leads ([] ∷ l) b rest e h = due-leads l b rest e h
 due-leads ((r ∷ row) ∷ l) b rest e h = go (inside r b) refl h (due-leads l b rest (and-true {x = leading (r ∷ row)} e .1))
   where
-    go : (t : Bool) → inside r b ≡ t → pick t (some row) (due l b) ≡ some rest → (due l b ≡ some rest → Lead b rest) → Lead b rest
+    go : (t : Bool) → inside r b ≡ t → cond t (some row) (due l b) ≡ some rest → (due l b ≡ some rest → Lead b rest) → Lead b rest
     go true g k ih =
         let lead = and-true {x = apart r} (and-true {x = leading (r ∷ row)} e .0) in
         let others = and-true {x = all trailing row} (lead .1) in
@@ -91,7 +91,7 @@ cut n (b ∷ s) [] t e = go (due rows b) refl e (λ m rest. cut m s rest)
     go (some rest) d h ih = let l = due-leads rows b rest refl d in cut-first n b s rest d l (λ m. ih m rest (l .trails) h)
 cut n (b ∷ s) (r ∷ rest) t e = go (inside r b) refl e (λ f. cut n s rest (and-true {x = trailing r} t .1) f)
   where
-    go : (i : Bool) → inside r b ≡ i → goesOn (pick i (some rest) none) (λ rest. sequences s rest) ≡ true → (sequences s rest ≡ true → Cut n s rest) → Cut n (b ∷ s) (r ∷ rest)
+    go : (i : Bool) → inside r b ≡ i → goesOn (cond i (some rest) none) (λ rest. sequences s rest) ≡ true → (sequences s rest ≡ true → Cut n s rest) → Cut n (b ∷ s) (r ∷ rest)
     go true h e c = cut-on n b s r rest h (due-goes-on r b (and-true {x = trailing r} t .0) h) (c e)
     go false h e c = false-true e
 

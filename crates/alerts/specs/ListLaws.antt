@@ -2,11 +2,11 @@
 use mathlib.Core.Path.{_≡_, refl, sym, ap, _∙_}
 use mathlib.Core.List.{List, [], _∷_, _++_}
 use mathlib.Core.Logic.{_⊎_, inl, inr, ⊎-elim}
-use mathlib.Core.Bool.{Bool, true, false, not, _&&_, _||_}
+use mathlib.Core.Bool.{Bool, true, false, cond, not, _&&_, _||_}
 use Prim.Native.Nat.{ℕ}
 use native.Mathlib.Omega.{arith}
 use borrow.Author.Tests.{eqb-true, eq-eqb}
-use Rattle.formats.specs.Law.{pick, headed}
+use Rattle.formats.specs.Law.{headed}
 use Rattle.alerts.specs.Lists.{any, join}
 use Rattle.alerts.specs.Text.{same}
 
@@ -50,11 +50,11 @@ and-true {x = true} e = (refl, e)
 and-true {x = false} e = false-true e
 
 -- a choice of a test is a test
-pub pick-or : (t x : Bool) → pick t true x ≡ t || x
+pub pick-or : (t x : Bool) → cond t true x ≡ t || x
 pick-or true x = refl
 pick-or false x = refl
 
-pub pick-and : (t x : Bool) → pick t false x ≡ not t && x
+pub pick-and : (t x : Bool) → cond t false x ≡ not t && x
 pick-and true x = refl
 pick-and false x = refl
 

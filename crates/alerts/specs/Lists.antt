@@ -1,9 +1,8 @@
 -- Lists and tests: some element passes, a number is there, the elements that pass, what each element gives in order.
 use mathlib.Core.List.{List, [], _∷_, _++_}
-use mathlib.Core.Bool.{Bool, true, false, _||_}
+use mathlib.Core.Bool.{Bool, true, false, cond, _||_}
 use Prim.Native.Nat.{ℕ}
 use lib.Dec.{eqb}
-use Rattle.formats.specs.Law.{pick}
 
 abbrev pub any : {A : Type 0} → (A → Bool) → List A → Bool
 any p [] = false
@@ -14,7 +13,7 @@ member n l = any (eqb n) l
 
 abbrev pub filter : {A : Type 0} → (A → Bool) → List A → List A
 filter p [] = []
-filter p (a ∷ l) = let r = filter p l in pick (p a) (a ∷ r) r
+filter p (a ∷ l) = let r = filter p l in cond (p a) (a ∷ r) r
 
 abbrev pub isEmpty : {A : Type 0} → List A → Bool
 isEmpty [] = true

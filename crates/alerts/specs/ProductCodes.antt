@@ -3,12 +3,12 @@ use mathlib.Core.Path.{_≡_, refl, sym, ap, _∙_}
 use mathlib.Core.List.{List, [], _∷_}
 use mathlib.Core.Logic.{⊎-elim}
 use mathlib.Core.Option.{Option, none, some}
-use mathlib.Core.Bool.{Bool, true, false, not, _&&_, _||_}
+use mathlib.Core.Bool.{Bool, true, false, cond, not, _&&_, _||_}
 use Prim.Native.Nat.{ℕ, _-_, _≤_}
 use native.Mathlib.Omega.{arith}
 use borrow.Author.Tests.{leb-true, lt-leb}
 use lib.Dec.{leb}
-use Rattle.formats.specs.Law.{pick, none-some, headed}
+use Rattle.formats.specs.Law.{none-some, headed}
 use Rattle.formats.specs.Class.{inside}
 use Rattle.alerts.specs.Lists.{any}
 use Rattle.alerts.specs.Text.{same, upperByte, upper, alphanumeric, trim, split}
@@ -19,7 +19,7 @@ use Rattle.alerts.specs.ListLaws.{false-true, or-comm, or-true, and-true
 upper-byte : (b : ℕ) → upperByte (upperByte b) ≡ upperByte b
 upper-byte b = go (inside (97, 122) b) refl
   where
-    go : (t : Bool) → inside (97, 122) b ≡ t → upperByte (pick t (b - 32) b) ≡ pick t (b - 32) b
+    go : (t : Bool) → inside (97, 122) b ≡ t → upperByte (cond t (b - 32) b) ≡ cond t (b - 32) b
     go true e =
         let h : b ≤ 122 = leb-true b 122 (and-true {x = leb 97 b} e .1) in
         rw (lt-leb 97 (b - 32) (omega arith)) refl
@@ -33,7 +33,7 @@ firstCode-upper : (l : List (List ℕ)) (c : List ℕ) → firstCode l ≡ some 
 firstCode-upper [] c e = none-some e
 firstCode-upper (p ∷ l) c e = go (isCode (trim p)) e (firstCode-upper l c)
   where
-    go : (t : Bool) → pick t (some (upper (trim p))) (firstCode l) ≡ some c → (firstCode l ≡ some c → upper c ≡ c) → upper c ≡ c
+    go : (t : Bool) → cond t (some (upper (trim p))) (firstCode l) ≡ some c → (firstCode l ≡ some c → upper c ≡ c) → upper c ≡ c
     go true g ih = let h : upper (trim p) ≡ c = cc in rw (← h) (upper-upper (trim p))
     go false g ih = ih g
 
@@ -46,7 +46,7 @@ nameOf-there : (c n : List ℕ) (l : List (List ℕ × List ℕ)) → nameOf c l
 nameOf-there c n [] e = none-some e
 nameOf-there c n (row ∷ l) e = go (same c (row .0)) e (nameOf-there c n l)
   where
-    go : (t : Bool) → pick t (some (row .1)) (nameOf c l) ≡ some n → (nameOf c l ≡ some n → any (λ r. same n (r .1)) l ≡ true)
+    go : (t : Bool) → cond t (some (row .1)) (nameOf c l) ≡ some n → (nameOf c l ≡ some n → any (λ r. same n (r .1)) l ≡ true)
         → same n (row .1) || any (λ r. same n (r .1)) l ≡ true
     go true g ih = let h : row .1 ≡ n = cc in rw (h, same-refl n) refl
     go false g ih = rw (ih g) (or-comm (same n (row .1)) true)
@@ -61,7 +61,7 @@ one-code b c n (row ∷ l) d eb ec = go (same b (row .0)) refl (same c (row .0))
         false-true (sym e ∙ and-true d .0)
 
     go : (t : Bool) → same b (row .0) ≡ t → (u : Bool) → same c (row .0) ≡ u
-        → pick t (some (row .1)) (nameOf b l) ≡ some n → pick u (some (row .1)) (nameOf c l) ≡ some n
+        → cond t (some (row .1)) (nameOf b l) ≡ some n → cond u (some (row .1)) (nameOf c l) ≡ some n
         → (nameOf b l ≡ some n → nameOf c l ≡ some n → b ≡ c) → b ≡ c
     go true hb true hc eb ec ih = same-true b (row .0) hb ∙ sym (same-true c (row .0) hc)
     go true hb false hc eb ec ih = let h : row .1 ≡ n = cc in twice c h ec
@@ -90,7 +90,7 @@ one-token [] r c eq er = none-some eq
 one-token (a ∷ q) [] c eq er = none-some er
 one-token (a ∷ q) (b ∷ r) c eq er = go (same (a ∷ q) (b ∷ r))
   where
-    go : (t : Bool) → pick t true (decided (product-code-token (a ∷ q)) (product-code-token (b ∷ r)) (tails-match (segment (a ∷ q)) (segment (b ∷ r)))) ≡ true
+    go : (t : Bool) → cond t true (decided (product-code-token (a ∷ q)) (product-code-token (b ∷ r)) (tails-match (segment (a ∷ q)) (segment (b ∷ r)))) ≡ true
     go true = refl
     go false = rw (eq, er) (same-refl c)
 

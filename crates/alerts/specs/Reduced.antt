@@ -2,12 +2,11 @@
 -- code follows. Implied.antt proves both equal.
 use mathlib.Core.List.{List, [], _∷_, _++_}
 use mathlib.Core.Option.{Option, none, some}
-use mathlib.Core.Bool.{Bool, not, _&&_, _||_}
+use mathlib.Core.Bool.{Bool, cond, not, _&&_, _||_}
 use Prim.Native.Nat.{ℕ}
 use Prim.Native.String.{String}
 use lib.Dec.{leb}
 use lib.ListN.{length}
-use Rattle.formats.specs.Law.{pick}
 use Rattle.alerts.specs.Lists.{any, isEmpty}
 use Rattle.alerts.specs.Text.{text, same, begins, ends, upper, alike, alphanumeric, trim, split}
 use Rattle.alerts.specs.Alert.{Alert, informed-trip-ids, informed-route-ids, informed-stop-ids}
@@ -16,7 +15,7 @@ use Rattle.alerts.specs.Applies.{isCode, isNone, segment, stop-tail, dec
 
 abbrev pub firstToken : List (List ℕ) → Option (List ℕ)
 firstToken [] = none
-firstToken (p ∷ l) = let r = firstToken l in pick (isCode p) (some (upper p)) r
+firstToken (p ∷ l) = let r = firstToken l in cond (isCode p) (some (upper p)) r
 
 abbrev pub token : List ℕ → Option (List ℕ)
 token x = firstToken (split (λ b. not (alphanumeric b)) x)

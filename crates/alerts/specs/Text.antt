@@ -2,22 +2,21 @@
 -- a `let` leaves unlooked at.
 use mathlib.Core.List.{List, [], _∷_, _++_, map}
 use mathlib.Core.Option.{Option, none, some}
-use mathlib.Core.Bool.{Bool, true, false, _&&_, _||_}
+use mathlib.Core.Bool.{Bool, true, false, cond, _&&_, _||_}
 use Prim.Native.Nat.{ℕ, suc, _+_, _-_, _/_, _%_}
 use Prim.Native.String.{String}
 use Prim.Native.String as String
 use Prim.Native.Char.{code}
 use lib.Dec.{ltb, eqb}
-use Rattle.formats.specs.Law.{pick}
 use Rattle.formats.specs.Class.{inside}
 use Rattle.alerts.specs.Lists.{isEmpty}
 
 -- the UTF-8 bytes of a character, and of a quoted text
 abbrev pub utf8Of : ℕ → List ℕ
 utf8Of n =
-    pick (ltb n 0x80) (n ∷ [])
-    (pick (ltb n 0x800) ((0xc0 + n / 64) ∷ (0x80 + n % 64) ∷ [])
-    (pick (ltb n 0x10000) ((0xe0 + n / 4096) ∷ (0x80 + n / 64 % 64) ∷ (0x80 + n % 64) ∷ [])
+    cond (ltb n 0x80) (n ∷ [])
+    (cond (ltb n 0x800) ((0xc0 + n / 64) ∷ (0x80 + n % 64) ∷ [])
+    (cond (ltb n 0x10000) ((0xe0 + n / 4096) ∷ (0x80 + n / 64 % 64) ∷ (0x80 + n % 64) ∷ [])
     ((0xf0 + n / 262144) ∷ (0x80 + n / 4096 % 64) ∷ (0x80 + n / 64 % 64) ∷ (0x80 + n % 64) ∷ [])))
 
 abbrev pub text : String → List ℕ
@@ -51,12 +50,12 @@ later none = none
 later (some i) = some (suc i)
 
 abbrev pub find : List ℕ → List ℕ → Option ℕ
-find p [] = pick (isEmpty p) (some 0) none
-find p (b ∷ s) = let r = later (find p s) in pick (begins p (b ∷ s)) (some 0) r
+find p [] = cond (isEmpty p) (some 0) none
+find p (b ∷ s) = let r = later (find p s) in cond (begins p (b ∷ s)) (some 0) r
 
 -- `to_ascii_uppercase`, `eq_ignore_ascii_case`
 abbrev pub upperByte : ℕ → ℕ
-upperByte b = pick (inside (97, 122) b) (b - 32) b
+upperByte b = cond (inside (97, 122) b) (b - 32) b
 
 abbrev pub upper : List ℕ → List ℕ
 upper s = map upperByte s
@@ -74,11 +73,11 @@ alphanumeric b = digit b || inside (65, 90) b || inside (97, 122) b
 -- `trim`, of the texts that question 5 lets in: their only white space is the space
 abbrev pub trimStart : List ℕ → List ℕ
 trimStart [] = []
-trimStart (b ∷ s) = let r = trimStart s in pick (eqb b 32) r (b ∷ s)
+trimStart (b ∷ s) = let r = trimStart s in cond (eqb b 32) r (b ∷ s)
 
 abbrev pub trimEnd : List ℕ → List ℕ
 trimEnd [] = []
-trimEnd (b ∷ s) = let r = trimEnd s in pick (eqb b 32 && isEmpty r) [] (b ∷ r)
+trimEnd (b ∷ s) = let r = trimEnd s in cond (eqb b 32 && isEmpty r) [] (b ∷ r)
 
 abbrev pub trim : List ℕ → List ℕ
 trim s = trimEnd (trimStart s)
@@ -100,4 +99,4 @@ onto b (p ∷ l) = (b ∷ p) ∷ l
 
 abbrev pub split : (ℕ → Bool) → List ℕ → List (List ℕ)
 split cut [] = [] ∷ []
-split cut (b ∷ s) = let r = split cut s in pick (cut b) ([] ∷ r) (onto b r)
+split cut (b ∷ s) = let r = split cut s in cond (cut b) ([] ∷ r) (onto b r)

@@ -1,11 +1,11 @@
 -- The hour of the change, and the day behind it, without sums that are too large. Assumes nothing.
 use Prim.Native.Nat.{ℕ, _+_, _-_, _*_, _/_, _%_, _≤_, _<_}
 use mathlib.Core.Path.{_≡_, refl, sym, ap}
-use mathlib.Core.Bool.{Bool, true, false, _&&_}
+use mathlib.Core.Bool.{Bool, true, false, cond, _&&_}
 use native.Mathlib.Omega.{arith}
 use lib.Dec.{leb, ltb}
 use borrow.Author.Tests.{leb-true, leb-false, ltb-true, ltb-false, le-leb, lt-leb, lt-ltb, le-ltb}
-use Rattle.calendar.specs.Civil.{choose, leapDay, yearOf, lastSunday}
+use Rattle.calendar.specs.Civil.{leapDay, yearOf, lastSunday}
 use Rattle.calendar.specs.declared.YearDay.{YearDay}
 use Rattle.calendar.proofs.Counting.{year-day}
 use Rattle.calendar.specs.Paris.{marchEnd, oneOClock, isSummer, offsetAt}
@@ -49,7 +49,7 @@ module _ (s : ℕ) where
   pub offset-small : offsetAt s ≤ 7200
   offset-small = go (isSummer s)
     where
-      go : (t : Bool) → choose t 7200 3600 ≤ 7200
+      go : (t : Bool) → cond t 7200 3600 ≤ 7200
       go true = omega arith
       go false = omega arith
 

@@ -1,7 +1,7 @@
 -- The loops over years and months, on plain values. Assumes nothing.
 use Prim.Native.Nat.{ℕ, zero, suc, _+_, _-_, _%_, _≤_, _<_}
 use mathlib.Core.Path.{_≡_, refl, sym, ap, subst, _∙_}
-use mathlib.Core.Bool.{Bool, true, false, _&&_}
+use mathlib.Core.Bool.{Bool, true, false, cond, _&&_}
 use mathlib.Core.List.{List, [], _∷_}
 use native.Mathlib.Numerals.{add-one, sub-one}
 use native.Mathlib.Omega.{arith}
@@ -9,7 +9,7 @@ use lib.Dec.{T, eqb, ltb, leb}
 use lib.ListN.{length, getD, drop, drop-of-length-le}
 use lib.Seq.{drop-cons}
 use borrow.Author.Tests.{leb-true, le-leb, eq-eqb, ne-eqb, lt-ltb, le-ltb}
-use Rattle.calendar.specs.Civil.{choose, leapDay, yearDays, monthDays, yearFrom, monthFrom}
+use Rattle.calendar.specs.Civil.{leapDay, yearDays, monthDays, yearFrom, monthFrom}
 
 abbrev all : (ℕ → Bool) → List ℕ → Bool
 all p [] = true
@@ -36,7 +36,7 @@ module _ (y : ℕ) where
   unfolding leapDay
   leap-small = go (eqb (y % 400) 0) (eqb (y % 100) 0) (eqb (y % 4) 0)
     where
-      go : (p q r : Bool) → choose p 1 (choose q 0 (choose r 1 0)) ≤ 1
+      go : (p q r : Bool) → cond p 1 (cond q 0 (cond r 1 0)) ≤ 1
       go true q r = omega arith
       go false true r = omega arith
       go false false true = omega arith
@@ -79,7 +79,7 @@ year-day zero y d = omega arith
 year-day (suc more) y d = go (year-day more (y + 1) (d - yearDays y)) (ltb d (yearDays y))
   where
     go : yearFrom more (y + 1) (d - yearDays y) .day ≤ d - yearDays y → (t : Bool)
-        → choose t (record { year = y; day = d }) (yearFrom more (y + 1) (d - yearDays y)) .day ≤ d
+        → cond t (record { year = y; day = d }) (yearFrom more (y + 1) (d - yearDays y)) .day ≤ d
     go ih true = omega arith
     go ih false = omega (arith, ih)
 

@@ -1,18 +1,14 @@
 -- The civil (Gregorian) calendar: the date of a day that is counted from 1 January 1970. Assumes nothing: these are definitions.
 use Prim.Native.Nat.{ℕ, zero, suc, _+_, _-_, _*_, _/_, _%_}
-use mathlib.Core.Bool.{Bool, true, false}
+use mathlib.Core.Bool.{Bool, true, false, cond}
 use mathlib.Core.List.{List, [], _∷_}
 use lib.Dec.{ltb, eqb}
 use Rattle.calendar.specs.declared.YearDay.{YearDay}
 use Rattle.calendar.specs.declared.Date.{Date}
 
-abbrev pub choose : {A : Type 0} → Bool → A → A → A
-choose true a b = a
-choose false a b = b
-
 -- every fourth year has a day more, but of the full centuries only every fourth
 unfoldable pub leapDay : ℕ → ℕ
-leapDay year = choose (eqb (year % 400) 0) 1 (choose (eqb (year % 100) 0) 0 (choose (eqb (year % 4) 0) 1 0))
+leapDay year = cond (eqb (year % 400) 0) 1 (cond (eqb (year % 100) 0) 0 (cond (eqb (year % 4) 0) 1 0))
 
 abbrev pub yearDays : ℕ → ℕ
 yearDays year = 365 + leapDay year
@@ -25,7 +21,7 @@ monthDays leap = 31 ∷ (28 + leap) ∷ 31 ∷ 30 ∷ 31 ∷ 30 ∷ 31 ∷ 31 �
 unfoldable pub yearFrom : ℕ → ℕ → ℕ → YearDay
 yearFrom zero year day = record { year = year; day = day }
 yearFrom (suc more) year day =
-    choose (ltb day (yearDays year)) (record { year = year; day = day })
+    cond (ltb day (yearDays year)) (record { year = year; day = day })
     (yearFrom more (year + 1) (day - yearDays year))
 
 -- n days after 1 January 1970; 400 years have 146,097 days
@@ -36,7 +32,7 @@ yearOf n = yearFrom 400 (1970 + n / 146097 * 400) (n % 146097)
 unfoldable pub monthFrom : ℕ → List ℕ → ℕ → ℕ → Date
 monthFrom year [] month day = record { year = year; month = month; day = day }
 monthFrom year (days ∷ more) month day =
-    choose (ltb day days) (record { year = year; month = month; day = day + 1 })
+    cond (ltb day days) (record { year = year; month = month; day = day + 1 })
     (monthFrom year more (month + 1) (day - days))
 
 abbrev pub monthOf : YearDay → Date

@@ -1,10 +1,10 @@
 -- Document 01, `chrono_tz`: Paris is UTC+1, and UTC+2 from 01:00 UTC on the last Sunday of March until 01:00 UTC on the last Sunday
 -- of October. Instants are seconds since 1970-01-01 00:00:00 UTC. Assumes nothing: these are definitions.
 use Prim.Native.Nat.{ℕ, _+_, _-_, _*_, _/_, _%_}
-use mathlib.Core.Bool.{Bool, _&&_}
+use mathlib.Core.Bool.{Bool, cond, _&&_}
 use mathlib.Core.List.{List, [], _∷_}
 use lib.Dec.{ltb, leb}
-use Rattle.calendar.specs.Civil.{choose, leapDay, yearOf, dateOf, lastSunday}
+use Rattle.calendar.specs.Civil.{leapDay, yearOf, dateOf, lastSunday}
 use Rattle.calendar.specs.declared.Date.{Date}
 
 -- 1 January of the year of day n
@@ -27,7 +27,7 @@ unfoldable pub isSummer : ℕ → Bool
 isSummer s = leb (oneOClock (lastSunday (marchEnd (s / 86400)))) s && ltb s (oneOClock (lastSunday (octoberEnd (s / 86400))))
 
 abbrev pub offsetAt : ℕ → ℕ
-offsetAt s = choose (isSummer s) 7200 3600
+offsetAt s = cond (isSummer s) 7200 3600
 
 -- the day and the date in Paris
 abbrev pub parisDay : ℕ → ℕ

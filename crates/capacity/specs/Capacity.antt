@@ -2,7 +2,7 @@
 use mathlib.Core.Path.{_≡_, refl, sym, ap}
 use mathlib.Core.List.{List, [], _∷_}
 use mathlib.Core.Logic.{inl, inr}
-use mathlib.Core.Bool.{Bool, true, false, _&&_, false≢true}
+use mathlib.Core.Bool.{Bool, true, false, cond, _&&_, false≢true}
 use Prim.Native.Nat.{ℕ, zero, suc, _+_, _*_, _/_, _^_, _≤_, _<_}
 use native.Mathlib.Omega.{arith}
 use native.Mathlib.Nat.{zero-mul, suc-mul, mul-le-mul-right}
@@ -10,7 +10,7 @@ use lib.IntN.{ℤ, pos, negsuc}
 use lib.ListN.{length, length-append, replicate, length-replicate}
 use lib.Dec.{leb, ltb, eqb}
 use borrow.Author.Tests.{ltb-true, ltb-false, le-leb, leb-true, leb-false}
-use Rattle.formats.specs.Law.{pick, manyW, All}
+use Rattle.formats.specs.Law.{manyW, All}
 use Rattle.formats.specs.Number.{groupsW, numberW, zig, littleW}
 use Rattle.formats.specs.Class.{Class, any, printable, token, utf8, all, allowed, sequences, inClass}
 use Rattle.formats.specs.Format.{Format, never, empty, number, signed, small, text, float, constant, list, choice, _&_, optional, Value, write, takes, Fits}
@@ -21,7 +21,7 @@ abbrev pub size : ℕ → ℕ
 size n = length (numberW n)
 
 abbrev pub larger : ℕ → ℕ → ℕ
-larger m n = pick (leb m n) n m
+larger m n = cond (leb m n) n m
 
 abbrev pub capacity : Format → ℕ
 capacity never = 0
@@ -143,7 +143,7 @@ attained (text l c) = ltb l (2 ^ 64) && filled c l
 attained float = true
 attained (constant c) = true
 attained (list l f) = ltb l (2 ^ 64) && (attained f && ltb 0 (capacity f))
-attained (choice a b) = pick (leb (capacity a) (capacity b)) (attained b) (attained a)
+attained (choice a b) = cond (leb (capacity a) (capacity b)) (attained b) (attained a)
 attained (a & b) = attained a && attained b
 
 pub record Largest (f : Format) : Type 0 where
@@ -158,7 +158,7 @@ both x y e f = rw (e, f) refl
 put-yes : (q m : ℕ) (x : Bool) → x ≡ true → put q m x ≡ true
 put-yes q m x e = rw e (go (eqb q m))
   where
-    go : (t : Bool) → pick t true true ≡ true
+    go : (t : Bool) → cond t true true ≡ true
     go true = refl
     go false = refl
 

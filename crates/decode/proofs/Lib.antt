@@ -1,8 +1,2 @@
 -- Lemmas on plain values.
-mod Applying
-mod Filing
-mod Gaps
-mod Ranks
-mod Settling
-mod Noting
-mod Writing
+pub mod Writing

@@ -18,7 +18,7 @@ use Rattle.decode.specs.Trip.{Maybe}
 use Rattle.decode.specs.Key.{empty, decimalOf, shown, prefixed, headOf, tailOf}
 use Rattle.decode.specs.Written.{Added, none, then, written-there, written-before, written-whole}
 use Rattle.decode.specs.Record.{maybe}
-use Rattle.decode.specs.Entity.{Short, Keyed}
+use Rattle.decode.specs.Keyed.{Short, Keyed}
 
 pub added-text : (out : List ℕ) (at : ℕ) (x out′ : List ℕ) → at + length x ≤ length out → out′ ≡ pasted out at x → Added out at x out′ (at + length x)
 added-text out at x out′ h e =

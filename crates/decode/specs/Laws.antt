@@ -1,17 +1,16 @@
 -- Laws of maps: what is got after a put, the order that a put keeps, equality by what is got, and walks over entries both ways. Assumes nothing.
-use Prim.Native.Nat.{ℕ, zero, suc, _≤_}
+use Prim.Native.Nat.{ℕ, suc, _+_, _≤_}
 use mathlib.Core.Path.{_≡_, refl, sym, ap, _∙_}
 use mathlib.Core.Bool.{Bool, true, false, _&&_}
 use mathlib.Core.List.{List, [], _∷_, _++_}
-use lib.ListN.{length, drop}
+use lib.ListN.{length}
 use mathlib.Core.Option.{Option, none, some}
 use native.Mathlib.Omega.{arith}
 use Rattle.slices.specs.declared.Order.{Order}
 use Rattle.slices.specs.declared.Order.the-variants.{Less, Same, More}
 use Rattle.realtime.specs.Tree.{orElse}
-use Rattle.formats.specs.Law.{All}
+use Rattle.formats.specs.Law.{All, none-some}
 use Rattle.decode.specs.Map.{Ordered, isLess, byOrder, get, put, puts, above, ascending, keep, keeps, lastAt, ifNone, mapValues}
-use Rattle.decode.specs.Index.{laid}
 
 pub both-true : (a b : Bool) → a && b ≡ true → (a ≡ true) × (b ≡ true)
 both-true true b e = (refl, e)
@@ -21,9 +20,6 @@ pub is-less : (o : Order) → isLess o ≡ true → o ≡ Less
 is-less Less e = refl
 is-less Same e = absurd (let z : _≡_ {A = ℕ} 0 1 = cc in omega arith)
 is-less More e = absurd (let z : _≡_ {A = ℕ} 0 1 = cc in omega arith)
-
-none-some : {A C : Type 0} {a : A} → none ≡ some a → C
-none-some e = absurd (let z : _≡_ {A = ℕ} 0 1 = cc in omega arith)
 
 unsome : {A : Type 0} {a b : A} → some a ≡ some b → a ≡ b
 unsome e = cc
@@ -243,6 +239,7 @@ module _ {K : Type 0} (O : Ordered K) {A : Type 0} where
   puts-longer [] m = omega arith
   puts-longer (e ∷ l) m = omega (arith, put-longer (e .0) (e .1) m, puts-longer l (put O (e .0) (e .1) m))
 
+  -- and longer by one at most for each entry
   pub put-one-more : (k : K) (v : A) (m : List (K × A)) → length (put O k v m) ≤ suc (length m)
   put-one-more k v [] = omega arith
   put-one-more k v (e ∷ m) = go (O .compare k (e .0)) (put-one-more k v m)
@@ -251,6 +248,10 @@ module _ {K : Type 0} (O : Ordered K) {A : Type 0} where
       go Less i = omega arith
       go Same i = omega arith
       go More i = omega (arith, i)
+
+  pub puts-most : (l m : List (K × A)) → length (puts O l m) ≤ length l + length m
+  puts-most [] m = omega arith
+  puts-most (e ∷ l) m = omega (arith, put-one-more (e .0) (e .1) m, puts-most l (put O (e .0) (e .1) m))
 
   -- what holds of every entry holds after a put of another of which it holds
   pub put-all : (P : K × A → Type 0) (k : K) (v : A) (m : List (K × A)) → P (k, v) → All P m → All P (put O k v m)
@@ -265,8 +266,3 @@ module _ {K : Type 0} (O : Ordered K) {A : Type 0} where
   pub puts-all : (P : K × A → Type 0) (l m : List (K × A)) → All P l → All P m → All P (puts O l m)
   puts-all P [] m g h = h
   puts-all P (e ∷ l) m g h = puts-all P l (put O (e .0) (e .1) m) (g .1) (put-all P (e .0) (e .1) m (g .0) h)
-
--- the first n updates of a slice are n
-pub laid-length : (n : ℕ) (u : List ℕ) → length (laid n u) ≡ n
-laid-length zero u = refl
-laid-length (suc n) u = ap suc (laid-length n (drop 3 u))

@@ -5,10 +5,7 @@ pub mod Laws
 pub mod Record
 pub mod Key
 pub mod Written
-pub mod Index
 pub mod Leaves
-pub mod Places
 pub mod Fine
-pub mod Entity
-pub mod Slots
+pub mod Keyed
 pub mod Examples

@@ -1,4 +1,5 @@
 -- What the readers of numbers find, by the tests that the code makes.
+use mathlib.Core.Bool.{cond}
 use mathlib.Core.Path.{_≡_, refl, sym, ap, _∙_}
 use mathlib.Core.List.{List, [], _∷_}
 use mathlib.Core.Option.{Option, none, some}
@@ -10,7 +11,7 @@ use lib.ListN.{length, drop, getD, length-drop, drop-of-length-le}
 use lib.Seq.{drop-cons}
 use lib.Dec.{eqb}
 use borrow.Author.Tests.{lt-ltb, le-ltb, eq-eqb, ne-eqb}
-use Rattle.formats.specs.Law.{Reader, Law, pick, bind}
+use Rattle.formats.specs.Law.{Reader, Law, bind}
 use Rattle.formats.specs.Number.{groupsR, groupsLaw, numberR, top, littleR, littleLaw}
 use Rattle.formats.specs.Outcome.{numbered, suffix}
 use Rattle.formats.specs.declared.Numeral.{Numeral}
@@ -97,7 +98,7 @@ module _ (s : List ℕ) (at b : ℕ) (h : at < length s) (e : b ≡ getD s at 0)
 
   -- another group follows
   module _ (k : ℕ) (z : k ≡ 0 → ⊥) (l : 128 ≤ b) (u : b < 256) (o : Numeral) (r : o ≡ numbered s (groupsR (k - 1) (drop (at + 1) s))) where
-    after : groupsR k (drop at s) ≡ bind (groupsR (k - 1) (drop (at + 1) s)) (λ h t. pick (eqb h 0) none (some (b - 128 + 128 * h, t)))
+    after : groupsR k (drop at s) ≡ bind (groupsR (k - 1) (drop (at + 1) s)) (λ h t. cond (eqb h 0) none (some (b - 128 + 128 * h, t)))
     after = let i : k ≡ suc (k - 1) = omega arith in ap (λ k. groupsR k (drop at s)) i ∙ rw (opened, le-ltb b 128 l, lt-ltb b 256 u) refl
 
     pub more-bad : o ≡ Bad → Bad ≡ numbered s (groupsR k (drop at s))

@@ -2,10 +2,9 @@
 -- UTF-8 is the Unicode Standard's table 3-7, "Well-Formed UTF-8 Byte Sequences", row by row.
 use mathlib.Core.List.{List, [], _∷_}
 use mathlib.Core.Option.{Option, none, some}
-use mathlib.Core.Bool.{Bool, true, false, not, _&&_}
+use mathlib.Core.Bool.{Bool, true, false, cond, not, _&&_}
 use Prim.Native.Nat.{ℕ}
 use lib.Dec.{leb, eqb}
-use Rattle.formats.specs.Law.{pick}
 
 pub data Class : Type 0 where
   any : Class  -- any bytes
@@ -45,12 +44,12 @@ rows =
 abbrev pub due : List (List Range) → ℕ → Option (List Range)
 due [] b = none
 due ([] ∷ more) b = due more b
-due ((r ∷ rest) ∷ more) b = pick (inside r b) (some rest) (due more b)
+due ((r ∷ rest) ∷ more) b = cond (inside r b) (some rest) (due more b)
 
 -- what is due after a byte, where it is to be the first of these
 abbrev pub next : List Range → ℕ → Option (List Range)
 next [] b = due rows b
-next (r ∷ rest) b = pick (inside r b) (some rest) none
+next (r ∷ rest) b = cond (inside r b) (some rest) none
 
 abbrev pub goesOn : Option (List Range) → (List Range → Bool) → Bool
 goesOn none k = false

@@ -4,7 +4,7 @@ use mathlib.Core.Path.{_≡_, refl, ap, _∙_}
 use mathlib.Core.List.{List, [], _∷_, _++_}
 use mathlib.Core.Option.{Option, none, some}
 use mathlib.Core.Logic.{⊎-elim}
-use mathlib.Core.Bool.{Bool, true, false}
+use mathlib.Core.Bool.{Bool, true, false, cond}
 use Prim.Native.Nat.{ℕ, zero, suc, _+_, _-_, _*_, _/_, _%_, _^_, _≤_, _<_}
 use native.Mathlib.Omega.{arith}
 use native.Mathlib.Nat.{pow-succ'}
@@ -12,7 +12,7 @@ use lib.IntN.{ℤ, pos, negsuc}
 use lib.ListN.{length}
 use lib.Dec.{ltb, eqb}
 use borrow.Author.Tests.{lt-ltb, le-ltb, ltb-true, ltb-false, eqb-true, eqb-false, eq-eqb, ne-eqb}
-use Rattle.formats.specs.Law.{Reader, Law, pick, bind, bind-some, pick-some, none-some, found, headed}
+use Rattle.formats.specs.Law.{Reader, Law, bind, bind-some, cond-some, none-some, found, headed}
 
 -- what k groups more can hold beside a first one: the bound below which the number is, top 9 = 2^64
 abbrev pub top : ℕ → ℕ
@@ -21,15 +21,15 @@ top (suc k) = 128 * top k
 
 abbrev pub groupsW : ℕ → ℕ → List ℕ
 groupsW zero n = n ∷ []
-groupsW (suc k) n = pick (ltb n 128) (n ∷ []) ((128 + n % 128) ∷ groupsW k (n / 128))
+groupsW (suc k) n = cond (ltb n 128) (n ∷ []) ((128 + n % 128) ∷ groupsW k (n / 128))
 
 abbrev pub groupsR : ℕ → Reader ℕ
 groupsR zero [] = none
-groupsR zero (b ∷ s) = pick (ltb b 2) (some (b, s)) none
+groupsR zero (b ∷ s) = cond (ltb b 2) (some (b, s)) none
 groupsR (suc k) [] = none
 groupsR (suc k) (b ∷ s) =
-    pick (ltb b 128) (some (b, s))
-    (pick (ltb b 256) (bind (groupsR k s) (λ h t. pick (eqb h 0) none (some (b - 128 + 128 * h, t)))) none)
+    cond (ltb b 128) (some (b, s))
+    (cond (ltb b 256) (bind (groupsR k s) (λ h t. cond (eqb h 0) none (some (b - 128 + 128 * h, t)))) none)
 
 top-pos : (k : ℕ) → 0 < top k
 top-pos zero = omega arith
@@ -63,7 +63,7 @@ back : (k : ℕ) (s : List ℕ) (n : ℕ) (rest : List ℕ) → groupsR k s ≡ 
 back zero [] n rest e = none-some e
 back zero (b ∷ s) n rest e =
     ⊎-elim (λ h. found (λ n rest. (b ∷ s ≡ n ∷ rest) × (n < 2)) (h .1) (refl, ltb-true b 2 (h .0)))
-    (λ h. none-some (h .1)) (pick-some (ltb b 2) _ _ _ e)
+    (λ h. none-some (h .1)) (cond-some (ltb b 2) _ _ _ e)
 back (suc k) [] n rest e = none-some e
 back (suc k) (b ∷ s) n rest e =
     let P : ℕ → List ℕ → Type 0 = λ n rest. (b ∷ s ≡ groupsW (suc k) n ++ rest) × (n < top (suc k)) in
@@ -78,9 +78,9 @@ back (suc k) (b ∷ s) n rest e =
       rw (more-written k b (p .0) (ltb-false b 128 (h .0)) (ltb-true b 256 (j .0)) (eqb-false (p .0) 0 (z .0))) (headed refl (ih .0)),
       omega (arith, ltb-true b 256 (j .0), ih .1),
     ))
-    (pick-some (eqb (p .0) 0) _ _ _ e′))
-    (λ j. none-some (j .1)) (pick-some (ltb b 256) _ _ _ (h .1)))
-    (pick-some (ltb b 128) _ _ _ e)
+    (cond-some (eqb (p .0) 0) _ _ _ e′))
+    (λ j. none-some (j .1)) (cond-some (ltb b 256) _ _ _ (h .1)))
+    (cond-some (ltb b 128) _ _ _ e)
 
 pub groupsLaw : (k : ℕ) → Law (groupsW k) (groupsR k) (λ n. n < top k)
 groupsLaw k = record { there = there k; back = back k }
@@ -107,7 +107,7 @@ zig (pos n) = 2 * n
 zig (negsuc n) = 2 * n + 1
 
 abbrev pub zag : ℕ → ℤ
-zag n = pick (eqb (n % 2) 0) (pos (n / 2)) (negsuc (n / 2))
+zag n = cond (eqb (n % 2) 0) (pos (n / 2)) (negsuc (n / 2))
 
 pub zag-zig : (z : ℤ) → zag (zig z) ≡ z
 zag-zig (pos n) = rw (eq-eqb (2 * n % 2) 0 (omega arith)) (ap pos (omega arith))
@@ -128,7 +128,7 @@ littleW (suc k) n = n % 256 ∷ littleW k (n / 256)
 abbrev pub littleR : ℕ → Reader ℕ
 littleR zero s = some (0, s)
 littleR (suc k) [] = none
-littleR (suc k) (b ∷ s) = pick (ltb b 256) (bind (littleR k s) (λ h t. some (b + 256 * h, t))) none
+littleR (suc k) (b ∷ s) = cond (ltb b 256) (bind (littleR k s) (λ h t. some (b + 256 * h, t))) none
 
 little-there : (k n : ℕ) (rest : List ℕ) → n < 256 ^ k → littleR k (littleW k n ++ rest) ≡ some (n, rest)
 little-there zero n rest h = let e : n ≡ 0 = omega arith in rw e refl
@@ -149,7 +149,7 @@ little-back (suc k) (b ∷ s) n rest e =
       headed (omega arith) (ih .0 ∙ ap (λ h. littleW k h ++ p .1) (omega arith)),
       omega (arith, ih .1, pow-succ' 256 k),
     ))
-    (λ h. none-some (h .1)) (pick-some (ltb b 256) _ _ _ e)
+    (λ h. none-some (h .1)) (cond-some (ltb b 256) _ _ _ e)
 
 pub littleLaw : (k : ℕ) → Law (littleW k) (littleR k) (λ n. n < 256 ^ k)
 littleLaw k = record { there = little-there k; back = little-back k }

@@ -1,4 +1,5 @@
 -- What a reader finds, as a place in the whole: how the interpreter's answers are said.
+use mathlib.Core.Bool.{cond}
 use mathlib.Core.Path.{_≡_, refl, sym, ap, _∙_}
 use mathlib.Core.List.{List, _++_, append-assoc}
 use mathlib.Core.Option.{Option, none, some}
@@ -7,7 +8,7 @@ use native.Mathlib.Omega.{arith}
 use lib.ListN.{length, take, drop, getD, length-append, take-append-drop}
 use lib.Seq.{drop-append-seam}
 use lib.Dec.{ltb}
-use Rattle.formats.specs.Law.{Reader, Law, pick, manyR}
+use Rattle.formats.specs.Law.{Reader, Law, manyR}
 use Rattle.formats.specs.Number.{zag}
 use Rattle.formats.specs.Class.{Class, any, printable, token, utf8}
 use Rattle.formats.specs.Format.{Format, never, empty, number, signed, small, text, float, constant, list, choice, _&_, read, element}
@@ -61,7 +62,7 @@ abbrev pub leafFormat : ℕ → ℕ → ℕ → Format
 leafFormat kind a b = nodeFormat kind a b (λ n. never)
 
 abbrev pub tagAt : List ℕ → ℕ → ℕ
-tagAt s at = pick (ltb at (length s)) (getD s at 0) 2
+tagAt s at = cond (ltb at (length s)) (getD s at 0) 2
 
 -- what is left is the whole past a place
 pub suffix : (p : ℕ) (s x rest : List ℕ) → drop p s ≡ x ++ rest → rest ≡ drop (length s - length rest) s

@@ -28,11 +28,11 @@ use Rattle.decode.specs.Trip as held
 use Rattle.decode.specs.Record.{tripIn}
 use Rattle.decode.specs.Key.{empty, datedKey, incompleteKey, inserts, entriesIn}
 use Rattle.decode.specs.Leaves.{Trips, entries}
-use Rattle.decode.specs.Index.{Place, index, Sound}
-use Rattle.decode.specs.Entity as entity
-use Rattle.decode.specs.Entity.{placed, Applies}
+use Rattle.slots.specs.Index.{Place, index, Sound}
+use Rattle.filing.specs.Entity as entity
+use Rattle.filing.specs.Entity.{placed, Applies}
 use Rattle.decode.specs.Fine.{Fine, Given, LeafFine, fine-sub, fine-rep, fine-last, tree-fine}
-use Rattle.decode.specs.Places.{orEnd, bytesAt, recordAt, heldAt, held, isNew, beyond, Readable}
+use Rattle.slots.specs.Places.{orEnd, bytesAt, recordAt, heldAt, held, isNew, beyond, Readable}
 use Rattle.index.specs.Message.{Judged, messageOf, Fit, AllFit, withEntities, Indexed}
 
 -- ---- a judged message

@@ -3,14 +3,13 @@ use Prim.Native.Nat.{ℕ, _≤_, _<_}
 use mathlib.Core.Path.{_≡_, refl, sym, ap, _∙_}
 use mathlib.Core.Bool.{Bool, true, false, cond, _||_, false≢true}
 use mathlib.Core.List.{List, [], _∷_}
-use mathlib.Core.Option.{some}
 use native.Mathlib.Omega.{arith}
 use lib.Dec.{ltb}
-use lib.ListN.{length, take, drop}
+use lib.ListN.{length, take}
 use borrow.Author.Tests.{lt-ltb, le-ltb}
 use Rattle.formats.specs.Law.{All}
-use Rattle.formats.specs.Format.{Format, Value, list}
-use Rattle.places.specs.Here.{Here, reads}
+use Rattle.formats.specs.Format.{list}
+use Rattle.places.specs.Here.{Here}
 use Rattle.realtime.specs.Tree.{rep}
 use Rattle.realtime.specs.Schema.{feed}
 use Rattle.merged.specs.Views.{header, HeaderRead}
@@ -18,13 +17,14 @@ use Rattle.merged.specs.declared.Header.{Header}
 use Rattle.decode.specs.Trip.{tripEntry}
 use Rattle.decode.specs.Map.{puts}
 use Rattle.decode.specs.Order.{texts}
-use Rattle.decode.specs.Index.{Place, placeAt, slotted, index, Sound}
-use Rattle.decode.specs.Slots.{index-length}
+use Rattle.decode.specs.Laws.{puts-all}
+use Rattle.slots.specs.Index.{Place, placeAt, slotted, index, Sound}
+use Rattle.slots.specs.Slots.{index-length}
 use Rattle.decode.specs.Leaves.{Trips, entries, differential, leaves}
-use Rattle.decode.specs.Places.{oldAt, heldAt, held, isNew, crowded, anyCrowded, Readable}
+use Rattle.slots.specs.Places.{oldAt, heldAt, held, isNew, crowded, anyCrowded, Readable}
 use Rattle.updates.specs.Updates.{ReadableSlot, crowdedIn}
 use Rattle.updates.specs.Laws.{crowded-held}
-use Rattle.old_trips.specs.Old.{Stands, Joined}
+use Rattle.old_trips.specs.Old.{Joined}
 use Rattle.index.specs.Message.{Judged, messageOf, Fit, AllFit, withEntities, Indexed}
 use Rattle.index.specs.Leaving.{leaving, manyTrips, manyUpdates, trips, viewLeft, Old, Begun, Leaves}
 use Rattle.index.specs.declared.Left.{Left}
@@ -32,23 +32,16 @@ use Rattle.index.proofs.Going.{Whole, whole, message-is, held-length}
 
 -- ---- the index before the entities
 
-front : {A B : Type 0} (x y : A × B) → some x ≡ some y → x .0 ≡ y .0
-front x y e = cc
-
--- what stands at a place is one value
-one-value : (f : Format) {o : List ℕ} {at p q : ℕ} {v w : Value f} → Here f o at p v → Here f o at q w → v ≡ w
-one-value f {o} {at} {p} {q} {v} {w} h k = front {A = Value f} {B = List ℕ} (v, drop p o) (w, drop q o) (sym (reads h) ∙ reads k)
-
 pub begun-none : {o keys marks order : List ℕ} {at : ℕ} {d : Bool} → Sound keys marks order 0 → d ≡ false → Begun o at d keys marks order 0
 unfolding held
 begun-none S e = record { sound = S; few = omega arith; aged = tt; of = λ v q h s. rw e refl }
 
-pub begun-old : {o keys marks order : List ℕ} {at n : ℕ} {d : Bool} → Stands o at → Joined o at keys marks order n → d ≡ true → Begun o at d keys marks order n
-begun-old S J e = record {
+pub begun-old : {o keys marks order : List ℕ} {at n : ℕ} {d : Bool} → Joined o at keys marks order n → d ≡ true → Begun o at d keys marks order n
+begun-old J e = record {
   sound = J .sound;
   few = J .few;
   aged = J .aged;
-  of = λ v q h s. rw e (J .of v q h (let z = one-value (list 2048 tripEntry) (S .here) h in rw z at (S .ascends)) s);
+  of = λ v q h s. rw e (J .of v q h s);
 }
 
 -- ---- the places of an index are fit
@@ -66,13 +59,18 @@ aged-fit s o (e ∷ m) a c =
       aged-fit s o m (a .1) (b .1),
     )
 
+all-calm : (m : Trips) → All (λ e. crowded (e .1) ≡ false) m → anyCrowded m ≡ false
+unfolding anyCrowded
+all-calm [] h = refl
+all-calm (e ∷ m) h = rw (h .0) (all-calm m (h .1))
+
 begun-fit : {o keys marks order : List ℕ} {at n : ℕ} {d : Bool} (s : List ℕ) → Old o at → Begun o at d keys marks order n → AllFit s o (index keys marks order n)
 unfolding anyCrowded
 begun-fit {o} {keys} {marks} {order} {at} {n} {d} s O B =
     aged-fit s o (index keys marks order n) (B .aged) (ap anyCrowded (B .of (O .stands .trips) (O .stands .end) (O .stands .here) s) ∙ go d)
   where
-    go : (b : Bool) → anyCrowded (cond b (O .stands .trips) []) ≡ false
-    go true = O .calm
+    go : (b : Bool) → anyCrowded (cond b (puts texts (O .stands .trips) []) []) ≡ false
+    go true = all-calm (puts texts (O .stands .trips) []) (puts-all texts (λ e. crowded (e .1) ≡ false) (O .stands .trips) [] (O .calm) tt)
     go false = refl
 
 slots-readable : (s o keys marks : List ℕ) (n : ℕ) (l : List ℕ) → n ≤ 2049 → All (λ j. j < n) l → AllFit s o (slotted keys marks l) → All (ReadableSlot s marks) l
@@ -90,14 +88,14 @@ module _ {name s o keys₀ marks₀ order₀ keys marks order : List ℕ} {at n 
   flag : h .differential ≡ differential (messageOf s)
   flag = let W = whole s J in ap (λ v. v .differential) (H .of (W .message) (W .read)) ∙ ap differential (sym (message-is W))
 
-  left-is : (v : Trips) (q : ℕ) → Here (list 2048 tripEntry) o at q v → withEntities name s (held s o (index keys₀ marks₀ order₀ n)) ≡ leaves name (messageOf s) v
+  left-is : (v : Trips) (q : ℕ) → Here (list 2048 tripEntry) o at q v → withEntities name s (held s o (index keys₀ marks₀ order₀ n)) ≡ leaves name (messageOf s) (puts texts v [])
   unfolding leaves
-  left-is v q k = ap (withEntities name s) (B .of v q k s ∙ ap (λ b. cond b v []) flag)
+  left-is v q k = ap (withEntities name s) (B .of v q k s ∙ ap (λ b. cond b (puts texts v []) []) flag)
 
   pub leaves-many : 2048 < m → Leaves name s o at keys marks order Left.ManyTrips
   leaves-many g = record {
     sound = λ i e. absurd (let z : _≡_ {A = ℕ} 0 1 = cc in omega arith);
-    of = λ v q k. sym (rw (lt-ltb 2048 (length (leaves name (messageOf s) v)) (rw (← left-is v q k) (I .many g o))) refl);
+    of = λ v q k. sym (rw (lt-ltb 2048 (length (leaves name (messageOf s) (puts texts v []))) (rw (← left-is v q k) (I .many g o))) refl);
   }
 
   module _ (g : m ≤ 2048) where
@@ -107,14 +105,14 @@ module _ {name s o keys₀ marks₀ order₀ keys marks order : List ℕ} {at n 
     pub readable-slots : All (ReadableSlot s marks) (take m order)
     readable-slots = slots-readable s o keys marks m (take m order) (omega arith) (I .sound .slots) fits
 
-    held-is : (v : Trips) (q : ℕ) → Here (list 2048 tripEntry) o at q v → held s o (index keys marks order m) ≡ leaves name (messageOf s) v
+    held-is : (v : Trips) (q : ℕ) → Here (list 2048 tripEntry) o at q v → held s o (index keys marks order m) ≡ leaves name (messageOf s) (puts texts v [])
     held-is v q k = I .few g o ∙ left-is v q k
 
-    short : (v : Trips) (q : ℕ) → Here (list 2048 tripEntry) o at q v → ltb 2048 (length (leaves name (messageOf s) v)) ≡ false
-    short v q k = le-ltb 2048 (length (leaves name (messageOf s) v)) (omega (arith, sym (ap length (held-is v q k)), held-length s o (index keys marks order m), index-length keys marks order m (I .sound)))
+    short : (v : Trips) (q : ℕ) → Here (list 2048 tripEntry) o at q v → ltb 2048 (length (leaves name (messageOf s) (puts texts v []))) ≡ false
+    short v q k = le-ltb 2048 (length (leaves name (messageOf s) (puts texts v []))) (omega (arith, sym (ap length (held-is v q k)), held-length s o (index keys marks order m), index-length keys marks order m (I .sound)))
 
     module _ {c : Bool} (C : c ≡ crowdedIn s marks (take m order)) where
-      crowds : (v : Trips) (q : ℕ) → Here (list 2048 tripEntry) o at q v → anyCrowded (leaves name (messageOf s) v) ≡ c
+      crowds : (v : Trips) (q : ℕ) → Here (list 2048 tripEntry) o at q v → anyCrowded (leaves name (messageOf s) (puts texts v [])) ≡ c
       crowds v q k = ap anyCrowded (sym (held-is v q k)) ∙ sym (crowded-held s o keys marks (take m order) (slots-calm s o keys marks (take m order) fits)) ∙ sym C
 
       pub leaves-crowded : c ≡ true → Leaves name s o at keys marks order Left.ManyUpdates

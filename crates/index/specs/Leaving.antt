@@ -9,9 +9,11 @@ use Rattle.formats.specs.Law.{All}
 use Rattle.formats.specs.Format.{list}
 use Rattle.places.specs.Here.{Here}
 use Rattle.decode.specs.Trip.{tripEntry}
-use Rattle.decode.specs.Index.{index, Sound}
+use Rattle.decode.specs.Map.{puts}
+use Rattle.decode.specs.Order.{texts}
+use Rattle.slots.specs.Index.{index, Sound}
 use Rattle.decode.specs.Leaves.{Trips, leaves}
-use Rattle.decode.specs.Places.{held, isNew, anyCrowded}
+use Rattle.slots.specs.Places.{held, isNew, crowded, anyCrowded}
 use Rattle.old_trips.specs.Old.{Stands}
 use Rattle.index.specs.Message.{messageOf}
 use Rattle.index.specs.declared.Left.{Left}
@@ -34,16 +36,16 @@ viewLeft t (Left.Trips n) = trips (t n)
 -- a feed's trips stand in the old overlay, none with more than 128 updates
 pub record Old (o : List ℕ) (at : ℕ) : Type 0 where
   pub stands : Stands o at
-  pub calm : anyCrowded (stands .trips) ≡ false
+  pub calm : All (λ e. crowded (e .1) ≡ false) (stands .trips)
 
 -- the index before the entities: the old trips that stand at `at`, or none
 pub record Begun (o : List ℕ) (at : ℕ) (differential : Bool) (keys marks order : List ℕ) (r : ℕ) : Type 0 where
   pub sound : Sound keys marks order r
   pub few : r ≤ 2048
   pub aged : All (λ e. isNew (e .1) ≡ false) (index keys marks order r)
-  pub of : (v : Trips) (q : ℕ) → Here (list 2048 tripEntry) o at q v → (s : List ℕ) → held s o (index keys marks order r) ≡ cond differential v []
+  pub of : (v : Trips) (q : ℕ) → Here (list 2048 tripEntry) o at q v → (s : List ℕ) → held s o (index keys marks order r) ≡ cond differential (puts texts v []) []
 
--- THE INDEX IS WHAT THE MESSAGE LEAVES, in order
+-- THE INDEX IS WHAT THE MESSAGE LEAVES, in order. The old trips of a state ascend, and then `puts texts v []` is v (`puts-itself`)
 pub record Leaves (feed s o : List ℕ) (at : ℕ) (keys marks order : List ℕ) (r : Left) : Type 0 where
   pub sound : (n : ℕ) → r ≡ Left.Trips n → Sound keys marks order n
-  pub of : (v : Trips) (q : ℕ) → Here (list 2048 tripEntry) o at q v → viewLeft (λ n. held s o (index keys marks order n)) r ≡ leaving (leaves feed (messageOf s) v)
+  pub of : (v : Trips) (q : ℕ) → Here (list 2048 tripEntry) o at q v → viewLeft (λ n. held s o (index keys marks order n)) r ≡ leaving (leaves feed (messageOf s) (puts texts v []))

@@ -12,9 +12,9 @@ use Rattle.realtime.specs.Judge.{rules, asked}
 use Rattle.realtime.specs.declared.Verdict.{Verdict}
 use Rattle.decode.specs.Map.{puts}
 use Rattle.decode.specs.Order.{texts}
-use Rattle.decode.specs.Index.{Place, index, Sound}
+use Rattle.slots.specs.Index.{Place, index, Sound}
 use Rattle.decode.specs.Leaves.{Trips, entries}
-use Rattle.decode.specs.Places.{orEnd, oldAt, held, isNew, crowded, Readable}
+use Rattle.slots.specs.Places.{orEnd, oldAt, held, isNew, crowded, Readable}
 
 -- the message is within questions 4 to 6
 abbrev pub Judged : List ℕ → Type 0

@@ -3,7 +3,7 @@ use merged::Item;
 ghost use mathlib.Core.Path.{_≡_};
 ghost use Prim.Native.Nat.{_≤_};
 ghost use lib.ListN.{length};
-ghost use Rattle.decode.specs.Index.{index, Sound};
+ghost use Rattle.slots.specs.Index.{index, Sound};
 ghost use Rattle.old_trips.specs.Old.{Stands};
 ghost use Rattle.index.specs.Message.{Judged, Indexed};
 ghost use Rattle.index.specs.Leaving.{Old, Begun, Leaves};
@@ -32,7 +32,7 @@ pub fn apply_entities(
                 len,
                 walk: rest,
             } => {
-                m = decode::apply(keys, marks, order, m, feed, s, at, len);
+                m = filing::apply(keys, marks, order, m, feed, s, at, len);
                 if m > 2048 {
                     return m;
                 }

@@ -1,6 +1,6 @@
 -- Signed numbers as the code has them: a signed local holds bits, `toZ w64 (ofZ w64 z)`.
 use mathlib.Core.Path.{_≡_, refl, sym, ap, _∙_}
-use mathlib.Core.Bool.{Bool, true, false}
+use mathlib.Core.Bool.{Bool, true, false, cond}
 use Prim.Native.Nat.{ℕ, zero, suc, _+_, _-_, _*_, _/_, _%_, _^_, _≤_, _<_}
 use native.Mathlib.Omega.{arith}
 use lib.IntN.{ℤ, pos, negsuc, _+ℤ_, _-ℤ_, subℕ, natAbs}
@@ -10,7 +10,6 @@ use borrow.Author.Tests.{lt-ltb, le-ltb, ltb-true, ltb-false, eq-eqb, ne-eqb, eq
 use mir.Syntax.{w32, w64}
 use mir.Val.{SFits, Fits, toZ, ofZ}
 use mir.Facts.{toZ-ofZ}
-use Rattle.formats.specs.Law.{pick}
 use Rattle.formats.specs.Number.{zig, zag}
 use Rattle.integers.specs.Wrapped.{low32, signed32, wrap32}
 
@@ -134,10 +133,10 @@ low-sub a b = go (ltb a b) refl
 next-low : (x : ℕ) → suc x % 4294967296 ≡ (x % 4294967296 + 1) % 4294967296
 next-low x = omega arith
 
-wrapped-one : (r : ℕ) → r < 4294967296 → (r + 1) % 4294967296 ≡ pick (eqb r 4294967295) 0 (r + 1)
+wrapped-one : (r : ℕ) → r < 4294967296 → (r + 1) % 4294967296 ≡ cond (eqb r 4294967295) 0 (r + 1)
 wrapped-one r h = go (eqb r 4294967295) refl
   where
-    go : (t : Bool) → eqb r 4294967295 ≡ t → (r + 1) % 4294967296 ≡ pick t 0 (r + 1)
+    go : (t : Bool) → eqb r 4294967295 ≡ t → (r + 1) % 4294967296 ≡ cond t 0 (r + 1)
     go true e = omega (arith, eqb-true r 4294967295 e)
     go false e = omega (arith, eqb-false r 4294967295 e)
 

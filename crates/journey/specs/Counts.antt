@@ -13,7 +13,8 @@ use Rattle.formats.specs.Format.{Format, text, list, _&_, Value}
 use Rattle.judging.specs.Judged.{ok}
 use Rattle.overlay.specs.State.{State, overlay}
 use Rattle.overlay.specs.Records.{Feeds, shown}
-use Rattle.overlay.specs.Rules.{both-true, and-true, all-true, few, counted, judges, unjudged}
+use Rattle.decode.specs.Laws.{both-true}
+use Rattle.overlay.specs.Rules.{and-true, all-true, few, counted, judges, unjudged}
 use Rattle.journey.specs.Card.{middle, transit, leg, card, cardOf, transitOf, middleOf, cardValue, transitValue, middleValue}
 use Rattle.journey.specs.Enrich.{trip-rt, enrichMiddle, enrichTransit, enrichLeg, transits, headers-of, enrich-with-realtime}
 use Rattle.journey.specs.Headers.{map-length, headers-few}

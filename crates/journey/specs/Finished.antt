@@ -21,7 +21,8 @@ use Rattle.alerts.specs.Alert.{Alert}
 use Rattle.alerts.specs.Label.{label}
 use Rattle.alerts.specs.LabelLaws.{label-utf8, label-length}
 use Rattle.overlay.specs.State.{Vehicle, vehicle, latitudeOf, longitudeOf, updatedOf}
-use Rattle.overlay.specs.Rules.{Judged, left, right, joined, elements, listed, absent, present, both-true, and-true}
+use Rattle.decode.specs.Laws.{both-true}
+use Rattle.overlay.specs.Rules.{Judged, left, right, joined, elements, listed, absent, present, and-true}
 use Rattle.overlay.specs.Keeps.{each-map}
 use Rattle.overlay.specs.Entries.{int32-judged}
 use Rattle.decode.specs.Fine.{Given}

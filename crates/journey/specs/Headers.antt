@@ -1,7 +1,7 @@
 -- The headers of a finished card: what holds of every alert's label holds of them, and over a valid state they are at most 1,024, so that question 7 asks
 -- nothing more of a finished card's headers. Assumes nothing.
 use mathlib.Core.Path.{_≡_, refl, sym, ap, _∙_}
-use mathlib.Core.Bool.{Bool, true, false, not}
+use mathlib.Core.Bool.{Bool, true, false, cond, not}
 use mathlib.Core.List.{List, [], _∷_, _++_, map}
 use mathlib.Core.Option.{Option, none, some, Option·map}
 use Prim.Native.Nat.{ℕ, suc, _+_, _*_, _≤_}
@@ -10,19 +10,19 @@ use native.Mathlib.Nat.{suc-mul}
 use lib.ListN.{length, length-append}
 use Rattle.slices.specs.declared.Order.{Order}
 use Rattle.slices.specs.declared.Order.the-variants.{Less, Same, More}
-use Rattle.formats.specs.Law.{All, pick, none-some}
+use Rattle.formats.specs.Law.{All, none-some}
 use Rattle.formats.specs.Class.{all}
 use Rattle.formats.specs.Format.{list, optional, _&_}
 use Rattle.judging.specs.Judged.{ok}
 use Rattle.decode.specs.Map.{isLess, byOrder, get, put, puts, above, ascending}
 use Rattle.decode.specs.Order.{texts}
-use Rattle.decode.specs.Laws.{is-less, get-put, puts-ascending, rest-ascending}
+use Rattle.decode.specs.Laws.{both-true, is-less, get-put, puts-ascending, rest-ascending}
 use Rattle.alerts.specs.Lists.{filter, isEmpty, join}
 use Rattle.alerts.specs.Alert.{Alert, alert}
 use Rattle.alerts.specs.Label.{label}
 use Rattle.overlay.specs.State.{Feed, State, timestamp, vehicleEntry, feedEntry, overlay, timestampOf, tripsOf, vehiclesOf, alertsOf, feedsOf}
 use Rattle.decode.specs.Trip.{tripEntry}
-use Rattle.overlay.specs.Rules.{both-true, few, counted}
+use Rattle.overlay.specs.Rules.{few, counted}
 use Rattle.overlay.specs.Keeps.{each-map, each-both, each-puts, get-each, lower}
 use Rattle.decode.specs.Fine.{Given}
 use Rattle.overlay.specs.Records.{Records, Feeds, recordsOf, shown}
@@ -40,7 +40,7 @@ each-filter : {A : Type 0} (P : A → Type 0) (p : A → Bool) (l : List A) → 
 each-filter P p [] h = tt
 each-filter P p (a ∷ l) h = go (p a) (each-filter P p l (h .1))
   where
-    go : (b : Bool) → All P (filter p l) → All P (pick b (a ∷ filter p l) (filter p l))
+    go : (b : Bool) → All P (filter p l) → All P (cond b (a ∷ filter p l) (filter p l))
     go true x = (h .0, x)
     go false x = x
 

@@ -1,12 +1,11 @@
 -- The questions on numbers, counts and texts, by the tests that the code makes.
 use mathlib.Core.Path.{_≡_, refl, sym, _∙_}
 use mathlib.Core.List.{List}
-use mathlib.Core.Bool.{Bool, true, false, _&&_}
+use mathlib.Core.Bool.{Bool, true, false, cond, _&&_}
 use Prim.Native.Nat.{ℕ, zero, suc, _/_, _%_, _≤_, _<_}
 use lib.ListN.{length}
 use lib.Dec.{leb}
 use borrow.Author.Tests.{le-leb, lt-leb, eq-eqb, ne-eqb}
-use Rattle.formats.specs.Law.{pick}
 use Rattle.formats.specs.Number.{zag}
 use Rattle.judging.specs.Judged.{atMost, answer, sooner}
 
@@ -19,16 +18,16 @@ module _ (x y : ℕ) where
   sooner-zero e = rw e refl
 
   module _ (z : x ≡ 0 → ⊥) (w : y ≡ 0 → ⊥) where
-    both : (x y : ℕ) → (x ≡ 0 → ⊥) → (y ≡ 0 → ⊥) → pick (leb x y) x y ≡ sooner x y
+    both : (x y : ℕ) → (x ≡ 0 → ⊥) → (y ≡ 0 → ⊥) → cond (leb x y) x y ≡ sooner x y
     both zero y z w = absurd (z refl)
     both (suc x) zero z w = absurd (w refl)
     both (suc x) (suc y) z w = refl
 
     pub sooner-first : x ≤ y → x ≡ sooner x y
-    sooner-first h = let e : pick (leb x y) x y ≡ x = rw (le-leb x y h) refl in sym e ∙ both x y z w
+    sooner-first h = let e : cond (leb x y) x y ≡ x = rw (le-leb x y h) refl in sym e ∙ both x y z w
 
     pub sooner-second : y < x → y ≡ sooner x y
-    sooner-second h = let e : pick (leb x y) x y ≡ y = rw (lt-leb x y h) refl in sym e ∙ both x y z w
+    sooner-second h = let e : cond (leb x y) x y ≡ y = rw (lt-leb x y h) refl in sym e ∙ both x y z w
 
 module _ (lo hi n : ℕ) where
   pub range-low : n < lo → 6 ≡ answer 6 (leb lo n && leb n hi)

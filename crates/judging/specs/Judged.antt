@@ -2,12 +2,12 @@
 use mathlib.Core.List.{List}
 use mathlib.Core.Option.{Option, none, some}
 use mathlib.Core.Logic.{_⊎_, inl, inr}
-use mathlib.Core.Bool.{Bool, true, false, _&&_}
+use mathlib.Core.Bool.{Bool, true, false, cond, _&&_}
 use Prim.Native.Nat.{ℕ, zero, suc, _-_}
 use lib.IntN.{ℤ, pos, negsuc}
 use lib.ListN.{length, drop}
 use lib.Dec.{leb, eqb}
-use Rattle.formats.specs.Law.{pick, manyR}
+use Rattle.formats.specs.Law.{manyR}
 use Rattle.formats.specs.Class.{Class, inClass, all}
 use Rattle.formats.specs.Format.{Format, never, empty, number, signed, small, text, float, constant, list, choice, _&_, Value, read, element}
 use Rattle.judging.specs.declared.Judge.{Judge}
@@ -21,7 +21,7 @@ atMost (negsuc m) (negsuc n) = leb n m
 
 -- a question that is not the one that is put is answered yes
 abbrev pub put : ℕ → ℕ → Bool → Bool
-put q mine x = pick (eqb q mine) x true
+put q mine x = cond (eqb q mine) x true
 
 abbrev pub either : {A B : Type 0} → (A → Bool) → (B → Bool) → (A ⊎ B) → Bool
 either p q (inl a) = p a
@@ -43,7 +43,7 @@ ok q (a & b) = λ v. ok q a (v .0) && ok q b (v .1)
 
 -- 0 for yes, else the question's number
 abbrev pub answer : ℕ → Bool → ℕ
-answer q x = pick x 0 q
+answer q x = cond x 0 q
 
 -- a text, for every limit
 abbrev pub textAnswer : ℕ → Class → List ℕ → ℕ
@@ -51,7 +51,7 @@ textAnswer limit c v = answer 5 (leb (length v) limit && inClass c v)
 
 -- 0 where all hold, else the number of the first that does not
 abbrev pub first : Bool → Bool → Bool → ℕ
-first five six seven = pick five (pick six (answer 7 seven) 6) 5
+first five six seven = cond five (cond six (answer 7 seven) 6) 5
 
 -- each question is put to the whole value before the next is put to any part
 abbrev pub verdict : (f : Format) → Value f → ℕ
@@ -64,7 +64,7 @@ verdicts f v = first (all (ok 5 f) v) (all (ok 6 f) v) (all (ok 7 f) v)
 abbrev pub sooner : ℕ → ℕ → ℕ
 sooner zero y = y
 sooner (suc x) zero = suc x
-sooner (suc x) (suc y) = pick (leb (suc x) (suc y)) (suc x) (suc y)
+sooner (suc x) (suc y) = cond (leb (suc x) (suc y)) (suc x) (suc y)
 
 -- what the judge answers: the place past the value, and its verdict
 abbrev pub judged : {A : Type 0} → (A → ℕ) → List ℕ → Option (A × List ℕ) → Judge

@@ -18,6 +18,7 @@ use Rattle.decode.specs.Order.{texts, numbers, cons-before, lex-itself}
 use Rattle.decode.specs.Key.{shown, tailOf, incompleteKey, rawOk, datedOk, keyOk}
 use Rattle.decode.specs.Leaves as leaves
 use Rattle.alerts.specs.Alert.{alert}
+use Rattle.overlay.specs.Entries.{or-right, incomplete-ok}
 use Rattle.overlay.specs.State.{State, Feed, Vehicle, overlay, feedEntry, vehicle, vehicleEntry, timestamp, feedWith, stateWith}
 use Rattle.overlay.specs.Valid.{tripValid, feedValid, within, valid}
 use Rattle.overlay.specs.Rules.{and-true}
@@ -125,15 +126,6 @@ module _ (k : ℕ) where
       level (35 ∷ 114 ∷ 61 ∷ (name 14 k ++ 58 ∷ [])) (name 62 i ++ behind) (name 62 (suc i) ++ behind)
       ∙ name-before i (replicate 62 97 ++ behind) (replicate 62 97 ++ behind)
 
-or-true : (a : Bool) → (a || true) ≡ true
-or-true true = refl
-or-true false = refl
-
--- each key is its record's own
-own-key : (f : List ℕ) (t : Trip) → keyOk f (incompleteKey f t) t ≡ true
-unfolding keyOk
-own-key f t = let x = incompleteKey f t in rw (lex-itself x, or-true (datedOk (dateOf t) x)) (or-true (rawOk x))
-
 abbrev pub vehicleAt : ℕ → List ℕ × Vehicle
 vehicleAt i = (name 62 i, most vehicle refl)
 
@@ -157,12 +149,12 @@ unfolding feedValid
 feed-valid k =
     and-true (table-ascending texts (entryAt k) (keys-ascend k) 0 2048)
     (and-true
-    (table-all (entryAt k) (tripValid (name 14 k)) 2048 (λ i l. and-true (own-key (name 14 k) (tripAt i)) updates-ascend) 0 2048 (omega arith))
+    (table-all (entryAt k) (tripValid (name 14 k)) 2048 (λ i l. and-true (incomplete-ok (name 14 k) (tripAt i)) updates-ascend) 0 2048 (omega arith))
     (and-true (table-ascending texts vehicleAt (λ i. name-before i (replicate 62 97) (replicate 62 97)) 0 1024)
     (count-all (leaves.countOf (name 14 k) (table (entryAt k) 0 2048)) (length (table (entryAt k) 0 2048)) (table-length (entryAt k) 0 2048))))
   where
     count-all : (n m : ℕ) → m ≡ 2048 → (eqb 2048 n || eqb 2048 m) ≡ true
-    count-all n m e = rw e (or-true (eqb 2048 n))
+    count-all n m e = rw e (or-right (eqb 2048 n) true refl)
 
 -- THE LARGEST STATE
 abbrev pub largest : State

@@ -2,14 +2,14 @@
 use mathlib.Core.Path.{_≡_, refl, sym, ap, _∙_}
 use mathlib.Core.List.{List, [], _∷_, _++_, append-nil}
 use mathlib.Core.Option.{Option, none, some}
-use mathlib.Core.Bool.{Bool, true, false, not, _&&_, _||_}
+use mathlib.Core.Bool.{Bool, true, false, cond, not, _&&_, _||_}
 use Prim.Native.Nat.{ℕ, zero, suc, _+_, _-_, _≤_, _<_}
 use native.Mathlib.Omega.{arith}
 use lib.Dec.{leb, eqb}
 use lib.ListN.{length, getD, take, drop, length-append, length-drop}
 use lib.Seq.{take-all, length-take-le}
 use borrow.Author.Tests.{le-leb, lt-leb, leb-true, leb-false, eq-eqb, ne-eqb, not-true, not-false}
-use Rattle.formats.specs.Law.{pick, none-some}
+use Rattle.formats.specs.Law.{none-some}
 use Rattle.alerts.specs.Lists.{any, filter, isEmpty}
 use Rattle.slices.specs.Lists.{equal}
 use Rattle.alerts.specs.Text.{text, same, begins, ends, contains, later, find}
@@ -122,14 +122,14 @@ module _ (s n : List ℕ) (t : Bool) where
 pub lesser-within : (m n k : ℕ) → k ≤ m → k ≤ n → (k ≤ lesser m n) × (lesser m n ≤ n)
 lesser-within m n k h g = go (leb m n) refl
   where
-    go : (t : Bool) → leb m n ≡ t → (k ≤ pick t m n) × (pick t m n ≤ n)
+    go : (t : Bool) → leb m n ≡ t → (k ≤ cond t m n) × (cond t m n ≤ n)
     go true e = (h, leb-true m n e)
     go false e = (g, omega arith)
 
 window-is : (s : List ℕ) (i n : ℕ) → i + n ≤ length s → take (lesser (i + n + 24) (length s) - (i - 48)) (drop (i - 48) s) ≡ window s i n
 window-is s i n h = go (leb (i + n + 24) (length s)) refl
   where
-    go : (t : Bool) → leb (i + n + 24) (length s) ≡ t → take (pick t (i + n + 24) (length s) - (i - 48)) (drop (i - 48) s) ≡ window s i n
+    go : (t : Bool) → leb (i + n + 24) (length s) ≡ t → take (cond t (i + n + 24) (length s) - (i - 48)) (drop (i - 48) s) ≡ window s i n
     go true e = refl
     go false e =
         tail-whole (i - 48) s
@@ -170,7 +170,7 @@ find-room p (b ∷ s) i e = go (begins p (b ∷ s)) refl (find p s) refl e (find
     unsome : {x y : ℕ} → some x ≡ some y → x ≡ y
     unsome e = cc
 
-    go : (t : Bool) → begins p (b ∷ s) ≡ t → (o : Option ℕ) → find p s ≡ o → pick t (some 0) (later o) ≡ some i
+    go : (t : Bool) → begins p (b ∷ s) ≡ t → (o : Option ℕ) → find p s ≡ o → cond t (some 0) (later o) ≡ some i
         → ((k : ℕ) → find p s ≡ some k → k + length p ≤ length s) → i + length p ≤ suc (length s)
     go true h o eo e ih =
         let (y, g) = begins-true p (b ∷ s) h in
@@ -268,7 +268,7 @@ any-filter : (q p : List ℕ → Bool) (l : List (List ℕ)) → any q (filter p
 any-filter q p [] = refl
 any-filter q p (m ∷ l) = go (p m) (any-filter q p l)
   where
-    go : (t : Bool) → any q (filter p l) ≡ any (λ m. p m && q m) l → any q (pick t (m ∷ filter p l) (filter p l)) ≡ t && q m || any (λ m. p m && q m) l
+    go : (t : Bool) → any q (filter p l) ≡ any (λ m. p m && q m) l → any q (cond t (m ∷ filter p l) (filter p l)) ≡ t && q m || any (λ m. p m && q m) l
     go true ih = ap (λ x. q m || x) ih
     go false ih = ih
 

@@ -1,7 +1,7 @@
 -- A table of patterns, piece by piece: where a piece ends, what is filled in, what is still to be tried.
 use mathlib.Core.Path.{_≡_, refl, sym, ap, _∙_}
 use mathlib.Core.List.{List, [], _∷_, _++_, append-nil}
-use mathlib.Core.Bool.{Bool, true, false, _||_}
+use mathlib.Core.Bool.{Bool, true, false, cond, _||_}
 use Prim.Native.Nat.{ℕ, suc, _+_, _-_, _≤_, _<_}
 use native.Mathlib.Numerals.{add-one}
 use native.Mathlib.Omega.{arith}
@@ -9,7 +9,6 @@ use lib.Dec.{eqb}
 use lib.ListN.{length, getD, take, drop, drop-of-length-le, length-drop}
 use lib.Seq.{drop-cons, drop-drop, take-length}
 use borrow.Author.Tests.{eq-eqb, ne-eqb}
-use Rattle.formats.specs.Law.{pick}
 use Rattle.alerts.specs.Lists.{any}
 use Rattle.alerts.specs.Text.{find, onto, split}
 use Rattle.matching.specs.declared.text.Found.{Found}
@@ -35,7 +34,7 @@ pub upTo-within : (c : ℕ) (s : List ℕ) → upTo c s ≤ length s
 upTo-within c [] = omega arith
 upTo-within c (b ∷ s) = go (eqb b c) (upTo-within c s)
   where
-    go : (t : Bool) → upTo c s ≤ length s → pick t 0 (suc (upTo c s)) ≤ suc (length s)
+    go : (t : Bool) → upTo c s ≤ length s → cond t 0 (suc (upTo c s)) ≤ suc (length s)
     go true ih = omega arith
     go false ih = omega arith
 
@@ -44,7 +43,7 @@ pub filled-none : (name p : List ℕ) → length p ≤ upTo 0x23 p → filled na
 filled-none name [] h = refl
 filled-none name (b ∷ p) h = go (eqb b 0x23) h (filled-none name p)
   where
-    go : (t : Bool) → suc (length p) ≤ pick t 0 (suc (upTo 0x23 p)) → (length p ≤ upTo 0x23 p → filled name p ≡ p) → pick t (name ++ p) (b ∷ filled name p) ≡ b ∷ p
+    go : (t : Bool) → suc (length p) ≤ cond t 0 (suc (upTo 0x23 p)) → (length p ≤ upTo 0x23 p → filled name p ≡ p) → cond t (name ++ p) (b ∷ filled name p) ≡ b ∷ p
     go true h ih = absurd (omega arith)
     go false h ih = ap (λ l. b ∷ l) (ih (omega arith))
 
@@ -52,10 +51,10 @@ pub filled-here : (name p : List ℕ) → upTo 0x23 p < length p → filled name
 filled-here name [] h = absurd (omega arith)
 filled-here name (b ∷ p) h = go (eqb b 0x23) h (filled-here name p)
   where
-    go : (t : Bool) → pick t 0 (suc (upTo 0x23 p)) < suc (length p)
+    go : (t : Bool) → cond t 0 (suc (upTo 0x23 p)) < suc (length p)
         → (upTo 0x23 p < length p → filled name p ≡ take (upTo 0x23 p) p ++ name ++ drop (suc (upTo 0x23 p)) p)
-        → pick t (name ++ p) (b ∷ filled name p)
-        ≡ take (pick t 0 (suc (upTo 0x23 p))) (b ∷ p) ++ name ++ drop (suc (pick t 0 (suc (upTo 0x23 p)))) (b ∷ p)
+        → cond t (name ++ p) (b ∷ filled name p)
+        ≡ take (cond t 0 (suc (upTo 0x23 p))) (b ∷ p) ++ name ++ drop (suc (cond t 0 (suc (upTo 0x23 p)))) (b ∷ p)
     go true h ih = refl
     go false h ih = ap (λ l. b ∷ l) (ih (omega arith))
 
@@ -84,10 +83,10 @@ split-more : (s : List ℕ) → upTo 0x7c s < length s → split bar s ≡ take 
 split-more [] h = absurd (omega arith)
 split-more (b ∷ s) h = go (bar b) h (split-more s)
   where
-    go : (t : Bool) → pick t 0 (suc (upTo 0x7c s)) < suc (length s)
+    go : (t : Bool) → cond t 0 (suc (upTo 0x7c s)) < suc (length s)
         → (upTo 0x7c s < length s → split bar s ≡ take (upTo 0x7c s) s ∷ split bar (drop (suc (upTo 0x7c s)) s))
-        → pick t ([] ∷ split bar s) (onto b (split bar s))
-        ≡ take (pick t 0 (suc (upTo 0x7c s))) (b ∷ s) ∷ split bar (drop (suc (pick t 0 (suc (upTo 0x7c s)))) (b ∷ s))
+        → cond t ([] ∷ split bar s) (onto b (split bar s))
+        ≡ take (cond t 0 (suc (upTo 0x7c s))) (b ∷ s) ∷ split bar (drop (suc (cond t 0 (suc (upTo 0x7c s)))) (b ∷ s))
     go true h ih = refl
     go false h ih = rw (ih (omega arith)) refl
 
@@ -95,8 +94,8 @@ split-last : (s : List ℕ) → length s ≤ upTo 0x7c s → split bar s ≡ s �
 split-last [] h = refl
 split-last (b ∷ s) h = go (bar b) h (split-last s)
   where
-    go : (t : Bool) → suc (length s) ≤ pick t 0 (suc (upTo 0x7c s)) → (length s ≤ upTo 0x7c s → split bar s ≡ s ∷ [])
-        → pick t ([] ∷ split bar s) (onto b (split bar s)) ≡ (b ∷ s) ∷ []
+    go : (t : Bool) → suc (length s) ≤ cond t 0 (suc (upTo 0x7c s)) → (length s ≤ upTo 0x7c s → split bar s ≡ s ∷ [])
+        → cond t ([] ∷ split bar s) (onto b (split bar s)) ≡ (b ∷ s) ∷ []
     go true h ih = absurd (omega arith)
     go false h ih = rw (ih (omega arith)) refl
 

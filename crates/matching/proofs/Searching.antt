@@ -2,7 +2,7 @@
 use mathlib.Core.Path.{_≡_, refl, sym, ap, _∙_}
 use mathlib.Core.List.{List, [], _∷_, _++_}
 use mathlib.Core.Option.{Option, none, some}
-use mathlib.Core.Bool.{Bool, true, false, not, _&&_, _||_}
+use mathlib.Core.Bool.{Bool, true, false, cond, not, _&&_, _||_}
 use Prim.Native.Nat.{ℕ, suc, _+_, _-_, _≤_, _<_}
 use native.Mathlib.Numerals.{add-one}
 use native.Mathlib.Omega.{arith}
@@ -11,7 +11,6 @@ use native.Mathlib.Nat.{add-assoc}
 use lib.ListN.{length, getD, drop, drop-of-length-le, length-append, length-drop}
 use lib.Seq.{drop-cons, drop-drop}
 use borrow.Author.Tests.{eq-eqb, ne-eqb, not-true, not-false}
-use Rattle.formats.specs.Law.{pick}
 use Rattle.alerts.specs.Text.{begins, contains, later, find}
 use Rattle.matching.specs.Found.{foundOf}
 use Rattle.matching.specs.declared.text.Found.{Found}
@@ -118,7 +117,7 @@ unfound-more p s i t u g e h = record {
 }
   where
     step : begins p (drop i s) ≡ false → find p (drop i s) ≡ later (find p (drop (i + 1) s))
-    step x = rw (add-one i, drop-cons s i 0) (ap (λ t. pick t (some 0) (later (find p (drop (suc i) s)))) (ap (begins p) (sym (drop-cons s i 0 g)) ∙ x))
+    step x = rw (add-one i, drop-cons s i 0) (ap (λ t. cond t (some 0) (later (find p (drop (suc i) s)))) (ap (begins p) (sym (drop-cons s i 0 g)) ∙ x))
 
 pub nowhere : (p s : List ℕ) (i : ℕ) (t : Bool) → Unfound p s i → length s ≤ i → t ≡ begins p (drop i s) → t ≡ false → Nowhere ≡ foundOf (find p s)
 nowhere p s i t u g e h =
@@ -139,7 +138,7 @@ contains-find [] [] = refl
 contains-find (a ∷ p) [] = refl
 contains-find p (b ∷ s) = rw (contains-find p s) (go (begins p (b ∷ s)) (find p s))
   where
-    go : (t : Bool) (o : Option ℕ) → t || somewhere o ≡ somewhere (pick t (some 0) (later o))
+    go : (t : Bool) (o : Option ℕ) → t || somewhere o ≡ somewhere (cond t (some 0) (later o))
     go true o = refl
     go false none = refl
     go false (some i) = refl

@@ -1,11 +1,10 @@
 -- Patterns as the code keeps them: a text of patterns with '|' between two of them, and '#' in each where the line's name goes; and
 -- what the code asks of each piece of such a text.
 use mathlib.Core.List.{List, [], _∷_, _++_}
-use mathlib.Core.Bool.{Bool, not, _&&_}
+use mathlib.Core.Bool.{Bool, cond, not, _&&_}
 use Prim.Native.Nat.{ℕ, suc}
 use lib.Dec.{leb, eqb}
 use lib.ListN.{getD}
-use Rattle.formats.specs.Law.{pick}
 use Rattle.alerts.specs.Lists.{any}
 use Rattle.alerts.specs.Text.{same, contains, find, split}
 use Rattle.alerts.specs.Applies.{letters, numerals, trams, names, letterRows, names-number, names-tram, near}
@@ -16,11 +15,11 @@ use Rattle.matching.specs.declared.lines.Ask.the-variants.{Named, Own, O
 -- how many bytes stand before the first c
 abbrev pub upTo : ℕ → List ℕ → ℕ
 upTo c [] = 0
-upTo c (b ∷ s) = let r = upTo c s in pick (eqb b c) 0 (suc r)
+upTo c (b ∷ s) = let r = upTo c s in cond (eqb b c) 0 (suc r)
 
 abbrev pub filled : List ℕ → List ℕ → List ℕ
 filled name [] = []
-filled name (b ∷ p) = let r = filled name p in pick (eqb b 0x23) (name ++ p) (b ∷ r)
+filled name (b ∷ p) = let r = filled name p in cond (eqb b 0x23) (name ++ p) (b ∷ r)
 
 abbrev pub patterns : List ℕ → List (List ℕ)
 patterns table = split (λ b. eqb b 0x7c) table
@@ -29,7 +28,7 @@ abbrev pub anyIn : List ℕ → List ℕ → List ℕ → Bool
 anyIn table name s = any (λ p. contains (filled name p) s) (patterns table)
 
 abbrev pub lesser : ℕ → ℕ → ℕ
-lesser m n = pick (leb m n) m n
+lesser m n = cond (leb m n) m n
 
 abbrev pub allLines : List (List ℕ)
 allLines = letters ++ numerals ++ trams
@@ -37,8 +36,8 @@ allLines = letters ++ numerals ++ trams
 -- a tram's name begins with T, a letter is an RER line, else it is a number
 abbrev pub mentions : List ℕ → List ℕ → Bool
 mentions s name =
-    pick (eqb (getD name 0 0) 0x54) (names-tram s name)
-    (pick (leb 0x41 (getD name 0 0)) (names letterRows s name) (names-number s name))
+    cond (eqb (getD name 0 0) 0x54) (names-tram s name)
+    (cond (leb 0x41 (getD name 0 0)) (names letterRows s name) (names-number s name))
 
 abbrev pub nearMarker : List ℕ → List ℕ → Bool
 nearMarker s p = near adviceMarkers s p (find p s)

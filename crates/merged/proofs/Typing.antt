@@ -1,22 +1,30 @@
 -- What the typed answers of the scalars say is what the trees say. Assumes nothing.
-use Prim.Native.Nat.{ℕ}
+use Prim.Native.Nat.{ℕ, _+_, _≤_}
 use mathlib.Core.Path.{_≡_, refl, sym, ap, subst, _∙_}
 use mathlib.Core.List.{List, [], _∷_}
-use mathlib.Core.Bool.{Bool}
+use mathlib.Core.Bool.{Bool, true, false}
+use mathlib.Core.Option.{Option, none, some}
 use native.Mathlib.Omega.{arith}
 use lib.Dec.{eqb}
-use lib.ListN.{length}
+use lib.ListN.{length, take, drop, length-take}
 use lib.Seq.{take-length}
-use Rattle.wire.specs.Wire.{mapO}
-use Rattle.realtime.specs.Tree.{Schema, Tree, last, sub, tree}
-use Rattle.realtime.specs.Schema.{feedMessage, feedEntity, stopTimeUpdate}
-use Rattle.merged.specs.Scalars.{one, two, three, four, five, six, said, Lying, Lasting, StopLasting}
+use Rattle.wire.specs.Wire.{choose, mapO}
+use Rattle.realtime.specs.Tree.{Schema, Tree, Leaf, count, words, last, sub, tree}
+use Rattle.realtime.specs.Schema.{feed, feedMessage, feedEntity, stopTimeUpdate}
+use Rattle.merged.specs.Fold.{Takes, folded, inside, inside-sub}
+use Rattle.merged.specs.Reading.{Lens, Reads, front-rest}
+use Rattle.merged.specs.Scalars.{one, two, three, four, five, six, said, Lying, Lasting}
+use Rattle.merged.specs.Numbers.{orZeroAt, textAt, numberAt, taking, leaf, taking-last, plain, spans, valueOf, noNumber, noSpan, fromEvent, EventsRead, SequenceReads, StopReads}
 use Rattle.merged.specs.Typed.{uint32, int32, int64, bool, enum, number, text, given, orZero}
-use Rattle.merged.specs.Narrow.{toSpan, toTimestamp, toDirection, toDelay, toTime, toSequence, toBool, isValue, toHeader, toTrip, toEvent, toStop}
+use Rattle.merged.specs.Narrow.{toSpan, toTimestamp, toDirection, toDelay, toBool, isValue, toHeader, toTrip}
 use Rattle.merged.specs.Views.{event, spanIn, viewTimestamp, viewDirection, viewDelay, viewTime, viewEvent, SpanInside, HeaderRead, DeletedRead, TripRead, StopRead, SequenceRead}
 use Rattle.merged.specs.declared.Scalar.{Scalar}
 use Rattle.merged.specs.declared.Scalars.{Scalars}
-use Rattle.merged.specs.declared.StopScalars.{StopScalars}
+use Rattle.merged.specs.declared.Span.{Span}
+use Rattle.merged.specs.declared.Number.{Number}
+use Rattle.merged.specs.declared.EventNumbers.{EventNumbers}
+use Rattle.merged.specs.declared.Delay.{Delay}
+use Rattle.merged.specs.declared.Time.{Time}
 use Rattle.merged.specs.declared.Header.{Header}
 use Rattle.merged.specs.declared.Trip.{Trip}
 use Rattle.merged.specs.declared.StopUpdate.{StopUpdate}
@@ -43,16 +51,6 @@ module _ (s : List ℕ) where
   delay-says (Scalar.Text i l) = refl
   delay-says Scalar.Nothing = refl
 
-  time-says : (x : Scalar) → viewTime (toTime x) ≡ mapO int64 (number (said s x))
-  time-says (Scalar.Number n) = refl
-  time-says (Scalar.Text i l) = refl
-  time-says Scalar.Nothing = refl
-
-  sequence-says : (x : Scalar) → toSequence x ≡ uint32 (orZero (number (said s x)))
-  sequence-says (Scalar.Number n) = refl
-  sequence-says (Scalar.Text i l) = refl
-  sequence-says Scalar.Nothing = refl
-
   bool-says : (x : Scalar) → toBool x ≡ given bool (number (said s x))
   bool-says (Scalar.Number n) = refl
   bool-says (Scalar.Text i l) = refl
@@ -62,12 +60,6 @@ module _ (s : List ℕ) where
   value-says v (Scalar.Number n) = refl
   value-says v (Scalar.Text i l) = refl
   value-says v Scalar.Nothing = refl
-
-  event-says : (e : Scalars) (v : Tree) → said s (e .f1) ≡ last 1 v → said s (e .f2) ≡ last 2 v → viewEvent (toEvent e) ≡ event v
-  event-says e v h h′ = λ j. record {
-    delay = (delay-says (e .f1) ∙ ap (λ o. mapO int32 (number o)) h) j;
-    time = (time-says (e .f2) ∙ ap (λ o. mapO int64 (number o)) h′) j;
-  }
 
 span-inside : (n : ℕ) (x : Scalar) → Lying n x → SpanInside n (toSpan x)
 span-inside n (Scalar.Number k) h = omega arith
@@ -108,21 +100,74 @@ trip-read {σ} {s} {i} {l} {d} {u} {r} L U e = subst (TripRead σ s i l) (sym e)
   route = span-inside (length s) (d .f5) (L .within five);
 })
 
-pub stop-read : {σ : Schema} {s : List ℕ} {i l : ℕ} {d : StopScalars} {r : StopUpdate} → StopLasting σ s i l d → r ≡ toStop d → StopRead σ s i l r
-stop-read {σ} {s} {i} {l} {d} {r} L e = subst (StopRead σ s i l) (sym e) (record {
-  of = λ m q.
-      let p = L .stop .of m q in
-      let a = L .arrival .of m q in
-      let b = L .departure .of m q in
-      λ j. record {
-        sequence = (sequence-says s (d .stop .f1) ∙ ap (λ o. uint32 (orZero (number o))) (p one)) j;
-        stop = (span-says s (d .stop .f4) ∙ ap text (p four)) j;
-        arrival = event-says s (d .arrival) (sub 2 m) (a one) (a two) j;
-        departure = event-says s (d .departure) (sub 3 m) (b one) (b two) j;
-        skipped = (value-says s 1 (d .stop .f5) ∙ ap (λ o. given (λ n. eqb (enum n) 1) (number o)) (p five)) j;
-      };
-  stop = span-inside (length s) (d .stop .f4) (L .stop .within four);
+-- an answer in the first bytes of s, up to the message's end, says what the whole's tree makes
+module _ {D B : Type 0} {L : Lens D B} {φ : Takes B} {t : ℕ} (s : List ℕ) {x : List ℕ} (i l : ℕ) {d r : D} (h : i + l ≤ length s) (e : x ≡ take (i + l) s) (Q : Reads L φ feed t x i d r) where
+  room : L .In (i + l) r
+  room = subst (λ k. L .In k r) (ap length e ∙ length-take (i + l) s ∙ omega arith) (Q .within)
+
+  pub room-far : L .In (length s) r
+  room-far = L .far (i + l) (length s) r h room
+
+  pub made-of : (m : Tree) → tree feed t (take l (drop i s)) ≡ some m → L .look s r ≡ folded φ (L .look x d) m
+  made-of m q =
+      sym (ap (λ y. L .look y r) e ∙ L .front s (i + l) r h room) ∙ Q .made .of m (ap (tree feed t) (ap (drop i) e ∙ front-rest s (i + l) i l refl h) ∙ q)
+
+-- of the numbers and the text of a stop_time_update
+leaf-zero : (k : ℕ) (o : Option Leaf) → leaf (orZeroAt k) 0 o ≡ orZero (number o)
+leaf-zero k none = refl
+leaf-zero k (some (count n)) = refl
+leaf-zero k (some (words x)) = refl
+
+leaf-text : (k : ℕ) (o : Option Leaf) → leaf (textAt k) [] o ≡ text o
+leaf-text k none = refl
+leaf-text k (some (count n)) = refl
+leaf-text k (some (words x)) = refl
+
+leaf-given : (k : ℕ) (o : Option Leaf) → leaf (numberAt k) none o ≡ number o
+leaf-given k none = refl
+leaf-given k (some (count n)) = refl
+leaf-given k (some (words x)) = refl
+
+value-given : (o : Option ℕ) → eqb (enum (orZero o)) 1 ≡ given (λ n. eqb (enum n) 1) o
+value-given none = refl
+value-given (some n) = refl
+
+delay-view : (b : Bool) (n : ℕ) → viewDelay (choose b (Delay.Given (int32 n)) Delay.Absent) ≡ mapO int32 (choose b (some n) none)
+delay-view true n = refl
+delay-view false n = refl
+
+time-view : (b : Bool) (n : ℕ) → viewTime (choose b (Time.Given (int64 n)) Time.Absent) ≡ mapO int64 (choose b (some n) none)
+time-view true n = refl
+time-view false n = refl
+
+module _ (s : List ℕ) {x : List ℕ} (i l : ℕ) (h : i + l ≤ length s) (e : x ≡ take (i + l) s) (m : Tree) (q : tree feed stopTimeUpdate (take l (drop i s)) ≡ some m) where
+  zero-of : (k : ℕ) {r : ℕ} → Reads (plain (λ n. n)) (taking (orZeroAt k)) feed stopTimeUpdate x i 0 r → r ≡ orZero (number (last k m))
+  zero-of k Q = made-of s i l h e Q m q ∙ taking-last (orZeroAt k) 0 m ∙ leaf-zero k (last k m)
+
+  text-of : (k : ℕ) {r : Span} → Reads spans (taking (textAt k)) feed stopTimeUpdate x i noSpan r → spanIn s r ≡ text (last k m)
+  text-of k Q = made-of s i l h e Q m q ∙ taking-last (textAt k) [] m ∙ leaf-text k (last k m)
+
+  given-of : (j k : ℕ) {r : Number} → Reads (plain valueOf) (inside j (taking (numberAt k))) feed stopTimeUpdate x i noNumber r → valueOf r ≡ number (last k (sub j m))
+  given-of j k Q =
+      made-of s i l h e Q m q ∙ inside-sub j (taking (numberAt k)) none m ∙ taking-last (numberAt k) none (sub j m) ∙ leaf-given k (last k (sub j m))
+
+  event-of : (j : ℕ) {r : EventNumbers} → EventsRead j x i r → viewEvent (fromEvent r) ≡ event (sub j m)
+  event-of j {r} E = λ z. record {
+    delay = (delay-view (eqb (r .delay .given) 1) (r .delay .value) ∙ ap (mapO int32) (given-of j 1 (E .delay))) z;
+    time = (time-view (eqb (r .time .given) 1) (r .time .value) ∙ ap (mapO int64) (given-of j 2 (E .time))) z;
+  }
+
+pub stop-read : (s : List ℕ) {x : List ℕ} (i l : ℕ) {r : StopUpdate} → i + l ≤ length s → x ≡ take (i + l) s → StopReads x i r → StopRead feed s i l r
+stop-read s i l h e R = subst (StopRead feed s i l) (sym (R .is)) (record {
+  of = λ m q. λ z. record {
+    sequence = ap uint32 (zero-of s i l h e m q 1 (R .sequence)) z;
+    stop = text-of s i l h e m q 4 (R .stop) z;
+    arrival = event-of s i l h e m q 2 (R .arrival) z;
+    departure = event-of s i l h e m q 3 (R .departure) z;
+    skipped = (ap (λ k. eqb (enum k) 1) (zero-of s i l h e m q 5 (R .relationship)) ∙ value-given (number (last 5 m))) z;
+  };
+  stop = room-far s i l h e (R .stop);
 })
 
-pub sequence-read : {σ : Schema} {s : List ℕ} {i l : ℕ} {d : Scalars} {r : ℕ} → Lasting σ stopTimeUpdate s i l [] d → r ≡ toSequence (d .f1) → SequenceRead σ s i l r
-sequence-read {σ} {s} {i} {l} {d} {r} L e = record { of = λ m q. e ∙ sequence-says s (d .f1) ∙ ap (λ o. uint32 (orZero (number o))) (L .of m q one) }
+pub sequence-read : (s : List ℕ) {x : List ℕ} (i l : ℕ) {n r : ℕ} → i + l ≤ length s → x ≡ take (i + l) s → SequenceReads x i n → r ≡ uint32 n → SequenceRead feed s i l r
+sequence-read s i l h e Q g = record { of = λ m q. g ∙ ap uint32 (zero-of s i l h e m q 1 Q) }

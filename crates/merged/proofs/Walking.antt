@@ -2,19 +2,20 @@
 use Prim.Native.Nat.{ℕ, _+_, _-_, _≤_}
 use mathlib.Core.Path.{_≡_, refl, sym, ap, _∙_}
 use mathlib.Core.List.{List, _∷_}
-use mathlib.Core.Bool.{true, false}
+use mathlib.Core.Bool.{Bool, true, false}
 use mathlib.Core.Option.{Option, none, some}
 use native.Mathlib.Omega.{arith}
 use lib.Dec.{eqb}
 use lib.ListN.{length, take, drop, length-take}
-use borrow.Author.Tests.{eq-eqb, ne-eqb}
+use borrow.Author.Tests.{eq-eqb, ne-eqb, eqb-true, eqb-false}
 use Rattle.wire.specs.Wire.{choose, mapO}
 use Rattle.wire.specs.Fields.{none-some}
 use Rattle.realtime.specs.Tree.{aMessage, Schema, Tree, end, num, txt, msg, bindO, tree, join, sub, rep}
-use Rattle.realtime.specs.Steps.{Stepped}
+use Rattle.realtime.specs.Steps.{Goes, Stepped, step-is}
 use Rattle.realtime.specs.Schema.{rows, feed, feedMessage, feedEntity, tripUpdate}
 use Rattle.merged.specs.Reading.{front-part, front-rest}
-use Rattle.merged.specs.Walks.{leftOf, left, Sound, ahead, Walks, typeOf, Yields, NextEntity, NextUpdate}
+use Rattle.merged.specs.Walks.{leftOf, left, met, Sound, ahead, Walks, typeOf, Yields, NextEntity, NextUpdate}
+use Rattle.merged.specs.declared.Met.{Met}
 use Rattle.merged.specs.declared.Walk.{Walk}
 use Rattle.merged.specs.declared.Item.{Item}
 use Rattle.realtime.specs.declared.Step.{Step}
@@ -66,6 +67,65 @@ module _ (a k : ℕ) where
   out-found l f u (some m) none h e = none-some e
   out-found l f u (some m) (some t) h e = sym (ap (λ b. some (rep k (choose b (join m (sub a t)) (sub a t)))) h) ∙ e
 
+-- what was met, by the step
+module _ {σ : Schema} {t : ℕ} {s : List ℕ} {at : ℕ} (k : ℕ) where
+  pub met-end : (step : Step) → Stepped σ t s at step → Met.End ≡ met k step → Stepped σ t s at Step.End
+  met-end (Step.Number f v n) S e = let z : _≡_ {A = ℕ} 0 1 = cc in absurd (omega arith)
+  met-end (Step.Text f i l n) S e = let z : _≡_ {A = ℕ} 0 1 = cc in absurd (omega arith)
+  met-end (Step.Message f u i l n) S e = go (eqb f k) e
+    where
+      go : (b : Bool) → Met.End ≡ choose b (Met.Sought i l n) (Met.Other n) → Stepped σ t s at Step.End
+      go true q = let z : _≡_ {A = ℕ} 0 1 = cc in absurd (omega arith)
+      go false q = let z : _≡_ {A = ℕ} 0 1 = cc in absurd (omega arith)
+  met-end Step.End S e = S
+  met-end Step.Broken S e = let z : _≡_ {A = ℕ} 0 1 = cc in absurd (omega arith)
+
+  pub met-broken : (step : Step) → Stepped σ t s at step → Met.Broken ≡ met k step → Stepped σ t s at Step.Broken
+  met-broken (Step.Number f v n) S e = let z : _≡_ {A = ℕ} 0 1 = cc in absurd (omega arith)
+  met-broken (Step.Text f i l n) S e = let z : _≡_ {A = ℕ} 0 1 = cc in absurd (omega arith)
+  met-broken (Step.Message f u i l n) S e = go (eqb f k) e
+    where
+      go : (b : Bool) → Met.Broken ≡ choose b (Met.Sought i l n) (Met.Other n) → Stepped σ t s at Step.Broken
+      go true q = let z : _≡_ {A = ℕ} 0 1 = cc in absurd (omega arith)
+      go false q = let z : _≡_ {A = ℕ} 0 1 = cc in absurd (omega arith)
+  met-broken Step.End S e = let z : _≡_ {A = ℕ} 0 1 = cc in absurd (omega arith)
+  met-broken Step.Broken S e = S
+
+  -- a message at field k
+  pub met-sought : {i′ l′ n′ : ℕ} (step : Step) → Stepped σ t s at step → Met.Sought i′ l′ n′ ≡ met k step → (u : ℕ) × Stepped σ t s at (Step.Message k u i′ l′ n′)
+  met-sought (Step.Number f v n) S e = let z : _≡_ {A = ℕ} 0 1 = cc in absurd (omega arith)
+  met-sought (Step.Text f i l n) S e = let z : _≡_ {A = ℕ} 0 1 = cc in absurd (omega arith)
+  met-sought {i′} {l′} {n′} (Step.Message f u i l n) S e = go (eqb f k) refl e
+    where
+      go : (b : Bool) → eqb f k ≡ b → Met.Sought i′ l′ n′ ≡ choose b (Met.Sought i l n) (Met.Other n) → (u : ℕ) × Stepped σ t s at (Step.Message k u i′ l′ n′)
+      go true h q =
+          let p₁ : i ≡ i′ = cc in
+          let p₂ : l ≡ l′ = cc in
+          let p₃ : n ≡ n′ = cc in
+          (u, step-is S (λ j. Step.Message (eqb-true f k h j) u (p₁ j) (p₂ j) (p₃ j)))
+      go false h q = let z : _≡_ {A = ℕ} 0 1 = cc in absurd (omega arith)
+  met-sought Step.End S e = let z : _≡_ {A = ℕ} 0 1 = cc in absurd (omega arith)
+  met-sought Step.Broken S e = let z : _≡_ {A = ℕ} 0 1 = cc in absurd (omega arith)
+
+  -- another field: of three kinds
+  pub met-other : {n′ : ℕ} {P : Type 0} (step : Step) → Stepped σ t s at step → Met.Other n′ ≡ met k step
+      → ((f v : ℕ) → Stepped σ t s at (Step.Number f v n′) → P) → ((f i l : ℕ) → Stepped σ t s at (Step.Text f i l n′) → P)
+      → ((f u i l : ℕ) → Stepped σ t s at (Step.Message f u i l n′) → (f ≡ k → ⊥) → P) → P
+  met-other {n′} (Step.Number f v n) S e x y z = let p : n ≡ n′ = cc in x f v (step-is S (ap (Step.Number f v) p))
+  met-other {n′} (Step.Text f i l n) S e x y z = let p : n ≡ n′ = cc in y f i l (step-is S (ap (Step.Text f i l) p))
+  met-other {n′} {P} (Step.Message f u i l n) S e x y z = go (eqb f k) refl e
+    where
+      go : (b : Bool) → eqb f k ≡ b → Met.Other n′ ≡ choose b (Met.Sought i l n) (Met.Other n) → P
+      go true h q = let c : _≡_ {A = ℕ} 0 1 = cc in absurd (omega arith)
+      go false h q = let p : n ≡ n′ = cc in z f u i l (step-is S (ap (Step.Message f u i l) p)) (eqb-false f k h)
+  met-other Step.End S e x y z = let c : _≡_ {A = ℕ} 0 1 = cc in absurd (omega arith)
+  met-other Step.Broken S e x y z = let c : _≡_ {A = ℕ} 0 1 = cc in absurd (omega arith)
+
+  pub other-goes : {n : ℕ} (step : Step) → Stepped σ t s at step → Met.Other n ≡ met k step → Goes s at n
+  other-goes step S e =
+      met-other step S e (λ f v N. N .forward) (λ f i l N. record { ahead = omega (arith, N .forward); inside = N .forward .inside })
+      (λ f u i l N h. record { ahead = omega (arith, N .forward); inside = N .forward .inside })
+
 -- the loop stands at these places, and what was left at the start is left here
 pub record Leads (σ : Schema) (t a inner k : ℕ) (s : List ℕ) (w : Walk) (outer end at : ℕ) : Type 0 where
   pub of : (l : List Tree) → left σ t a inner k s w ≡ some l → leftOf a k (tree σ inner (drop at (take end s))) (tree σ t (drop outer s)) ≡ some l
@@ -89,27 +149,30 @@ module _ {σ : Schema} {t a inner k : ℕ} {s : List ℕ} {w : Walk} {outer stop
   pub in-breaks : Stepped σ inner x at Step.Broken → Yields σ t a inner k (typeOf (σ inner k)) s w Item.Done
   in-breaks S = record { of = λ l h. none-some (seen-in (S .same) l h); lying = tt }
 
-  pub in-number-on : {f v n : ℕ} → Stepped σ inner x at (Step.Number f v n) → Leads σ t a inner k s w outer stop n
+  in-number-on : {f v n : ℕ} → Stepped σ inner x at (Step.Number f v n) → Leads σ t a inner k s w outer stop n
   in-number-on {f} {v} {n} S = record {
     of = λ l h. ap (λ y. leftOf a k (tree σ inner (drop n y)) O) (sym X) ∙ sym (in-number a k f v (tree σ inner (drop n x)) O) ∙ seen-in (S .same) l h;
     sound = record { ahead = omega (arith, S .forward, size); behind = L .sound .behind; inside = L .sound .inside };
     fewer = omega (arith, S .forward, L .fewer);
   }
 
-  pub in-text-on : {f i m n : ℕ} → Stepped σ inner x at (Step.Text f i m n) → Leads σ t a inner k s w outer stop n
+  in-text-on : {f i m n : ℕ} → Stepped σ inner x at (Step.Text f i m n) → Leads σ t a inner k s w outer stop n
   in-text-on {f} {i} {m} {n} S = record {
     of = λ l h. ap (λ y. leftOf a k (tree σ inner (drop n y)) O) (sym X) ∙ sym (in-text a k f (take m (drop i x)) (tree σ inner (drop n x)) O) ∙ seen-in (S .same) l h;
     sound = record { ahead = omega (arith, S .forward, size); behind = L .sound .behind; inside = L .sound .inside };
     fewer = omega (arith, S .forward, L .fewer);
   }
 
-  pub in-message-on : {f u i m n : ℕ} → Stepped σ inner x at (Step.Message f u i m n) → (f ≡ k → ⊥) → Leads σ t a inner k s w outer stop n
+  in-message-on : {f u i m n : ℕ} → Stepped σ inner x at (Step.Message f u i m n) → (f ≡ k → ⊥) → Leads σ t a inner k s w outer stop n
   in-message-on {f} {u} {i} {m} {n} S h = record {
     of = λ l e. ap (λ y. leftOf a k (tree σ inner (drop n y)) O) (sym X)
         ∙ in-other a k l f u (tree σ u (take m (drop i x))) (tree σ inner (drop n x)) O (ne-eqb f k h) (seen-in (S .same) l e);
     sound = record { ahead = omega (arith, S .forward, size); behind = L .sound .behind; inside = L .sound .inside };
     fewer = omega (arith, S .forward, L .fewer);
   }
+
+  pub in-other-on : {n : ℕ} (step : Step) → Stepped σ inner x at step → Met.Other n ≡ met k step → Leads σ t a inner k s w outer stop n
+  in-other-on step S e = met-other k step S e (λ f v N. in-number-on N) (λ f i m N. in-text-on N) (λ f u i m N h. in-message-on N h)
 
   pub yields : {f u i m n : ℕ} → Stepped σ inner x at (Step.Message f u i m n) → f ≡ k
       → Yields σ t a inner k (typeOf (σ inner k)) s w (Item.At i m (record { outer = outer; end = stop; at = n }))
@@ -140,26 +203,29 @@ module _ {σ : Schema} {t a inner k : ℕ} {s : List ℕ} {w : Walk} {outer stop
     still : (n : ℕ) (l : List Tree) → leftOf a k (some end) (tree σ t (drop n s)) ≡ some l → leftOf a k (tree σ inner (drop at (take stop s))) (tree σ t (drop n s)) ≡ some l
     still n l e = ap (λ i. leftOf a k i (tree σ t (drop n s))) (ap (λ y. tree σ inner (drop at y)) (sym X) ∙ E .same) ∙ e
 
-    pub out-number-on : {f v n : ℕ} → Stepped σ t s outer (Step.Number f v n) → Leads σ t a inner k s w n stop at
+    out-number-on : {f v n : ℕ} → Stepped σ t s outer (Step.Number f v n) → Leads σ t a inner k s w n stop at
     out-number-on {f} {v} {n} S = record {
       of = λ l h. still n l (sym (out-number a k f v (some end) (tree σ t (drop n s))) ∙ seen-out (S .same) l h);
       sound = record { ahead = L .sound .ahead; behind = omega (arith, L .sound, S .forward); inside = S .forward .inside };
       fewer = omega (arith, S .forward, L .fewer);
     }
 
-    pub out-text-on : {f i m n : ℕ} → Stepped σ t s outer (Step.Text f i m n) → Leads σ t a inner k s w n stop at
+    out-text-on : {f i m n : ℕ} → Stepped σ t s outer (Step.Text f i m n) → Leads σ t a inner k s w n stop at
     out-text-on {f} {i} {m} {n} S = record {
       of = λ l h. still n l (sym (out-text a k f (take m (drop i s)) (some end) (tree σ t (drop n s))) ∙ seen-out (S .same) l h);
       sound = record { ahead = L .sound .ahead; behind = omega (arith, L .sound, S .forward); inside = S .forward .inside };
       fewer = omega (arith, S .forward, L .fewer);
     }
 
-    pub out-message-on : {f u i m n : ℕ} → Stepped σ t s outer (Step.Message f u i m n) → (f ≡ a → ⊥) → Leads σ t a inner k s w n stop at
+    out-message-on : {f u i m n : ℕ} → Stepped σ t s outer (Step.Message f u i m n) → (f ≡ a → ⊥) → Leads σ t a inner k s w n stop at
     out-message-on {f} {u} {i} {m} {n} S h = record {
       of = λ l e. still n l (out-other a k l f u (tree σ u (take m (drop i s))) (some end) (tree σ t (drop n s)) (ne-eqb f a h) (seen-out (S .same) l e));
       sound = record { ahead = L .sound .ahead; behind = omega (arith, L .sound, S .forward); inside = S .forward .inside };
       fewer = omega (arith, S .forward, L .fewer);
     }
+
+    pub out-other-on : {n : ℕ} (step : Step) → Stepped σ t s outer step → Met.Other n ≡ met a step → Leads σ t a inner k s w n stop at
+    out-other-on step S e = met-other a step S e (λ f v N. out-number-on N) (λ f i m N. out-text-on N) (λ f u i m N h. out-message-on N h)
 
     -- another is opened
     pub opens : {f u i m n : ℕ} → ((v : ℕ) → σ t a ≡ some (aMessage v) → v ≡ inner) → Stepped σ t s outer (Step.Message f u i m n) → f ≡ a → Leads σ t a inner k s w n n i

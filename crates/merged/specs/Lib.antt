@@ -3,6 +3,7 @@ pub mod Reading
 pub mod Scalars
 pub mod Typed
 pub mod Narrow
+pub mod Numbers
 pub mod Views
 pub mod Walks
 pub mod Starts

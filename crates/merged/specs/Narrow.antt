@@ -2,19 +2,15 @@
 use Prim.Native.Nat.{ℕ}
 use mathlib.Core.Bool.{Bool, false}
 use lib.Dec.{eqb}
-use Rattle.merged.specs.Typed.{uint32, int32, int64, bool, enum}
+use Rattle.merged.specs.Typed.{uint32, int32, bool, enum}
 use Rattle.merged.specs.declared.Scalar.{Scalar}
 use Rattle.merged.specs.declared.Span.{Span}
 use Rattle.merged.specs.declared.Timestamp.{Timestamp}
 use Rattle.merged.specs.declared.Direction.{Direction}
 use Rattle.merged.specs.declared.Delay.{Delay}
-use Rattle.merged.specs.declared.Time.{Time}
 use Rattle.merged.specs.declared.Scalars.{Scalars}
-use Rattle.merged.specs.declared.StopScalars.{StopScalars}
 use Rattle.merged.specs.declared.Header.{Header}
 use Rattle.merged.specs.declared.Trip.{Trip}
-use Rattle.merged.specs.declared.Event.{Event}
-use Rattle.merged.specs.declared.StopUpdate.{StopUpdate}
 
 abbrev pub toSpan : Scalar → Span
 toSpan (Scalar.Number n) = record { start = 0; len = 0 }
@@ -35,16 +31,6 @@ abbrev pub toDelay : Scalar → Delay
 toDelay (Scalar.Number n) = Delay.Given (int32 n)
 toDelay (Scalar.Text i l) = Delay.Absent
 toDelay Scalar.Nothing = Delay.Absent
-
-abbrev pub toTime : Scalar → Time
-toTime (Scalar.Number n) = Time.Given (int64 n)
-toTime (Scalar.Text i l) = Time.Absent
-toTime Scalar.Nothing = Time.Absent
-
-abbrev pub toSequence : Scalar → ℕ
-toSequence (Scalar.Number n) = uint32 n
-toSequence (Scalar.Text i l) = 0
-toSequence Scalar.Nothing = 0
 
 abbrev pub toBool : Scalar → Bool
 toBool (Scalar.Number n) = bool n
@@ -70,16 +56,4 @@ toTrip d u = record {
   cancelled = isValue 3 (d .f4);
   direction = toDirection (d .f6);
   delay = toDelay (u .f5);
-}
-
-abbrev pub toEvent : Scalars → Event
-toEvent e = record { delay = toDelay (e .f1); time = toTime (e .f2) }
-
-abbrev pub toStop : StopScalars → StopUpdate
-toStop r = record {
-  sequence = toSequence (r .stop .f1);
-  stop = toSpan (r .stop .f4);
-  arrival = toEvent (r .arrival);
-  departure = toEvent (r .departure);
-  skipped = isValue 1 (r .stop .f5);
 }

@@ -10,11 +10,9 @@ use lib.ListN.{length, take, drop}
 use Rattle.wire.specs.Wire.{choose}
 use Rattle.realtime.specs.Tree.{Schema, Tree, end, num, txt, msg, orElse, Leaf, count, words, last, sub, tree}
 use Rattle.merged.specs.Fold.{Takes, folded, inside, inside-sub}
-use Rattle.realtime.specs.Schema.{stopTimeUpdate}
-use Rattle.merged.specs.Reading.{Lens, Reads, front-part}
+use Rattle.merged.specs.Reading.{Lens, front-part}
 use Rattle.merged.specs.declared.Scalar.{Scalar}
 use Rattle.merged.specs.declared.Scalars.{Scalars}
-use Rattle.merged.specs.declared.StopScalars.{StopScalars}
 
 -- what a scalar of the code says of the bytes, and where it lies
 abbrev pub said : List ℕ → Scalar → Option Leaf
@@ -148,14 +146,3 @@ along-last (p ∷ ps) t = inside-sub p (takesAlong ps) nothing t ∙ along-last 
 pub record Lasting (σ : Schema) (t : ℕ) (s : List ℕ) (i l : ℕ) (ps : List ℕ) (r : Scalars) : Type 0 where
   pub of : (m : Tree) → tree σ t (take l (drop i s)) ≡ some m → (k : Slot) → said s (at r k) ≡ last (fieldOf k) (along ps m)
   pub within : (k : Slot) → Lying (length s) (at r k)
-
--- the same of a stop_time_update, its arrivals, 2, and its departures, 3
-pub record StopLasting (σ : Schema) (s : List ℕ) (i l : ℕ) (r : StopScalars) : Type 0 where
-  pub stop : Lasting σ stopTimeUpdate s i l [] (r .stop)
-  pub arrival : Lasting σ stopTimeUpdate s i l (2 ∷ []) (r .arrival)
-  pub departure : Lasting σ stopTimeUpdate s i l (3 ∷ []) (r .departure)
-
-pub record StopReads (σ : Schema) (s : List ℕ) (from : ℕ) (r : StopScalars) : Type 0 where
-  pub stop : Reads scalars own σ stopTimeUpdate s from blank (r .stop)
-  pub arrival : Reads scalars (takesAlong (2 ∷ [])) σ stopTimeUpdate s from blank (r .arrival)
-  pub departure : Reads scalars (takesAlong (3 ∷ [])) σ stopTimeUpdate s from blank (r .departure)

@@ -4,9 +4,12 @@ use mathlib.Core.Path.{_≡_, subst}
 use mathlib.Core.List.{List, [], _∷_}
 use mathlib.Core.Option.{Option, none, some}
 use lib.ListN.{length, take, drop}
-use Rattle.wire.specs.Wire.{mapO}
+use lib.Dec.{eqb}
+use Rattle.wire.specs.Wire.{choose, mapO}
 use Rattle.realtime.specs.Tree.{Kind, aNumber, aText, aMessage, Schema, Tree, bindO, tree, join, sub, rep}
 use Rattle.realtime.specs.Schema.{feed, feedMessage, feedEntity, tripUpdate, stopTimeUpdate}
+use Rattle.realtime.specs.declared.Step.{Step}
+use Rattle.merged.specs.declared.Met.{Met}
 use Rattle.merged.specs.declared.Walk.{Walk}
 use Rattle.merged.specs.declared.Item.{Item}
 
@@ -23,6 +26,14 @@ pub record Sound (s : List ℕ) (outer end at : ℕ) : Type 0 where
   pub ahead : at ≤ end
   pub behind : end ≤ outer
   pub inside : outer ≤ length s
+
+-- what a step meets, where messages at field k are sought
+abbrev pub met : ℕ → Step → Met
+met k (Step.Number f v n) = Met.Other n
+met k (Step.Text f i l n) = Met.Other n
+met k (Step.Message f u i l n) = choose (eqb f k) (Met.Sought i l n) (Met.Other n)
+met k Step.End = Met.End
+met k Step.Broken = Met.Broken
 
 -- what a walk asks: its places, and the type of the messages at field a
 pub record Walks (σ : Schema) (t a u : ℕ) (s : List ℕ) (w : Walk) : Type 0 where

@@ -1,19 +1,23 @@
 // The merged messages of a feed, read after the validator: a broken message is answered with anything.
 use realtime::FEED_ENTITY;
 use realtime::FEED_MESSAGE;
+use realtime::STOP_TIME_EVENT;
 use realtime::STOP_TIME_UPDATE;
 use realtime::Step;
 use realtime::TRIP_UPDATE;
 use realtime::next;
 ghost use mathlib.Core.Path.{_≡_};
 ghost use Prim.Native.Nat.{_+_, _≤_};
+ghost use lib.Dec.{eqb};
 ghost use lib.ListN.{length};
+ghost use Rattle.wire.specs.Wire.{choose};
 ghost use Rattle.realtime.specs.Schema.{feed};
 ghost use Rattle.merged.specs.Reading.{Ready, Reads};
-ghost use Rattle.merged.specs.Scalars.{Lasting, StopLasting, StopReads, blank, kept, own, path, scalars, takesAlong};
-ghost use Rattle.merged.specs.Narrow.{isValue, toBool, toDelay, toDirection, toEvent, toHeader, toSequence, toSpan, toStop, toTime, toTimestamp, toTrip};
+ghost use Rattle.merged.specs.Scalars.{Lasting, blank, kept, own, path, scalars, takesAlong};
+ghost use Rattle.merged.specs.Narrow.{isValue, toBool, toDelay, toDirection, toHeader, toSpan, toTimestamp, toTrip};
+ghost use Rattle.merged.specs.Numbers.{EventReads, SequenceReads, StopReads, fromDelay, fromEvent, fromStop, fromTime, noNumbers};
 ghost use Rattle.merged.specs.Typed as typed;
-ghost use Rattle.merged.specs.Walks.{NextEntity, NextUpdate, Sound, Walks, Yields, typeOf};
+ghost use Rattle.merged.specs.Walks.{NextEntity, NextUpdate, Sound, Walks, Yields, met, typeOf};
 ghost use Rattle.merged.specs.Starts.{atMerged, atPlain};
 ghost use Rattle.merged.specs.Views.{DeletedRead, HeaderRead, SequenceRead, StopRead, TripRead};
 
@@ -54,6 +58,15 @@ fn nothing() -> Scalars
     }
 }
 
+fn pick(field: u64, own: u64, x: Scalar, old: Scalar) -> Scalar
+    ensures { λ r. ⌜ r ≡ choose (eqb field own) x old ⌝ }
+{
+    if field == own {
+        return x;
+    }
+    old
+}
+
 fn keep(d: Scalars, field: u64, x: Scalar) -> Scalars
     ensures { λ r. ⌜ r ≡ kept d field x ⌝ }
 {
@@ -63,56 +76,13 @@ fn keep(d: Scalars, field: u64, x: Scalar) -> Scalars
     let f4 = d.f4;
     let f5 = d.f5;
     let f6 = d.f6;
-    match field {
-        1 => Scalars {
-            f1: x,
-            f2,
-            f3,
-            f4,
-            f5,
-            f6,
-        },
-        2 => Scalars {
-            f1,
-            f2: x,
-            f3,
-            f4,
-            f5,
-            f6,
-        },
-        3 => Scalars {
-            f1,
-            f2,
-            f3: x,
-            f4,
-            f5,
-            f6,
-        },
-        4 => Scalars {
-            f1,
-            f2,
-            f3,
-            f4: x,
-            f5,
-            f6,
-        },
-        5 => Scalars {
-            f1,
-            f2,
-            f3,
-            f4,
-            f5: x,
-            f6,
-        },
-        6 => Scalars {
-            f1,
-            f2,
-            f3,
-            f4,
-            f5,
-            f6: x,
-        },
-        _ => d,
+    Scalars {
+        f1: pick(field, 1, x, f1),
+        f2: pick(field, 2, x, f2),
+        f3: pick(field, 3, x, f3),
+        f4: pick(field, 4, x, f4),
+        f5: pick(field, 5, x, f5),
+        f6: pick(field, 6, x, f6),
     }
 }
 
@@ -127,30 +97,15 @@ fn over_message(s: &[u8], from: usize, message: u64, before: Scalars) -> Scalars
         match next(s, at, message) {
             Step::Broken => return d,
             Step::End => return d,
-            Step::Number {
-                field,
-                value,
-                next: after,
-            } => {
+            Step::Number(field, value, after) => {
                 d = keep(d, field, Scalar::Number(value));
                 at = after;
             }
-            Step::Text {
-                field,
-                start,
-                len,
-                next: after,
-            } => {
+            Step::Text(field, start, len, after) => {
                 d = keep(d, field, Scalar::Text { start, len });
                 at = after;
             }
-            Step::Message {
-                field: _,
-                message: _,
-                start: _,
-                len: _,
-                next: after,
-            } => {
+            Step::Message(_, _, _, _, after) => {
                 at = after;
             }
         }
@@ -179,28 +134,13 @@ fn over_path(
         match next(s, at, message) {
             Step::Broken => return d,
             Step::End => return d,
-            Step::Number {
-                field: _,
-                value: _,
-                next: after,
-            } => {
+            Step::Number(_, _, after) => {
                 at = after;
             }
-            Step::Text {
-                field: _,
-                start: _,
-                len: _,
-                next: after,
-            } => {
+            Step::Text(_, _, _, after) => {
                 at = after;
             }
-            Step::Message {
-                field,
-                message: inner,
-                start,
-                len: _,
-                next: after,
-            } => {
+            Step::Message(field, inner, start, _, after) => {
                 if field == a {
                     d = over_path(wire::part(s, 0, after), start, inner, depth - 1, b, 0, d);
                 }
@@ -224,80 +164,6 @@ fn lasts(s: &[u8], start: usize, len: usize, message: u64, depth: usize, a: u64,
         b,
         nothing(),
     )
-}
-
-// Of a stop_time_update: its own last values, those of its arrivals and those of its departures.
-pub struct StopScalars {
-    pub stop: Scalars,
-    pub arrival: Scalars,
-    pub departure: Scalars,
-}
-
-// In one walk from `from` to the end.
-fn over_stop(s: &[u8], from: usize) -> StopScalars
-    requires { ⌜ from ≤ length (now s) ⌝ }
-    ensures { λ r. ⌜ StopReads feed (now (s .entry)) from r ⌝ }
-{
-    let mut at = from;
-    let mut stop = nothing();
-    let mut arrival = nothing();
-    let mut departure = nothing();
-    loop {
-        match next(s, at, STOP_TIME_UPDATE) {
-            Step::Broken => {
-                return StopScalars {
-                    stop,
-                    arrival,
-                    departure,
-                };
-            }
-            Step::End => {
-                return StopScalars {
-                    stop,
-                    arrival,
-                    departure,
-                };
-            }
-            Step::Number {
-                field,
-                value,
-                next: after,
-            } => {
-                stop = keep(stop, field, Scalar::Number(value));
-                at = after;
-            }
-            Step::Text {
-                field,
-                start,
-                len,
-                next: after,
-            } => {
-                stop = keep(stop, field, Scalar::Text { start, len });
-                at = after;
-            }
-            Step::Message {
-                field,
-                message: inner,
-                start,
-                len: _,
-                next: after,
-            } => {
-                if field == 2 {
-                    arrival = over_message(wire::part(s, 0, after), start, inner, arrival);
-                } else if field == 3 {
-                    departure = over_message(wire::part(s, 0, after), start, inner, departure);
-                }
-                at = after;
-            }
-        }
-    }
-}
-
-fn stop_lasts(s: &[u8], start: usize, len: usize) -> StopScalars
-    requires { ⌜ start + len ≤ length (now s) ⌝ }
-    ensures { λ r. ⌜ StopLasting feed (now (s .entry)) start len r ⌝ }
-{
-    over_stop(wire::part(s, 0, start + len), start)
 }
 
 // Where a text stands. An absent text is empty.
@@ -421,26 +287,6 @@ fn delay_of(x: Scalar) -> Delay
     }
 }
 
-fn time_of(x: Scalar) -> Time
-    ensures { λ r. ⌜ r ≡ toTime x ⌝ }
-{
-    match x {
-        Scalar::Number(n) => Time::Given(int64(n)),
-        Scalar::Text { start: _, len: _ } => Time::Absent,
-        Scalar::Nothing => Time::Absent,
-    }
-}
-
-fn sequence_of(x: Scalar) -> u32
-    ensures { λ r. ⌜ r ≡ toSequence x ⌝ }
-{
-    match x {
-        Scalar::Number(n) => uint32(n),
-        Scalar::Text { start: _, len: _ } => 0,
-        Scalar::Nothing => 0,
-    }
-}
-
 fn bool_of(x: Scalar) -> bool
     ensures { λ r. ⌜ r ≡ toBool x ⌝ }
 {
@@ -494,30 +340,169 @@ fn trip_from(d: Scalars, u: Scalars) -> Trip
     }
 }
 
-fn event_from(e: Scalars) -> Event
-    ensures { λ r. ⌜ r ≡ toEvent e ⌝ }
+// A number that may be absent: `given` is 0 or 1. Plain words, where an enum would be copied with the bytes between its parts,
+// which takes longer than the reading.
+pub struct Number {
+    pub given: u64,
+    pub value: u64,
+}
+
+// The last numbers of an event.
+pub struct EventNumbers {
+    pub delay: Number,
+    pub time: Number,
+}
+
+fn no_numbers() -> EventNumbers
+    ensures { λ r. ⌜ r ≡ noNumbers ⌝ }
 {
-    let delay = e.f1;
-    let time = e.f2;
-    Event {
-        delay: delay_of(delay),
-        time: time_of(time),
+    let delay = Number { given: 0, value: 0 };
+    let time = Number { given: 0, value: 0 };
+    EventNumbers { delay, time }
+}
+
+// From `from` to the end, over what is known already.
+fn over_event(s: &[u8], from: usize, before: EventNumbers) -> EventNumbers
+    requires { ⌜ from ≤ length (now s) ⌝ }
+    ensures { λ r. ⌜ EventReads (now (s .entry)) from before r ⌝ }
+{
+    let mut at = from;
+    let mut delay = before.delay;
+    let mut time = before.time;
+    loop {
+        match next(s, at, STOP_TIME_EVENT) {
+            Step::Broken => return EventNumbers { delay, time },
+            Step::End => return EventNumbers { delay, time },
+            Step::Number(field, value, after) => {
+                if field == 1 {
+                    delay = Number { given: 1, value };
+                } else if field == 2 {
+                    time = Number { given: 1, value };
+                }
+                at = after;
+            }
+            Step::Text(_, _, _, after) => {
+                at = after;
+            }
+            Step::Message(_, _, _, _, after) => {
+                at = after;
+            }
+        }
     }
 }
 
-fn stop_from(r: StopScalars) -> StopUpdate
-    ensures { λ u. ⌜ u ≡ toStop r ⌝ }
+fn delay_from(n: Number) -> Delay
+    ensures { λ r. ⌜ r ≡ fromDelay n ⌝ }
 {
-    let own = r.stop;
-    let sequence = own.f1;
-    let stop = own.f4;
-    let relationship = own.f5;
+    if n.given == 1 {
+        return Delay::Given(int32(n.value));
+    }
+    Delay::Absent
+}
+
+fn time_from(n: Number) -> Time
+    ensures { λ r. ⌜ r ≡ fromTime n ⌝ }
+{
+    if n.given == 1 {
+        return Time::Given(int64(n.value));
+    }
+    Time::Absent
+}
+
+fn event_from(e: EventNumbers) -> Event
+    ensures { λ r. ⌜ r ≡ fromEvent e ⌝ }
+{
+    let delay = e.delay;
+    let time = e.time;
+    Event {
+        delay: delay_from(delay),
+        time: time_from(time),
+    }
+}
+
+fn stop_from(
+    sequence: u64,
+    stop: Span,
+    relationship: u64,
+    arrival: EventNumbers,
+    departure: EventNumbers,
+) -> StopUpdate
+    ensures { λ r. ⌜ r ≡ fromStop sequence stop relationship arrival departure ⌝ }
+{
     StopUpdate {
-        sequence: sequence_of(sequence),
-        stop: span_of(stop),
-        arrival: event_from(r.arrival),
-        departure: event_from(r.departure),
-        skipped: is_value(SKIPPED, relationship),
+        sequence: uint32(sequence),
+        stop,
+        arrival: event_from(arrival),
+        departure: event_from(departure),
+        skipped: relationship % 4294967296 == SKIPPED,
+    }
+}
+
+// A stop_time_update from `from` to the end: the last of each, in its arrivals and in its departures too.
+fn over_stop(s: &[u8], from: usize) -> StopUpdate
+    requires { ⌜ from ≤ length (now s) ⌝ }
+    ensures { λ r. ⌜ StopReads (now (s .entry)) from r ⌝ }
+{
+    let mut at = from;
+    let mut sequence: u64 = 0;
+    let mut stop = Span { start: 0, len: 0 };
+    let mut relationship: u64 = 0;
+    let mut arrival = no_numbers();
+    let mut departure = no_numbers();
+    loop {
+        match next(s, at, STOP_TIME_UPDATE) {
+            Step::Broken => return stop_from(sequence, stop, relationship, arrival, departure),
+            Step::End => return stop_from(sequence, stop, relationship, arrival, departure),
+            Step::Number(field, value, after) => {
+                if field == 1 {
+                    sequence = value;
+                } else if field == 5 {
+                    relationship = value;
+                }
+                at = after;
+            }
+            Step::Text(field, start, len, after) => {
+                if field == 4 {
+                    stop = Span { start, len };
+                }
+                at = after;
+            }
+            Step::Message(field, _, start, _, after) => {
+                if field == 2 {
+                    arrival = over_event(wire::part(s, 0, after), start, arrival);
+                } else if field == 3 {
+                    departure = over_event(wire::part(s, 0, after), start, departure);
+                }
+                at = after;
+            }
+        }
+    }
+}
+
+// Its last sequence alone, 0 where there is none: the messages in it are passed over.
+fn over_sequence(s: &[u8], from: usize) -> u64
+    requires { ⌜ from ≤ length (now s) ⌝ }
+    ensures { λ r. ⌜ SequenceReads (now (s .entry)) from r ⌝ }
+{
+    let mut at = from;
+    let mut sequence: u64 = 0;
+    loop {
+        match next(s, at, STOP_TIME_UPDATE) {
+            Step::Broken => return sequence,
+            Step::End => return sequence,
+            Step::Number(field, value, after) => {
+                if field == 1 {
+                    sequence = value;
+                }
+                at = after;
+            }
+            Step::Text(_, _, _, after) => {
+                at = after;
+            }
+            Step::Message(_, _, _, _, after) => {
+                at = after;
+            }
+        }
     }
 }
 
@@ -553,17 +538,15 @@ pub fn stop_of(s: &[u8], start: usize, len: usize) -> StopUpdate
     requires { ⌜ start + len ≤ length (now s) ⌝ }
     ensures { λ r. ⌜ StopRead feed (now (s .entry)) start len r ⌝ }
 {
-    stop_from(stop_lasts(s, start, len))
+    over_stop(wire::part(s, 0, start + len), start)
 }
 
-// And its sequence alone: the messages in it are passed over.
+// And its sequence alone.
 pub fn sequence_at(s: &[u8], start: usize, len: usize) -> u32
     requires { ⌜ start + len ≤ length (now s) ⌝ }
     ensures { λ r. ⌜ SequenceRead feed (now (s .entry)) start len r ⌝ }
 {
-    let u = lasts(s, start, len, STOP_TIME_UPDATE, 0, 0, 0);
-    let sequence = u.f1;
-    sequence_of(sequence)
+    uint32(over_sequence(wire::part(s, 0, start + len), start))
 }
 
 // A walk over the messages at a repeated field, of all the messages at another field merged: the next place outside, and what is left of the message that is open.
@@ -582,6 +565,33 @@ pub enum Item {
     Done,
 }
 
+// What a step meets, where messages at one field are looked for.
+pub enum Met {
+    // start, length, next place
+    Sought(usize, usize, usize),
+    // next place
+    Other(usize),
+    End,
+    Broken,
+}
+
+fn meet(k: u64, step: Step) -> Met
+    ensures { λ r. ⌜ r ≡ met k step ⌝ }
+{
+    match step {
+        Step::Broken => Met::Broken,
+        Step::End => Met::End,
+        Step::Number(_, _, after) => Met::Other(after),
+        Step::Text(_, _, _, after) => Met::Other(after),
+        Step::Message(field, _, start, len, after) => {
+            if field == k {
+                return Met::Sought(start, len, after);
+            }
+            Met::Other(after)
+        }
+    }
+}
+
 // The next message at field `k` of those of type `inner` at field `a` of a message.
 fn next_item(s: &[u8], message: u64, a: u64, inner: u64, k: u64, walk: Walk) -> Item
     requires { ⌜ Walks feed message a inner (now s) walk ⌝ }
@@ -591,72 +601,25 @@ fn next_item(s: &[u8], message: u64, a: u64, inner: u64, k: u64, walk: Walk) -> 
     let mut end = walk.end;
     let mut at = walk.at;
     loop {
-        match next(wire::part(s, 0, end), at, inner) {
-            Step::Broken => return Item::Done,
-            Step::Number {
-                field: _,
-                value: _,
-                next: after,
-            } => {
+        match meet(k, next(wire::part(s, 0, end), at, inner)) {
+            Met::Broken => return Item::Done,
+            Met::Other(after) => {
                 at = after;
             }
-            Step::Text {
-                field: _,
-                start: _,
-                len: _,
-                next: after,
-            } => {
+            Met::Sought(start, len, after) => {
                 at = after;
+                let walk = Walk { outer, end, at };
+                return Item::At { start, len, walk };
             }
-            Step::Message {
-                field,
-                message: _,
-                start,
-                len,
-                next: after,
-            } => {
-                if field == k {
-                    return Item::At {
-                        start,
-                        len,
-                        walk: Walk {
-                            outer,
-                            end,
-                            at: after,
-                        },
-                    };
-                }
-                at = after;
-            }
-            Step::End => match next(s, outer, message) {
-                Step::Broken => return Item::Done,
-                Step::End => return Item::Done,
-                Step::Number {
-                    field: _,
-                    value: _,
-                    next: after,
-                } => {
+            Met::End => match meet(a, next(s, outer, message)) {
+                Met::Broken => return Item::Done,
+                Met::End => return Item::Done,
+                Met::Other(after) => {
                     outer = after;
                 }
-                Step::Text {
-                    field: _,
-                    start: _,
-                    len: _,
-                    next: after,
-                } => {
-                    outer = after;
-                }
-                Step::Message {
-                    field,
-                    message: _,
-                    start,
-                    len: _,
-                    next: after,
-                } => {
-                    if field == a {
-                        at = start;
-                        end = after;
-                    }
+                Met::Sought(start, _, after) => {
+                    at = start;
+                    end = after;
                     outer = after;
                 }
             },

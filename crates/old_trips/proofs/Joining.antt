@@ -1,7 +1,7 @@
 -- The old trips join the index one by one. Assumes nothing.
 use Prim.Native.Nat.{ℕ, _+_, _-_, _≤_, _<_}
 use mathlib.Core.Path.{_≡_, refl, sym, ap, _∙_}
-use mathlib.Core.Bool.{Bool, true, false, cond}
+use mathlib.Core.Bool.{false, cond}
 use mathlib.Core.List.{List, [], _∷_, _++_, append-nil}
 use mathlib.Core.Option.{some}
 use native.Mathlib.Omega.{arith}
@@ -14,16 +14,17 @@ use Rattle.writing.specs.Slices.{slice-is}
 use Rattle.places.specs.Here.{Here, halves}
 use Rattle.places.specs.Lists.{Many, listed}
 use Rattle.places.specs.Reads.{ReadsNumber, ReadsText}
-use Rattle.places.specs.Walk.{At, Walk, begin, onward, ended, of-list}
+use Rattle.places.specs.Walk.{At, Walk, ended, of-list}
 use Rattle.decode.specs.Trip.{Trip, trip, tripEntry}
-use Rattle.decode.specs.Map.{put, puts, ascending}
+use Rattle.decode.specs.Map.{put}
 use Rattle.decode.specs.Order.{texts}
-use Rattle.decode.specs.Laws.{map-put, puts-append, put-all, put-one-more, puts-itself}
-use Rattle.decode.specs.Index.{Place, index, Sound}
-use Rattle.decode.specs.Entity.{Filed}
-use Rattle.decode.specs.Slots.{index-length, filed-length, sound-none}
+use Rattle.decode.specs.Laws.{map-put, puts-append, put-all, put-one-more}
+use Rattle.slots.specs.Index.{Place, index, Sound}
+use Rattle.filing.specs.Entity.{Filed}
+use Rattle.slots.specs.Slots.{index-length, sound-none}
+use Rattle.filing.specs.Lengths.{filed-length}
 use Rattle.decode.specs.Leaves.{Trips}
-use Rattle.decode.specs.Places.{beyond, isNew, orEmpty, bytesAt, recordAt, oldAt, heldAt, held}
+use Rattle.slots.specs.Places.{beyond, isNew, orEmpty, recordAt, oldAt, heldAt, held}
 use Rattle.old_trips.specs.Old.{Stands, Joined, Entry, Passes, Filled}
 
 -- the bytes of a value that stands somewhere are read as it, and nothing is left
@@ -124,7 +125,7 @@ module _ {o : List ℕ} {at c a : ℕ} (S : Stands o at) (N : ReadsNumber o at c
     sound = sound-now;
     few = omega (arith, all (S .trips) (S .end) (S .here) .few, S .few);
     aged = all (S .trips) (S .end) (S .here) .aged;
-    of = λ v q h g s. all v q h .holds s ∙ puts-itself texts v g;
+    of = λ v q h. all v q h .holds;
   }
     where
       all : (v : Trips) (q : ℕ) → Here (list 2048 tripEntry) o at q v → Filled o keys marks order n v

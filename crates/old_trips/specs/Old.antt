@@ -1,36 +1,35 @@
 -- The old trips of a feed: how they stand in the old overlay's bytes, and the index that they have joined. Assumes nothing: these are definitions.
 use Prim.Native.Nat.{ℕ, _+_, _≤_}
 use mathlib.Core.Path.{_≡_}
-use mathlib.Core.Bool.{true, false}
+use mathlib.Core.Bool.{false}
 use mathlib.Core.List.{List, []}
 use lib.ListN.{length}
 use Rattle.formats.specs.Law.{All}
 use Rattle.formats.specs.Format.{list, Value}
 use Rattle.places.specs.Here.{Here}
 use Rattle.decode.specs.Trip.{trip, tripEntry}
-use Rattle.decode.specs.Map.{puts, ascending}
+use Rattle.decode.specs.Map.{puts}
 use Rattle.decode.specs.Order.{texts}
-use Rattle.decode.specs.Index.{index, Sound}
-use Rattle.decode.specs.Entity.{Filed}
+use Rattle.slots.specs.Index.{index, Sound}
+use Rattle.filing.specs.Entity.{Filed}
 use Rattle.decode.specs.Leaves.{Trips}
-use Rattle.decode.specs.Places.{beyond, isNew, held}
+use Rattle.slots.specs.Places.{beyond, isNew, held}
 
 -- a feed's trips stand in o from `at` on, and are as many and as short as the state lets them be
 pub record Stands (o : List ℕ) (at : ℕ) : Type 0 where
   pub trips : Trips
   pub end : ℕ
   pub here : Here (list 2048 tripEntry) o at end trips
-  pub ascends : ascending texts trips ≡ true
   pub few : length trips ≤ 2048
   pub short : All (λ e. length (e .0) ≤ 137) trips
   pub small : length o ≤ 4000000000
 
--- THE OLD TRIPS HAVE JOINED: the index holds them, whatever the message, and nothing else
+-- THE OLD TRIPS HAVE JOINED: the index holds them, whatever the message, and nothing else. Those of a state ascend, and then `puts texts v []` is v
 pub record Joined (o : List ℕ) (at : ℕ) (keys marks order : List ℕ) (r : ℕ) : Type 0 where
   pub sound : Sound keys marks order r
   pub few : r ≤ 2048
   pub aged : All (λ e. isNew (e .1) ≡ false) (index keys marks order r)
-  pub of : (v : Trips) (q : ℕ) → Here (list 2048 tripEntry) o at q v → ascending texts v ≡ true → (s : List ℕ) → held s o (index keys marks order r) ≡ v
+  pub of : (v : Trips) (q : ℕ) → Here (list 2048 tripEntry) o at q v → (s : List ℕ) → held s o (index keys marks order r) ≡ puts texts v []
 
 -- one of them stands at p
 pub record Entry (o : List ℕ) (p : ℕ) : Type 0 where

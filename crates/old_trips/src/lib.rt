@@ -1,24 +1,35 @@
 // The old trips of a feed join the index before a message's entities: where the message says what has changed, and not all there is.
 mod table;
 
+use judging::Judge;
 use table::DEPTH;
-use table::NODE;
+use table::LIST;
 use table::TRIP;
+use table::TRIPS;
 ghost use mathlib.Core.Path.{_≡_};
 ghost use Prim.Native.Nat.{ℕ, _+_, _≤_};
 ghost use lib.ListN.{length};
-ghost use Rattle.formats.specs.Format.{Value};
+ghost use Rattle.formats.specs.Format.{list, Value};
+ghost use Rattle.judging.specs.Judged.{judgeTo};
 ghost use Rattle.places.specs.Here.{Here};
-ghost use Rattle.decode.specs.Trip.{trip};
-ghost use Rattle.decode.specs.Index.{Sound};
-ghost use Rattle.decode.specs.Places.{beyond};
+ghost use Rattle.decode.specs.Trip.{trip, tripEntry};
+ghost use Rattle.slots.specs.Index.{Sound};
+ghost use Rattle.slots.specs.Places.{beyond};
 ghost use Rattle.old_trips.specs.Old.{Stands, Joined, Entry, Passes};
+
+// The judgement of the trips that stand at `at`: their form, and the first of the questions 5 to 7 that they fail.
+pub fn judge(old: &[u8], at: usize) -> Judge
+    requires { ⌜ at ≤ length (now old) ⌝ }
+    ensures { λ r. ⌜ r ≡ judgeTo (list 2048 tripEntry) (now (old .entry)) at ⌝ }
+{
+    judging::judge_value(&TRIPS, DEPTH, LIST, old, at)
+}
 
 // The place past the record at `at`.
 fn past_trip(old: &[u8], at: usize) -> usize
     ensures { λ r. ⌜ ((v : Value trip) (q : ℕ) → Here trip (now (old .entry)) at q v → r ≡ q) ⌝ }
 {
-    places::past(&TRIP, DEPTH, NODE, old, at)
+    places::past(&TRIPS, DEPTH, TRIP, old, at)
 }
 
 // A place of the old overlay's bytes, above all those of a message.
@@ -55,7 +66,7 @@ fn file_entry(
     let next = past_trip(old, end);
     let from = old_place(end);
     let till = old_place(next);
-    let slots = decode::file_key(keys, marks, order, n, old, start, end - start, from, till);
+    let slots = filing::file_key(keys, marks, order, n, old, start, end - start, from, till);
     Passed { slots, next }
 }
 

@@ -1,5 +1,5 @@
-// The format of a trip's record as the table that the interpreter goes by: four words to a node, parts before the whole.
-pub const TRIP: [u64; 92] = [
+// The format of a feed's old trips as the table that the interpreter goes by: four words to a node, parts before the whole.
+pub const TRIPS: [u64; 104] = [
     1,
     0,
     0,
@@ -92,9 +92,23 @@ pub const TRIP: [u64; 92] = [
     2,
     21,
     0,
+    5,
+    137,
+    1,
+    0,
+    10,
+    23,
+    22,
+    0,
+    8,
+    2048,
+    24,
+    0,
 ];
 
-// The node of a record, and how deep the format is.
-pub const NODE: u64 = 22;
+// The nodes of the list and of a trip's record, and how deep the format is.
+pub const LIST: u64 = 25;
 
-pub const DEPTH: u32 = 15;
+pub const TRIP: u64 = 22;
+
+pub const DEPTH: u32 = 17;

@@ -14,7 +14,8 @@ use Rattle.formats.specs.Class.{all}
 use Rattle.formats.specs.Format.{Fits, read, write, read-write, write-read}
 use Rattle.judging.specs.Judged.{ok}
 use Rattle.capacity.specs.Capacity.{capacity, capacity-bounds}
-use Rattle.overlay.specs.Rules.{Judged, both-true, formed-of, keeps}
+use Rattle.decode.specs.Laws.{both-true}
+use Rattle.overlay.specs.Rules.{Judged, formed-of, keeps}
 use Rattle.decode.specs.Map.{ascending}
 use Rattle.decode.specs.Order.{texts}
 use Rattle.overlay.specs.State.{State, overlay, feedsOf}

@@ -16,7 +16,7 @@ use Rattle.formats.specs.Law.{All}
 use Rattle.formats.specs.Class.{all, allowed, inClass, printable, token}
 use Rattle.formats.specs.Format.{Format, text, small, optional, _&_, Value}
 use Rattle.judging.specs.Judged.{ok}
-use Rattle.overlay.specs.Rules.{Judged, joined, listed, absent, present, both-true, and-true}
+use Rattle.overlay.specs.Rules.{Judged, joined, listed, absent, present, and-true}
 use Rattle.wire.specs.Wire.{mapO}
 use Rattle.realtime.specs.Tree.{Tree, Leaf, count, words, tree, last, sub, rep}
 use Rattle.realtime.specs.Schema.{feedMessage, feedEntity, tripUpdate, tripDescriptor, stopTimeUpdate, stopTimeEvent, rows, feed}
@@ -30,7 +30,7 @@ use Rattle.decode.specs.Key.{empty, decimalOf, shown, prefixed, datedKey, headO
 use Rattle.slices.specs.Lists.{lexOf}
 use Rattle.decode.specs.Map.{isSame, ascending}
 use Rattle.decode.specs.Order.{numbers, lex-itself}
-use Rattle.decode.specs.Laws.{puts-ascending}
+use Rattle.decode.specs.Laws.{both-true, puts-ascending}
 use Rattle.decode.specs.Record.{maybe, bit, updateIn, updatesIn, tripIn}
 use Rattle.decode.specs.Leaves.{entries, timestampIn}
 use Rattle.overlay.specs.State.{timestamp}
@@ -242,7 +242,7 @@ or-left : (a b : Bool) → a ≡ true → (a || b) ≡ true
 or-left true b e = refl
 or-left false b e = absurd (false≢true e)
 
-or-right : (a b : Bool) → b ≡ true → (a || b) ≡ true
+pub or-right : (a b : Bool) → b ≡ true → (a || b) ≡ true
 or-right true b e = refl
 or-right false b e = e
 
@@ -264,7 +264,7 @@ dated-ok f b raw t p d =
     let k : take (length x - suc (length (dateOf t))) x ≡ b ∷ raw = ap (λ i. take i x) n ∙ take-at (b ∷ raw) (64 ∷ dateOf t) (length (b ∷ raw)) refl in
     or-right (rawOk x) _ (or-left (datedOk (dateOf t) x) _ (rw k (and-true d (and-true (raw-ok b raw p) (itself x)))))
 
-incomplete-ok : (f : List ℕ) (t : Trip) → keyOk f (incompleteKey f t) t ≡ true
+pub incomplete-ok : (f : List ℕ) (t : Trip) → keyOk f (incompleteKey f t) t ≡ true
 unfolding keyOk
 incomplete-ok f t = or-right (rawOk (incompleteKey f t)) _ (or-right (datedOk (dateOf t) (incompleteKey f t)) _ (itself (incompleteKey f t)))
 

@@ -10,10 +10,10 @@ use Rattle.slices.specs.declared.Order.{Order}
 use Rattle.slices.specs.declared.Order.the-variants.{Less, Same, More}
 use Rattle.formats.specs.Law.{All, none-some}
 use Rattle.formats.specs.Class.{all}
-use Rattle.overlay.specs.Rules.{both-true, and-true}
+use Rattle.overlay.specs.Rules.{and-true}
 use Rattle.decode.specs.Map.{Ordered, byOrder, isLess, get, put, puts, above, ascending}
 use Rattle.decode.specs.Order.{texts}
-use Rattle.decode.specs.Laws.{is-less, rest-ascending}
+use Rattle.decode.specs.Laws.{both-true, is-less, rest-ascending}
 use Rattle.overlay.specs.State.{Vehicle, Vehicles, updatedOf}
 use Rattle.overlay.specs.Change.{withoutStale}
 

@@ -14,11 +14,11 @@ use Rattle.formats.specs.Law.{All}
 use Rattle.formats.specs.Class.{all, token}
 use Rattle.formats.specs.Format.{text, number, list, optional, _&_, write, Fits}
 use Rattle.judging.specs.Judged.{ok}
-use Rattle.overlay.specs.Rules.{Judged, left, right, joined, elements, listed, absent, few, counted, both-true, and-true, fits-of}
+use Rattle.overlay.specs.Rules.{Judged, left, right, joined, elements, listed, absent, few, counted, and-true, fits-of}
 use Rattle.realtime.specs.Tree.{Tree, rep}
 use Rattle.decode.specs.Map.{get, puts, ascending}
 use Rattle.decode.specs.Order.{texts}
-use Rattle.decode.specs.Laws.{put-ascending, puts-ascending}
+use Rattle.decode.specs.Laws.{both-true, put-ascending, puts-ascending}
 use Rattle.decode.specs.Trip.{tripEntry, Maybe, Trip}
 use Rattle.decode.specs.Leaves as leaves
 use Rattle.alerts.specs.Alert.{Alert, alert}

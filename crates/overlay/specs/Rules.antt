@@ -12,12 +12,9 @@ use Rattle.formats.specs.Law.{All}
 use Rattle.formats.specs.Class.{all}
 use Rattle.formats.specs.Format.{Format, never, empty, number, signed, small, text, float, constant, list, choice, _&_, Value, takes, Fits}
 use Rattle.judging.specs.Judged.{ok}
+use Rattle.decode.specs.Laws.{both-true}
 use Rattle.capacity.specs.Capacity.{Keeps}
 use Rattle.capacity.specs.Fitting.{Formed, sensible, keeps-fits}
-
-pub both-true : (a b : Bool) → (a && b) ≡ true → (a ≡ true) × (b ≡ true)
-both-true true b e = (refl, e)
-both-true false b e = absurd (false≢true e)
 
 pub and-true : {a b : Bool} → a ≡ true → b ≡ true → (a && b) ≡ true
 and-true p q = rw (p, q) refl

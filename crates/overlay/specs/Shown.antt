@@ -7,7 +7,7 @@ use Prim.Native.Nat.{ℕ}
 use native.Mathlib.Omega.{arith}
 use lib.Dec.{eqb, ltb}
 use borrow.Author.Tests.{eq-eqb, ne-eqb, ltb-true, ltb-false}
-use Rattle.slices.specs.Lists.{lexOf, choose}
+use Rattle.slices.specs.Lists.{lexOf}
 use Rattle.slices.specs.declared.Order.{Order}
 use Rattle.slices.specs.declared.Order.the-variants.{Less, Same, More}
 use Rattle.decode.specs.Map.{isSame, byOrder, get}
@@ -26,7 +26,7 @@ same-lex [] (y ∷ b) = refl
 same-lex (x ∷ a) [] = refl
 same-lex (x ∷ a) (y ∷ b) = go (ltb x y) refl (ltb y x) refl (same-lex a b)
   where
-    go : (s : Bool) → ltb x y ≡ s → (t : Bool) → ltb y x ≡ t → same a b ≡ isSame (lexOf a b) → (eqb x y && same a b) ≡ isSame (choose s Less (choose t More (lexOf a b)))
+    go : (s : Bool) → ltb x y ≡ s → (t : Bool) → ltb y x ≡ t → same a b ≡ isSame (lexOf a b) → (eqb x y && same a b) ≡ isSame (cond s Less (cond t More (lexOf a b)))
     go true p t q ih = rw (ne-eqb x y (λ e. omega (arith, ltb-true x y p))) refl
     go false p true q ih = rw (ne-eqb x y (λ e. omega (arith, ltb-true y x q))) refl
     go false p false q ih = rw (eq-eqb x y (omega (arith, ltb-false x y p, ltb-false y x q))) ih

@@ -14,7 +14,8 @@ use Rattle.formats.specs.Law.{none-some}
 use Rattle.formats.specs.Format.{Format, Fits, Value, read, write, write-read}
 use Rattle.judging.specs.Judged.{ok}
 use Rattle.capacity.specs.Fitting.{Formed}
-use Rattle.overlay.specs.Rules.{Judged, both-true, elements, formed-of, unjudged, right}
+use Rattle.decode.specs.Laws.{both-true}
+use Rattle.overlay.specs.Rules.{Judged, elements, formed-of, unjudged, right}
 use Rattle.decode.specs.Trip.{instant}
 use Rattle.decode.specs.Map.{puts, ascending}
 use Rattle.decode.specs.Order.{texts}

@@ -1,11 +1,12 @@
 -- What the probes answer, by the definitions of `slices` and `wire`. Assumes nothing: these are definitions.
+use mathlib.Core.Bool.{cond}
 use Prim.Native.Nat.{ℕ, _-_}
 use mathlib.Core.List.{List, [], _∷_}
 use mathlib.Core.Option.{Option, none, some}
 use lib.Bits.{bitXor}
 use lib.ListN.{length, drop}
 use lib.Dec.{leb}
-use Rattle.slices.specs.Lists.{choose, pasted}
+use Rattle.slices.specs.Lists.{pasted}
 use Rattle.slices.specs.declared.Order.{Order}
 use Rattle.slices.specs.declared.Order.the-variants.{Less, Same, More}
 use Rattle.wire.specs.Wire.{Read, broken, read, varint, Field, field, many}
@@ -32,7 +33,7 @@ xorNumbers s = xorOf 0 (many varint (length s) s)
 
 -- d with s in front, where it fits
 abbrev pub copied : List ℕ → List ℕ → List ℕ
-copied d s = choose (leb (length s) (length d)) (pasted d 0 s) d
+copied d s = cond (leb (length s) (length d)) (pasted d 0 s) d
 
 abbrev pub orderNumber : Order → ℕ
 orderNumber Less = 0

@@ -18,7 +18,7 @@ pub extern "C" fn probes_field_end(s: &[u8], at: usize) -> usize
     let here = Cursor { at };
     match here.key(s) {
         GotKey::Broken => 0,
-        GotKey::Read { number, wire, next } => match next.skip(s, number, wire, 16) {
+        GotKey::Read(number, wire, next) => match next.skip(s, number, wire, 16) {
             Skipped::Broken => 0,
             Skipped::Past(after) => after.at,
         },
@@ -36,7 +36,7 @@ pub extern "C" fn probes_xor_numbers(s: &[u8]) -> u64
         let here = Cursor { at };
         match here.number(s) {
             GotNumber::Broken => return 0,
-            GotNumber::Read { value, next } => {
+            GotNumber::Read(value, next) => {
                 acc = acc ^ value;
                 at = next.at;
             }

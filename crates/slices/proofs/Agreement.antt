@@ -1,6 +1,6 @@
 -- What two lists have in common from the front on decides whether they are the same, and their order. Assumes nothing.
 use mathlib.Core.Path.{_≡_, refl, sym, ap, _∙_}
-use mathlib.Core.Bool.{Bool, true, false, _&&_}
+use mathlib.Core.Bool.{Bool, true, false, cond, _&&_}
 use mathlib.Core.List.{List, [], _∷_}
 use Prim.Native.Nat.{ℕ, zero, suc, _+_, _≤_, _<_}
 use native.Mathlib.Nat.{add-zero}
@@ -10,7 +10,7 @@ use lib.Dec.{eqb}
 use lib.ListN.{length, getD, drop, drop-of-length-le}
 use lib.Seq.{drop-cons}
 use borrow.Author.Tests.{eq-eqb, ne-eqb, eqb-true, eqb-false, lt-ltb, le-ltb}
-use Rattle.slices.specs.Lists.{choose, equal, lexOf, alike, commonOf}
+use Rattle.slices.specs.Lists.{equal, lexOf, alike, commonOf}
 use Rattle.slices.specs.Laws.{and-left, and-right, equal-true}
 use Rattle.slices.specs.declared.Order.the-variants.{Less, Same, More}
 
@@ -75,7 +75,7 @@ common-equal (x ∷ a) [] l e = absurd (omega arith)
 common-equal (x ∷ a) (y ∷ b) l e = go (common-equal a b) (eqb x y) e
   where
     go : (length a ≡ length b → commonOf a b ≡ length a → equal a b ≡ true)
-        → (t : Bool) → choose t (suc (commonOf a b)) 0 ≡ suc (length a) → (t && equal a b) ≡ true
+        → (t : Bool) → cond t (suc (commonOf a b)) 0 ≡ suc (length a) → (t && equal a b) ≡ true
     go ih true e₁ = ih (omega arith) (omega arith)
     go ih false e₁ = absurd (omega arith)
 
@@ -102,7 +102,7 @@ lex-common (x ∷ a) [] = refl
 lex-common (x ∷ a) (y ∷ b) = go (lex-common a b) (eqb x y) refl
   where
     go : lexOf a b ≡ lexOf (drop (commonOf a b) a) (drop (commonOf a b) b) → (t : Bool) → eqb x y ≡ t → lexOf (x ∷ a) (y ∷ b)
-        ≡ lexOf (drop (choose t (suc (commonOf a b)) 0) (x ∷ a)) (drop (choose t (suc (commonOf a b)) 0) (y ∷ b))
+        ≡ lexOf (drop (cond t (suc (commonOf a b)) 0) (x ∷ a)) (drop (cond t (suc (commonOf a b)) 0) (y ∷ b))
     go ih true e =
         let h : x ≡ y = eqb-true x y e in
         rw (le-ltb x y (omega arith), le-ltb y x (omega arith)) ih
@@ -115,8 +115,8 @@ common-next [] b p q e = absurd (omega arith)
 common-next (x ∷ a) [] p q e = absurd (omega arith)
 common-next (x ∷ a) (y ∷ b) p q e = go (common-next a b) (eqb x y) refl p q e
   where
-    go : (commonOf a b < length a → commonOf a b < length b → getD a (commonOf a b) 0 ≡ getD b (commonOf a b) 0 → ⊥) → (t : Bool) → eqb x y ≡ t → choose t (suc (commonOf a b)) 0 < suc (length a) → choose t (suc (commonOf a b)) 0 < suc (length b)
-        → getD (x ∷ a) (choose t (suc (commonOf a b)) 0) 0 ≡ getD (y ∷ b) (choose t (suc (commonOf a b)) 0) 0 → ⊥
+    go : (commonOf a b < length a → commonOf a b < length b → getD a (commonOf a b) 0 ≡ getD b (commonOf a b) 0 → ⊥) → (t : Bool) → eqb x y ≡ t → cond t (suc (commonOf a b)) 0 < suc (length a) → cond t (suc (commonOf a b)) 0 < suc (length b)
+        → getD (x ∷ a) (cond t (suc (commonOf a b)) 0) 0 ≡ getD (y ∷ b) (cond t (suc (commonOf a b)) 0) 0 → ⊥
     go ih true h p₁ q₁ e₁ = ih (omega arith) (omega arith) e₁
     go ih false h p₁ q₁ e₁ = eqb-false x y h e₁
 

@@ -1,10 +1,9 @@
 -- A ticket passes where every question is answered yes; a written one, where it fitted as well.
-use mathlib.Core.Bool.{Bool, false}
+use mathlib.Core.Bool.{Bool, false, cond}
 use mathlib.Core.List.{List}
 use Prim.Native.Nat.{ℕ}
 use lib.Dec.{leb, eqb}
 use lib.ListN.{length, take}
-use Rattle.formats.specs.Law.{pick}
 use Rattle.judging.specs.Judged.{judgeTo}
 use Rattle.judging.specs.declared.Judge.{Judge}
 use Rattle.judging.specs.declared.Judge.the-variants.{At, Broken}
@@ -18,4 +17,4 @@ passes Broken = false
 
 abbrev pub writtenPasses : Put → List ℕ → Bool
 writtenPasses put.Full s = false
-writtenPasses (put.At n) s = pick (leb n (length s)) (passes (judgeTo ticket (take n s) 0)) false
+writtenPasses (put.At n) s = cond (leb n (length s)) (passes (judgeTo ticket (take n s) 0)) false

@@ -19,11 +19,9 @@ use Rattle.realtime.specs.Schema as schema
 use Rattle.realtime.specs.Judge.{asked, rules}
 use Rattle.realtime.specs.declared.Verdict.{Verdict}
 use Rattle.decode.specs.Trip.{Trip, date, delay, directionOf, id, number32, stopUpdate, time, trip, tripEntry, updatesOf}
-use Rattle.decode.specs.Map.{ascending}
 use Rattle.decode.specs.Laws.{both-true}
-use Rattle.decode.specs.Order.{texts}
 use Rattle.decode.specs.Leaves.{Trips}
-use Rattle.decode.specs.Places.{anyCrowded, crowded}
+use Rattle.slots.specs.Places.{crowded}
 use Rattle.index.specs.Message.{Judged}
 use Rattle.index.specs.Leaving.{Old}
 use Rattle.trip_probes.specs.Answers.{questionOf}
@@ -46,10 +44,9 @@ few-updates t h =
     let c = both-true (leb (length (updatesOf t)) 128) (all (ok 7 (number32 & stopUpdate)) (updatesOf t)) (b .1) in
     le-ltb 128 (length (updatesOf t)) (leb-true (length (updatesOf t)) 128 (c .0))
 
-calm : (v : Trips) → all (ok 7 tripEntry) v ≡ true → anyCrowded v ≡ false
-unfolding anyCrowded
-calm [] h = refl
-calm (e ∷ v) h = let a = both-true (ok 7 tripEntry e) (all (ok 7 tripEntry) v) h in rw (few-updates (e .1) (a .0), calm v (a .1)) refl
+calm : (v : Trips) → all (ok 7 tripEntry) v ≡ true → All (λ e. crowded (e .1) ≡ false) v
+calm [] h = tt
+calm (e ∷ v) h = let a = both-true (ok 7 tripEntry e) (all (ok 7 tripEntry) v) h in (few-updates (e .1) (a .0), calm v (a .1))
 
 short : (v : Trips) → all (ok 5 tripEntry) v ≡ true → All (λ e. length (e .0) ≤ 137) v
 short [] h = tt
@@ -70,9 +67,8 @@ unfailed-zero o (some x) e u = (_, here (list 2048 tripEntry) o 0 (x .0) (x .1) 
 
 pub stands : (o : List ℕ) → areOld o ≡ true → Standing o
 stands o h =
-    let a = both-true (leb (length o) 4000000000) (unfailed (judgeTo (list 2048 tripEntry) o 0) && ascending texts (oldTrips o)) h in
-    let b = both-true (unfailed (judgeTo (list 2048 tripEntry) o 0)) (ascending texts (oldTrips o)) (a .1) in
-    let x = unfailed-zero o (read (list 2048 tripEntry) o) refl (b .0) in
+    let a = both-true (leb (length o) 4000000000) (unfailed (judgeTo (list 2048 tripEntry) o 0)) h in
+    let x = unfailed-zero o (read (list 2048 tripEntry) o) refl (a .1) in
     let z = first-zero (ok 5 (list 2048 tripEntry) (oldTrips o)) (ok 6 (list 2048 tripEntry) (oldTrips o)) (ok 7 (list 2048 tripEntry) (oldTrips o)) (x .2) in
     let m = both-true (leb (length (oldTrips o)) 2048) (all (ok 7 tripEntry) (oldTrips o)) (z .1) in
     record {
@@ -83,7 +79,6 @@ stands o h =
           trips = oldTrips o;
           end = x .0;
           here = x .1;
-          ascends = b .1;
           few = leb-true (length (oldTrips o)) 2048 (m .0);
           short = short (oldTrips o) (z .0);
           small = leb-true (length o) 4000000000 (a .0);
@@ -91,13 +86,6 @@ stands o h =
         calm = calm (oldTrips o) (m .1);
       };
     }
-
--- the code's answer, where the judgement is without a no
-pub old-ascends : (o : List ℕ) {r : Bool} → length o ≤ 4000000000 → true ≡ unfailed (judgeTo (list 2048 tripEntry) o 0)
-    → ((v : Trips) (q : ℕ) → Here (list 2048 tripEntry) o 0 q v → r ≡ ascending texts v) → r ≡ areOld o
-old-ascends o l u h =
-    let x = unfailed-zero o (read (list 2048 tripEntry) o) refl (sym u) in
-    h (oldTrips o) (x .0) (x .1) ∙ (λ j. sym (le-leb (length o) 4000000000 l) j && (u j && ascending texts (oldTrips o)))
 
 -- THE QUESTIONS of a message, one after the other
 module _ (feed s : List ℕ) where
@@ -165,7 +153,7 @@ ready keys marks order updates feed s o e =
 
 -- the code's answers
 pub old-long : (o : List ℕ) → 4000000000 < length o → false ≡ areOld o
-old-long o h = λ j. sym (lt-leb (length o) 4000000000 h) j && (unfailed (judgeTo (list 2048 tripEntry) o 0) && ascending texts (oldTrips o))
+old-long o h = λ j. sym (lt-leb (length o) 4000000000 h) j && unfailed (judgeTo (list 2048 tripEntry) o 0)
 
-pub old-failed : (o : List ℕ) → length o ≤ 4000000000 → false ≡ unfailed (judgeTo (list 2048 tripEntry) o 0) → false ≡ areOld o
-old-failed o l u = λ j. sym (le-leb (length o) 4000000000 l) j && (u j && ascending texts (oldTrips o))
+pub old-judged : (o : List ℕ) {r : Bool} → length o ≤ 4000000000 → r ≡ unfailed (judgeTo (list 2048 tripEntry) o 0) → r ≡ areOld o
+old-judged o l u = u ∙ (λ j. sym (le-leb (length o) 4000000000 l) j && unfailed (judgeTo (list 2048 tripEntry) o 0))

@@ -1,5 +1,4 @@
 -- Lemmas on plain values.
 mod Reading
-mod Ascent
 mod Asking
 mod Outcomes

@@ -2,7 +2,7 @@
 use Prim.Native.Nat.{ℕ, zero, suc, _+_, _-_, _≤_}
 use mathlib.Core.Path.{_≡_, refl, sym, ap, _∙_}
 use mathlib.Core.Bool.{Bool, true, false, cond}
-use mathlib.Core.List.{List}
+use mathlib.Core.List.{List, []}
 use native.Mathlib.Omega.{arith}
 use lib.Dec.{leb}
 use lib.ListN.{length}
@@ -12,9 +12,11 @@ use Rattle.realtime.specs.Schema.{feedMessage}
 use Rattle.realtime.specs.Schema as schema
 use Rattle.realtime.specs.Judge.{asked, rules}
 use Rattle.realtime.specs.declared.Verdict.{Verdict}
-use Rattle.decode.specs.Index.{index}
+use Rattle.slots.specs.Index.{index}
+use Rattle.decode.specs.Map.{puts}
+use Rattle.decode.specs.Order.{texts}
 use Rattle.decode.specs.Leaves.{Trips, leaves}
-use Rattle.decode.specs.Places.{held}
+use Rattle.slots.specs.Places.{held}
 use Rattle.index.specs.Message.{messageOf}
 use Rattle.index.specs.Leaving.{Leaves, leaving, viewLeft}
 use Rattle.index.specs.declared.Left.{Left}
@@ -53,14 +55,14 @@ module _ (keys marks order updates : ℕ) (feed s o : List ℕ) where
     -- A QUESTION has the answer no
     pub answers-refused : (t : ℕ → Trips) → (q ≡ 0 → ⊥) → answered t q ≡ outcome (sized keys marks order updates) feed s o
     answers-refused t n =
-        let x = seven (leaving (leaves feed (messageOf s) (oldTrips o))) in
+        let x = seven (leaving (leaves feed (messageOf s) (puts texts (oldTrips o) []))) in
         ap (λ b. cond b (refused q) (left (t (q - 16)))) (lt-ltb q 16 (omega (arith, question-few))) ∙ unless-asked q x n ∙ ap (λ q. unlessAsked q x) e
 
     -- NONE HAS: what the index says is what the message leaves
     module _ (z : q ≡ 0) {keys′ marks′ order′ : List ℕ} {r : Left} (L : Leaves feed s o 0 keys′ marks′ order′ r) where
       answers-left : (l : Left) → r ≡ l → seven (viewLeft (λ n. held s o (index keys′ marks′ order′ n)) l) ≡ outcome (sized keys marks order updates) feed s o
       answers-left l g =
-          let x = seven (leaving (leaves feed (messageOf s) (oldTrips o))) in
+          let x = seven (leaving (leaves feed (messageOf s) (puts texts (oldTrips o) []))) in
           let S = ready keys marks order updates feed s o (sym e ∙ z) .standing in
           ap seven (ap (viewLeft (λ n. held s o (index keys′ marks′ order′ n))) (sym g) ∙ L .of (oldTrips o) (S .end) (S .here)) ∙ (λ j. unlessAsked ((sym z ∙ e) j) x)
 

@@ -1,6 +1,4 @@
 // Calls of the readers of trip messages for a C host: the comparison with the original runs them. They ask nothing of their caller.
-mod table;
-
 use index::Left;
 use judging::Judge;
 use merged::Delay;
@@ -16,32 +14,18 @@ use realtime::FEED_ENTITY;
 use realtime::FEED_MESSAGE;
 use realtime::STOP_TIME_UPDATE;
 use realtime::Verdict;
-use slices::Order;
-use table::DEPTH;
-use table::LIST;
-use table::TRIP;
-use table::TRIPS;
 ghost use mathlib.Core.Path.{_≡_};
 ghost use mathlib.Core.Bool.{false};
-ghost use Prim.Native.Nat.{ℕ, _≤_};
+ghost use Prim.Native.Nat.{_≤_};
 ghost use lib.ListN.{length};
-ghost use lib.Seq.{slice};
-ghost use Rattle.slices.specs.Lists.{equal, lexOf};
+ghost use Rattle.slices.specs.Lists.{equal};
 ghost use Rattle.realtime.specs.Tree.{tree};
 ghost use Rattle.realtime.specs.Schema.{feed, feedMessage, feedEntity, stopTimeUpdate};
 ghost use Rattle.realtime.specs.Judge.{asked, rules};
 ghost use Rattle.merged.specs.Typed.{orZero};
 ghost use Rattle.merged.specs.Views.{SpanInside, header, spanIn, stopUpdate, trip, viewDelay, viewDirection, viewEvent, viewHeader, viewTime, viewTimestamp};
-ghost use Rattle.formats.specs.Format.{Value, list};
-ghost use Rattle.places.specs.Here.{Here};
-ghost use Rattle.places.specs.Lists.{Many};
-ghost use Rattle.decode.specs.Map.{above, ascending, isLess};
-ghost use Rattle.decode.specs.Order.{texts};
-ghost use Rattle.decode.specs.Trip as held;
-ghost use Rattle.decode.specs.Trip.{tripEntry};
-ghost use Rattle.decode.specs.Leaves.{Trips};
-ghost use Rattle.decode.specs.Index.{index};
-ghost use Rattle.decode.specs.Places as places;
+ghost use Rattle.slots.specs.Index.{index};
+ghost use Rattle.slots.specs.Places as places;
 ghost use Rattle.updates.specs.Updates.{Listed};
 ghost use Rattle.trip_probes.specs.Indexing.{sized, unfailed, areOld, messageQuestion, question, answered, outcome};
 ghost use Rattle.trip_probes.specs.Answers.{questionOf, whole, present, orNought, ofWhole, headerNumbers, noHeader, tripNumbers, tripNumbersOf, noTrip, eventNumbers, stopNumbers, stopNumbersOf, noStop, textsAre};
@@ -334,64 +318,6 @@ pub extern "C" fn trips_updates(updates: &mut [u32], e: &[u8]) -> usize
     updates::updates_of(updates, e, 0, e.len())
 }
 
-fn is_less(o: Order) -> bool
-    ensures { λ r. ⌜ r ≡ isLess o ⌝ }
-{
-    match o {
-        Order::Less => true,
-        Order::Same => false,
-        Order::More => false,
-    }
-}
-
-// Whether the text from a up to b is before the one from c up to d.
-fn is_before(s: &[u8], a: usize, b: usize, c: usize, d: usize) -> bool
-    requires { ⌜ (a ≤ b) × (b ≤ length (now s)) × (c ≤ d) × (d ≤ length (now s)) ⌝ }
-    ensures { λ r. ⌜ r ≡ isLess (lexOf (slice a b (now (s .entry))) (slice c d (now (s .entry)))) ⌝ }
-{
-    is_less(slices::compare(wire::part(s, a, b - a), wire::part(s, c, d - c)))
-}
-
-// The place past the old record at `at`.
-fn past_trip(old: &[u8], at: usize) -> usize
-    ensures { λ r. ⌜ ((v : Value held.trip) (q : ℕ) → Here held.trip (now (old .entry)) at q v → r ≡ q) ⌝ }
-{
-    places::past(&TRIPS, DEPTH, TRIP, old, at)
-}
-
-// Whether the keys of `count` old trips at `at` ascend from above the key from `from` up to `to`.
-fn keys_above(old: &[u8], at: usize, count: u64, from: usize, to: usize) -> bool
-    requires { ⌜ (from ≤ to) × (to ≤ length (now old)) ⌝ }
-    ensures { λ r. ⌜ ((v : Trips) (q : ℕ) → length v ≡ count → Many tripEntry (now (old .entry)) at q v → r ≡ above texts (slice from to (now (old .entry))) v) ⌝ }
-{
-    if count == 0 {
-        return true;
-    }
-    let key = places::text(old, at);
-    let start = key.from;
-    let end = key.to;
-    if is_before(old, from, to, start, end) {
-        return keys_above(old, past_trip(old, end), count - 1, start, end);
-    }
-    false
-}
-
-// Whether the keys of the old trips ascend.
-fn ascends(old: &[u8]) -> bool
-    ensures { λ r. ⌜ ((v : Trips) (q : ℕ) → Here (list 2048 tripEntry) (now (old .entry)) 0 q v → r ≡ ascending texts v) ⌝ }
-{
-    let count = places::number(old, 0);
-    let n = count.value;
-    let at = count.next;
-    if n == 0 {
-        return true;
-    }
-    let key = places::text(old, at);
-    let start = key.from;
-    let end = key.to;
-    keys_above(old, past_trip(old, end), n - 1, start, end)
-}
-
 fn is_unfailed(j: Judge) -> bool
     ensures { λ r. ⌜ r ≡ unfailed j ⌝ }
 {
@@ -408,10 +334,7 @@ fn are_old(old: &[u8]) -> bool
     if old.len() > 4000000000 {
         return false;
     }
-    if is_unfailed(judging::judge_value(&TRIPS, DEPTH, LIST, old, 0)) {
-        return ascends(old);
-    }
-    false
+    is_unfailed(old_trips::judge(old, 0))
 }
 
 fn is_sized(keys: usize, marks: usize, order: usize, updates: usize) -> bool

@@ -1,8 +1,8 @@
 -- Whether a record has more than 128 updates: of one entity, of a slot, of many slots. Assumes nothing.
-use Prim.Native.Nat.{ℕ, suc, _+_, _-_, _*_, _≤_, _<_}
+use Prim.Native.Nat.{ℕ, _+_, _-_, _*_, _≤_, _<_}
 use mathlib.Core.Path.{_≡_, refl, sym, ap, _∙_}
 use mathlib.Core.Bool.{Bool, true, false, _&&_, _||_}
-use mathlib.Core.List.{List, [], _∷_}
+use mathlib.Core.List.{List, _∷_}
 use native.Mathlib.Omega.{arith}
 use lib.Dec.{ltb}
 use lib.ListN.{length, getD, take, drop, length-take, drop-of-length-le}
@@ -10,16 +10,15 @@ use lib.Seq.{drop-cons, getD-take}
 use borrow.Author.Tests.{lt-ltb, le-ltb, ltb-true, ltb-false}
 use native.Mathlib.Numerals.{add-one}
 use Rattle.formats.specs.Law.{All}
-use Rattle.realtime.specs.Schema.{feedEntity}
-use Rattle.realtime.specs.Schema as schema
-use Rattle.decode.specs.Laws.{map-length, laid-length}
+use Rattle.decode.specs.Laws.{map-length}
 use Rattle.decode.specs.Record.{updatesIn, tripIn}
-use Rattle.decode.specs.Index.{placeAt, laid}
-use Rattle.decode.specs.Places.{recordAt, updateAt, orEnd, Readable, crowded}
-use Rattle.updates.specs.Updates.{Listed, Crowded, ReadableSlot, crowdedSlot, crowdedIn}
+use Rattle.slots.specs.Index.{placeAt}
+use Rattle.slots.specs.Places.{recordAt, updateAt, orEnd, Readable, crowded}
+use Rattle.updates.specs.Line.{laid, laid-length}
+use Rattle.updates.specs.Updates.{Listed, CrowdedRead, ReadableSlot, crowdedSlot, crowdedIn}
 
 -- by the updates themselves
-pub crowded-listed : {s u : List ℕ} {start len r : ℕ} → Listed s start len u r → Crowded s start len (ltb 128 r)
+pub crowded-listed : {s u : List ℕ} {start len r : ℕ} → Listed s start len u r → CrowdedRead s start len (ltb 128 r)
 unfolding tripIn
 crowded-listed {s} {u} {start} {len} {r} L = record {
   of = λ e q. go (ltb 128 r) refl (length (updatesIn e)) (L .of e q .many) (λ h. sym (ap length (L .of e q .few h)) ∙ map-length (updateAt s) (laid r u) ∙ laid-length r u);
@@ -39,7 +38,7 @@ module _ (s marks : List ℕ) (j : ℕ) where
     slot-reads = R .1 (lt-ltb (getD marks (3 * j + 1) 0) 1048577 (omega arith))
 
     -- a record of the message
-    pub slot-new : {till : ℕ} {r : Bool} → till ≡ getD marks (3 * j + 2) 0 → Crowded s from (till - from) r → r ≡ crowdedSlot s marks j
+    pub slot-new : {till : ℕ} {r : Bool} → till ≡ getD marks (3 * j + 2) 0 → CrowdedRead s from (till - from) r → r ≡ crowdedSlot s marks j
     unfolding recordAt
     slot-new {till} {r} f C =
         let q = slot-reads .read in

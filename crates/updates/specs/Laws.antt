@@ -4,8 +4,8 @@ use mathlib.Core.Path.{_≡_, refl, sym, ap, _∙_}
 use mathlib.Core.Bool.{Bool, true, false, _&&_, _||_, cond}
 use mathlib.Core.List.{List, [], _∷_}
 use Rattle.formats.specs.Law.{All}
-use Rattle.decode.specs.Index.{placeAt, slotted}
-use Rattle.decode.specs.Places.{recordAt, oldAt, isNew, held, crowded, anyCrowded}
+use Rattle.slots.specs.Index.{placeAt, slotted}
+use Rattle.slots.specs.Places.{recordAt, oldAt, isNew, held, crowded, anyCrowded}
 use Rattle.updates.specs.Updates.{crowdedIn}
 
 module _ (s o keys marks : List ℕ) where

@@ -1,2 +1,3 @@
+pub mod Line
 pub mod Updates
 pub mod Laws

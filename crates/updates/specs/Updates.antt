@@ -1,18 +1,19 @@
 -- The updates of a trip record by the places of its updates, and the records of the index that have more than 128. Assumes nothing: these are definitions.
-use Prim.Native.Nat.{ℕ, _≤_, _<_}
+use Prim.Native.Nat.{ℕ, _≤_, _<_, min}
 use mathlib.Core.Path.{_≡_}
 use mathlib.Core.Bool.{Bool, true, false, _&&_, _||_}
 use mathlib.Core.List.{List, [], _∷_}
 use mathlib.Core.Option.{some}
 use lib.ListN.{length, take, drop}
-use Rattle.realtime.specs.Tree.{Tree, tree}
+use Rattle.realtime.specs.Tree.{Tree, tree, sub, rep}
 use Rattle.realtime.specs.Schema.{feedEntity}
 use Rattle.realtime.specs.Schema as schema
 use Rattle.decode.specs.Trip.{StopUpdate}
 use Rattle.decode.specs.Map.{mapValues}
 use Rattle.decode.specs.Record.{updatesIn, tripIn}
-use Rattle.decode.specs.Index.{Place, placeAt, laid, Lined}
-use Rattle.decode.specs.Places.{recordAt, updateAt, isNew, Readable, crowded}
+use Rattle.slots.specs.Index.{Place, placeAt}
+use Rattle.updates.specs.Line.{laid, Lined}
+use Rattle.slots.specs.Places.{recordAt, updateAt, isNew, Readable, crowded}
 
 -- the updates that stand at places of the message s
 abbrev pub updatesAt : List ℕ → List (ℕ × Place) → List (ℕ × StopUpdate)
@@ -28,18 +29,23 @@ pub record Listed (s : List ℕ) (start len : ℕ) (u : List ℕ) (r : ℕ) : Ty
   pub lined : Lined u r
   pub of : (e : Tree) → tree schema.feed feedEntity (take len (drop start s)) ≡ some e → Holds s u r e
 
+-- THE ANSWER r of how many there are, before a later one at a sequence is over an earlier one; above 128 it is 129
+pub record Counted (s : List ℕ) (start len : ℕ) (r : ℕ) : Type 0 where
+  pub of : (e : Tree) → tree schema.feed feedEntity (take len (drop start s)) ≡ some e → r ≡ min 129 (length (rep 2 (sub 3 e)))
+
 -- THE ANSWER r of whether its record has more than 128
-pub record Crowded (s : List ℕ) (start len : ℕ) (r : Bool) : Type 0 where
+pub record CrowdedRead (s : List ℕ) (start len : ℕ) (r : Bool) : Type 0 where
   pub of : (e : Tree) → tree schema.feed feedEntity (take len (drop start s)) ≡ some e → r ≡ crowded (tripIn e)
 
 -- a slot of the index whose record, where it is of the message, is not broken
 abbrev pub ReadableSlot : List ℕ → List ℕ → ℕ → Type 0
 ReadableSlot s marks j = (j < 2049) × (isNew (placeAt marks j) ≡ true → Readable s (placeAt marks j))
 
--- whether one of the slots has a record of the message with more than 128 updates
+-- whether a slot's record is of the message, and has more than 128 updates
 abbrev pub crowdedSlot : List ℕ → List ℕ → ℕ → Bool
 crowdedSlot s marks j = isNew (placeAt marks j) && crowded (recordAt s (placeAt marks j))
 
+-- WHETHER ONE OF THE SLOTS has such a record
 unfoldable pub crowdedIn : List ℕ → List ℕ → List ℕ → Bool
 crowdedIn s marks [] = false
 crowdedIn s marks (j ∷ l) = crowdedSlot s marks j || crowdedIn s marks l

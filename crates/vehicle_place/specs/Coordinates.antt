@@ -1,17 +1,16 @@
 -- A coordinate as the code holds it, and its 64 bits: every pattern is handed on.
 use mathlib.Core.Path.{_≡_, refl}
-use mathlib.Core.Bool.{Bool, true, false, not}
+use mathlib.Core.Bool.{Bool, true, false, cond, not}
 use Prim.Native.Nat.{ℕ, _^_, _<_}
 use native.Mathlib.Omega.{arith}
 use lib.Dec.{T}
 use lib.Ieee.{binary64, isNan, nanBits, ofBits, toBits}
 use lib.Ieee.Bits.{toBits-ofBits, nanBits-is}
-use Rattle.formats.specs.Law.{pick}
 use Rattle.vehicle_place.specs.declared.Coordinate.{Coordinate}
 use Rattle.vehicle_place.specs.declared.Coordinate.the-variants.{Number, NaN}
 
 abbrev pub coordinateOf : ℕ → Coordinate
-coordinateOf n = pick (nanBits binary64 n) (NaN n) (Number (ofBits binary64 n))
+coordinateOf n = cond (nanBits binary64 n) (NaN n) (Number (ofBits binary64 n))
 
 abbrev pub bitsOf : Coordinate → ℕ
 bitsOf (Number x) = toBits binary64 x

@@ -44,7 +44,7 @@ fn number(s: &[u8]) -> Answer {
     let c = Cursor { at: 0 };
     match c.number(s) {
         GotNumber::Broken => broken(),
-        GotNumber::Read { value, next } => read_whole(value, 0, next.at),
+        GotNumber::Read(value, next) => read_whole(value, 0, next.at),
     }
 }
 
@@ -52,7 +52,7 @@ fn key(s: &[u8]) -> Answer {
     let c = Cursor { at: 0 };
     match c.key(s) {
         GotKey::Broken => broken(),
-        GotKey::Read { number, wire, next } => read_whole(number, wire, next.at),
+        GotKey::Read(number, wire, next) => read_whole(number, wire, next.at),
     }
 }
 
@@ -60,7 +60,7 @@ fn text(s: &[u8]) -> Answer {
     let c = Cursor { at: 0 };
     match c.text(s) {
         GotText::Broken => broken(),
-        GotText::Read { start, len, next } => read_whole(start as u64, len as u64, next.at),
+        GotText::Read(start, len, next) => read_whole(start as u64, len as u64, next.at),
     }
 }
 
@@ -68,7 +68,7 @@ fn field(s: &[u8]) -> Answer {
     let c = Cursor { at: 0 };
     match c.key(s) {
         GotKey::Broken => broken(),
-        GotKey::Read { number, wire, next } => match next.skip(s, number, wire, 16) {
+        GotKey::Read(number, wire, next) => match next.skip(s, number, wire, 16) {
             Skipped::Broken => broken(),
             Skipped::Past(after) => read_whole(0, 0, after.at),
         },

@@ -2,7 +2,7 @@
 use borrow.Author.Needs.{needs}
 use mathlib.Core.Path.{sym, _∙_}
 use native.Mathlib.Omega.{arith}
-use Rattle.decode.specs.Index.{index}
+use Rattle.slots.specs.Index.{index}
 use Rattle.merged.specs.Walks.{ahead, found}
 use Rattle.index.proofs.Going.{Going, starts, done, entity-inside, entity-read, on, over}
 use Rattle.index.proofs.apply_entities.Statement.{statement}

@@ -8,4 +8,4 @@ event-from-spec =
     (tie.spec
     (λ c κs. tt)
     (λ c κs. tt)
-    (λ c j. record { delay = c .before .delay-of .ensures j; time = c .time-of .ensures j }))
+    (λ c j. record { delay = c .before .delay-from .ensures j; time = c .time-from .ensures j }))

@@ -1,5 +1,4 @@
 -- `merged::keep` meets its contract, field by field. Assumes nothing.
-use borrow.Author.Tests.{ne-eqb}
 use Rattle.merged.proofs.keep.Statement.{statement}
 use Rattle.merged.proofs.keep.Tie as tie
 
@@ -7,11 +6,17 @@ pub keep-spec : {M : Type 1} → statement M
 keep-spec =
     tie.close
     (tie.spec
-    (λ c. rw (c .match .keys1))
-    (λ c. rw (c .match .keys2))
-    (λ c. rw (c .match .keys3))
-    (λ c. rw (c .match .keys4))
-    (λ c. rw (c .match .keys5))
-    (λ c. rw (c .match .keys6))
-    (λ c. let r = c .match .rest in
-    simp (ne-eqb _ _ (r .0 .0 .0 .0 .0 .1), ne-eqb _ _ (r .0 .0 .0 .0 .1), ne-eqb _ _ (r .0 .0 .0 .1), ne-eqb _ _ (r .0 .0 .1), ne-eqb _ _ (r .0 .1), ne-eqb _ _ (r .1))))
+    (λ c κs. tt)
+    (λ c κs. tt)
+    (λ c κs. tt)
+    (λ c κs. tt)
+    (λ c κs. tt)
+    (λ c κs. tt)
+    (λ c j. record {
+      f1 = c .before .before .before .before .before .pick .ensures j;
+      f2 = c .before .before .before .before .pick2 .ensures j;
+      f3 = c .before .before .before .pick3 .ensures j;
+      f4 = c .before .before .pick4 .ensures j;
+      f5 = c .before .pick5 .ensures j;
+      f6 = c .pick6 .ensures j;
+    }))

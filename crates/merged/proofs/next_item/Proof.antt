@@ -3,11 +3,11 @@
 use borrow.Author.Needs.{needs}
 use Prim.Native.Nat.{_+_, _-_}
 use native.Mathlib.Omega.{arith}
+use mathlib.Core.Path.{refl, sym, _∙_}
 use denote.Ref.{now}
 use lib.ListN.{length}
 use Rattle.realtime.specs.Schema.{feed}
-use Rattle.realtime.specs.Steps.{step-is}
-use Rattle.merged.proofs.Walking.{Leads, leads, in-breaks, in-number-on, in-text-on, in-message-on, yields, out-ends, out-breaks, out-number-on, out-text-on, out-message-on, opens}
+use Rattle.merged.proofs.Walking.{met-end, met-broken, met-sought, other-goes, Leads, leads, in-breaks, in-other-on, yields, out-ends, out-breaks, out-other-on, opens}
 use Rattle.merged.proofs.next_item.Statement.{statement}
 use Rattle.merged.proofs.next_item.Tie as tie
 
@@ -27,32 +27,24 @@ next-item-spec =
     (λ c. leads (c .before .args .walk) (c .before .pre .sound))
     (λ c κs. omega (arith, c .loop .inv .sound))
     (λ c κs. tt)
-    (λ c. search needs)
-    (λ c. in-breaks (c .before .before .before .before .loop .inv) (now (c .before .before .before .part .result)) (c .before .before .before .part .ensures) (step-is (c .before .before .next .ensures) (c .enum-told .given .1)))
-    (λ c. search needs)
-    (λ c. let S = (step-is (c .before .before .before .next .ensures) (c .before .after .given .1)) in let N = in-number-on (c .before .before .before .before .before .loop .inv) (now (c .before .before .before .before .part .result)) (c .before .before .before .before .part .ensures) S in omega (arith, S .forward, N .sound))
-    (λ c. in-number-on (c .before .before .before .before .before .loop .inv) (now (c .before .before .before .before .part .result)) (c .before .before .before .before .part .ensures) (step-is (c .before .before .before .next .ensures) (c .before .after .given .1)))
-    (λ c. search needs)
-    (λ c. let S = (step-is (c .before .before .before .next .ensures) (c .before .after2 .given .1)) in let N = in-text-on (c .before .before .before .before .before .loop .inv) (now (c .before .before .before .before .part .result)) (c .before .before .before .before .part .ensures) S in omega (arith, S .forward, N .sound))
-    (λ c. in-text-on (c .before .before .before .before .before .loop .inv) (now (c .before .before .before .before .part .result)) (c .before .before .before .before .part .ensures) (step-is (c .before .before .before .next .ensures) (c .before .after2 .given .1)))
-    (λ c. search needs)
-    (λ c. yields (c .before .before .before .before .before .before .loop .inv) (now (c .before .before .before .before .before .part .result)) (c .before .before .before .before .before .part .ensures) (step-is (c .before .before .before .before .next .ensures) (c .before .before .field .given .1)) (c .if1 .taken))
-    (λ c. let S = (step-is (c .before .before .before .before .next .ensures) (c .before .before .field .given .1)) in let N = in-message-on (c .before .before .before .before .before .before .loop .inv) (now (c .before .before .before .before .before .part .result)) (c .before .before .before .before .before .part .ensures) S (c .if1 .left) in omega (arith, S .forward, N .sound))
-    (λ c. in-message-on (c .before .before .before .before .before .before .loop .inv) (now (c .before .before .before .before .before .part .result)) (c .before .before .before .before .before .part .ensures) (step-is (c .before .before .before .before .next .ensures) (c .before .before .field .given .1)) (c .if1 .left))
-    (λ c. search needs)
     (λ c κs. tt)
     (λ c. search needs)
-    (λ c. out-breaks (c .before .before .before .before .before .before .before .loop .inv) (now (c .before .before .before .before .before .before .part .result)) (c .before .before .before .before .before .before .part .ensures) (step-is (c .before .before .before .before .before .next .ensures) (c .before .before .before .enum-told2 .given .1)) (step-is (c .before .before .next2 .ensures) (c .enum-told3 .given .1)))
+    (λ c. in-breaks (c .before .before .before .before .before .loop .inv) (now (c .before .before .before .before .part .result)) (c .before .before .before .before .part .ensures) (met-broken (c .before .before .before .before .before .before .before .args .k) (c .before .before .before .next .result) (c .before .before .before .next .ensures) (sym (c .enum-told .given .1) ∙ c .before .before .meet .ensures)))
     (λ c. search needs)
-    (λ c. out-ends (c .before .before .before .before .before .before .before .loop .inv) (now (c .before .before .before .before .before .before .part .result)) (c .before .before .before .before .before .before .part .ensures) (step-is (c .before .before .before .before .before .next .ensures) (c .before .before .before .enum-told2 .given .1)) (step-is (c .before .before .next2 .ensures) (c .enum-told4 .given .1)))
+    (λ c. let G = other-goes (c .before .before .before .before .before .before .before .before .args .k) (c .before .before .before .before .next .result) (c .before .before .before .before .next .ensures) (sym (c .before .after .given .1) ∙ c .before .before .before .meet .ensures) in let N = in-other-on (c .before .before .before .before .before .before .loop .inv) (now (c .before .before .before .before .before .part .result)) (c .before .before .before .before .before .part .ensures) (c .before .before .before .before .next .result) (c .before .before .before .before .next .ensures) (sym (c .before .after .given .1) ∙ c .before .before .before .meet .ensures) in omega (arith, G, N .sound))
+    (λ c. in-other-on (c .before .before .before .before .before .before .loop .inv) (now (c .before .before .before .before .before .part .result)) (c .before .before .before .before .before .part .ensures) (c .before .before .before .before .next .result) (c .before .before .before .before .next .ensures) (sym (c .before .after .given .1) ∙ c .before .before .before .meet .ensures))
     (λ c. search needs)
-    (λ c. let S = (step-is (c .before .before .before .next2 .ensures) (c .before .after3 .given .1)) in omega (arith, S .forward, c .before .before .before .before .before .before .before .before .loop .inv .sound))
-    (λ c. out-number-on (c .before .before .before .before .before .before .before .before .loop .inv) (now (c .before .before .before .before .before .before .before .part .result)) (c .before .before .before .before .before .before .before .part .ensures) (step-is (c .before .before .before .before .before .before .next .ensures) (c .before .before .before .before .enum-told2 .given .1)) (step-is (c .before .before .before .next2 .ensures) (c .before .after3 .given .1)))
+    (λ c. yields (c .before .before .before .before .before .before .loop .inv) (now (c .before .before .before .before .before .part .result)) (c .before .before .before .before .before .part .ensures) (met-sought (c .before .before .before .before .before .before .before .before .args .k) (c .before .before .before .before .next .result) (c .before .before .before .before .next .ensures) (sym (c .before .start .given .1) ∙ c .before .before .before .meet .ensures) .1) refl)
     (λ c. search needs)
-    (λ c. let S = (step-is (c .before .before .before .next2 .ensures) (c .before .after4 .given .1)) in omega (arith, S .forward, c .before .before .before .before .before .before .before .before .loop .inv .sound))
-    (λ c. out-text-on (c .before .before .before .before .before .before .before .before .loop .inv) (now (c .before .before .before .before .before .before .before .part .result)) (c .before .before .before .before .before .before .before .part .ensures) (step-is (c .before .before .before .before .before .before .next .ensures) (c .before .before .before .before .enum-told2 .given .1)) (step-is (c .before .before .before .next2 .ensures) (c .before .after4 .given .1)))
+    (λ c κs. tt)
+    (λ c κs. tt)
     (λ c. search needs)
-    (λ c. let S = (step-is (c .before .before .before .before .next2 .ensures) (c .before .before .field2 .given .1)) in omega (arith, S .forward, c .before .before .before .before .before .before .before .before .before .loop .inv .sound))
-    (λ c. opens (c .before .before .before .before .before .before .before .before .before .loop .inv) (now (c .before .before .before .before .before .before .before .before .part .result)) (c .before .before .before .before .before .before .before .before .part .ensures) (step-is (c .before .before .before .before .before .before .before .next .ensures) (c .before .before .before .before .before .enum-told2 .given .1)) (c .before .before .before .before .before .before .before .before .before .before .before .pre .opened) (step-is (c .before .before .before .before .next2 .ensures) (c .before .before .field2 .given .1)) (c .if2 .taken))
-    (λ c. let S = (step-is (c .before .before .before .before .next2 .ensures) (c .before .before .field2 .given .1)) in omega (arith, S .forward, c .before .before .before .before .before .before .before .before .before .loop .inv .sound))
-    (λ c. out-message-on (c .before .before .before .before .before .before .before .before .before .loop .inv) (now (c .before .before .before .before .before .before .before .before .part .result)) (c .before .before .before .before .before .before .before .before .part .ensures) (step-is (c .before .before .before .before .before .before .before .next .ensures) (c .before .before .before .before .before .enum-told2 .given .1)) (step-is (c .before .before .before .before .next2 .ensures) (c .before .before .field2 .given .1)) (c .if2 .left)))
+    (λ c. out-breaks (c .before .before .before .before .before .before .before .before .before .loop .inv) (now (c .before .before .before .before .before .before .before .before .part .result)) (c .before .before .before .before .before .before .before .before .part .ensures) (met-end (c .before .before .before .before .before .before .before .before .before .before .before .args .k) (c .before .before .before .before .before .before .before .next .result) (c .before .before .before .before .before .before .before .next .ensures) (sym (c .before .before .before .before .enum-told2 .given .1) ∙ c .before .before .before .before .before .before .meet .ensures)) (met-broken (c .before .before .before .before .before .before .before .before .before .before .before .args .a) (c .before .before .before .next2 .result) (c .before .before .before .next2 .ensures) (sym (c .enum-told3 .given .1) ∙ c .before .before .meet2 .ensures)))
+    (λ c. search needs)
+    (λ c. out-ends (c .before .before .before .before .before .before .before .before .before .loop .inv) (now (c .before .before .before .before .before .before .before .before .part .result)) (c .before .before .before .before .before .before .before .before .part .ensures) (met-end (c .before .before .before .before .before .before .before .before .before .before .before .args .k) (c .before .before .before .before .before .before .before .next .result) (c .before .before .before .before .before .before .before .next .ensures) (sym (c .before .before .before .before .enum-told2 .given .1) ∙ c .before .before .before .before .before .before .meet .ensures)) (met-end (c .before .before .before .before .before .before .before .before .before .before .before .args .a) (c .before .before .before .next2 .result) (c .before .before .before .next2 .ensures) (sym (c .enum-told4 .given .1) ∙ c .before .before .meet2 .ensures)))
+    (λ c. search needs)
+    (λ c. let G = other-goes (c .before .before .before .before .before .before .before .before .before .before .before .before .args .a) (c .before .before .before .before .next2 .result) (c .before .before .before .before .next2 .ensures) (sym (c .before .after2 .given .1) ∙ c .before .before .before .meet2 .ensures) in omega (arith, G, c .before .before .before .before .before .before .before .before .before .before .loop .inv .sound))
+    (λ c. out-other-on (c .before .before .before .before .before .before .before .before .before .before .loop .inv) (now (c .before .before .before .before .before .before .before .before .before .part .result)) (c .before .before .before .before .before .before .before .before .before .part .ensures) (met-end (c .before .before .before .before .before .before .before .before .before .before .before .before .args .k) (c .before .before .before .before .before .before .before .before .next .result) (c .before .before .before .before .before .before .before .before .next .ensures) (sym (c .before .before .before .before .before .enum-told2 .given .1) ∙ c .before .before .before .before .before .before .before .meet .ensures)) (c .before .before .before .before .next2 .result) (c .before .before .before .before .next2 .ensures) (sym (c .before .after2 .given .1) ∙ c .before .before .before .meet2 .ensures))
+    (λ c. search needs)
+    (λ c. let S = met-sought (c .before .before .before .before .before .before .before .before .before .before .before .before .args .a) (c .before .before .before .before .next2 .result) (c .before .before .before .before .next2 .ensures) (sym (c .before .start2 .given .1) ∙ c .before .before .before .meet2 .ensures) in omega (arith, S .1 .forward, c .before .before .before .before .before .before .before .before .before .before .loop .inv .sound))
+    (λ c. opens (c .before .before .before .before .before .before .before .before .before .before .loop .inv) (now (c .before .before .before .before .before .before .before .before .before .part .result)) (c .before .before .before .before .before .before .before .before .before .part .ensures) (met-end (c .before .before .before .before .before .before .before .before .before .before .before .before .args .k) (c .before .before .before .before .before .before .before .before .next .result) (c .before .before .before .before .before .before .before .before .next .ensures) (sym (c .before .before .before .before .before .enum-told2 .given .1) ∙ c .before .before .before .before .before .before .before .meet .ensures)) (c .before .before .before .before .before .before .before .before .before .before .before .before .pre .opened) (met-sought (c .before .before .before .before .before .before .before .before .before .before .before .before .args .a) (c .before .before .before .before .next2 .result) (c .before .before .before .before .next2 .ensures) (sym (c .before .start2 .given .1) ∙ c .before .before .before .meet2 .ensures) .1) refl))

@@ -1,4 +1,6 @@
 -- `merged::stop_from` meets its contract, field by field. Assumes nothing.
+use lib.Dec.{eqb}
+use Rattle.merged.specs.Typed.{enum}
 use Rattle.merged.proofs.stop_from.Statement.{statement}
 use Rattle.merged.proofs.stop_from.Tie as tie
 
@@ -9,12 +11,10 @@ stop-from-spec =
     (λ c κs. tt)
     (λ c κs. tt)
     (λ c κs. tt)
-    (λ c κs. tt)
-    (λ c κs. tt)
-    (λ c j. record {
-      sequence = c .before .before .before .before .sequence-of .ensures j;
-      stop = c .before .before .before .span-of .ensures j;
-      arrival = c .before .before .event-from .ensures j;
-      departure = c .before .event-from2 .ensures j;
-      skipped = c .is-value .ensures j;
+    (λ c j. let a = c .before .before .before .args in record {
+      sequence = c .before .before .uint32 .ensures j;
+      stop = a .stop;
+      arrival = c .before .event-from .ensures j;
+      departure = c .event-from2 .ensures j;
+      skipped = eqb (enum (a .relationship)) 1;
     }))

@@ -1,7 +1,6 @@
 use borrow.Author.Needs.{needs}
 -- `old_trips::join`: the entries behind have joined, and the others are ahead. Assumes nothing.
 use mathlib.Core.Path.{_≡_, refl}
-use native.Mathlib.Omega.{arith}
 use lib.ListN.{length}
 use Rattle.places.specs.Walk.{Walk, begin, onward}
 use Rattle.decode.specs.Trip.{tripEntry}

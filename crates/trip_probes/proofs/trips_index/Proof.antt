@@ -3,8 +3,8 @@ use borrow.Author.Needs.{needs}
 use mathlib.Core.Path.{sym, _∙_}
 use native.Mathlib.Omega.{arith}
 use lib.ListN.{length}
-use Rattle.decode.specs.Index.{index}
-use Rattle.decode.specs.Places.{held}
+use Rattle.slots.specs.Index.{index}
+use Rattle.slots.specs.Places.{held}
 use Rattle.trip_probes.proofs.Asking.{ready}
 use Rattle.trip_probes.proofs.Outcomes.{answers-refused, answers-many-trips, answers-many-updates, answers-trips}
 use Rattle.trip_probes.proofs.trips_index.Statement.{statement}

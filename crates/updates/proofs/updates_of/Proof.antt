@@ -4,7 +4,8 @@ use Prim.Native.Nat.{_+_, _≤_}
 use native.Mathlib.Omega.{arith}
 use lib.ListN.{take}
 use Rattle.merged.specs.Walks.{ahead}
-use Rattle.updates.proofs.Listing.{Listing, listing, walks, there, less, listed, lists-on, lists-many}
+use Rattle.updates.proofs.Walking.{walks, there, less}
+use Rattle.updates.proofs.Listing.{Listing, listing, listed, lists-on, lists-many}
 use Rattle.updates.proofs.updates_of.Statement.{statement}
 use Rattle.updates.proofs.updates_of.Tie as tie
 
@@ -24,17 +25,17 @@ updates-of-spec =
     (λ c κs. search needs)
     (λ c. (listing (c .before .before .before .args .s .now) (c .before .before .before .args .start) (c .before .before .before .args .len) (c .before .before .before .pre .1 .0) (c .before .before .before .pre .0) (c .updates .ensures), omega arith))
     (λ c κs. omega (arith, c .before .before .before .before .pre .1 .0))
-    (λ c κs. walks (c .before .loop .inv .0) (c .part .ensures))
+    (λ c κs. walks (c .before .loop .inv .0 .walked) (c .part .ensures))
     (λ c. search needs)
     (λ c. omega (arith, c .before .before .before .before .loop .inv .0 .lined .long, c .before .before .before .before .before .before .before .before .pre .0))
     (λ c. listed (c .before .before .before .before .loop .inv .0) (c .before .before .before .part .ensures) (c .before .before .next-update .ensures) (c .enum-told .given .1) (c .before .before .before .before .loop .inv .1))
     (λ c. search needs)
-    (λ c κs. there (c .before .before .before .before .before .loop .inv .0) (c .before .before .before .before .part .ensures) (c .before .before .before .next-update .ensures) (c .before .at .given .1))
-    (λ c. omega (arith, there (c .before .before .before .before .before .before .before .loop .inv .0) (c .before .before .before .before .before .before .part .ensures) (c .before .before .before .before .before .next-update .ensures) (c .before .before .before .at .given .1), c .before .before .before .before .before .before .before .before .before .before .before .pre .1 .1))
-    (λ c. omega (arith, there (c .before .before .before .before .before .before .before .loop .inv .0) (c .before .before .before .before .before .before .part .ensures) (c .before .before .before .before .before .next-update .ensures) (c .before .before .before .at .given .1), c .before .before .before .before .before .before .before .before .before .before .before .pre .1 .1))
-    (λ c. omega (arith, there (c .before .before .before .before .before .before .before .loop .inv .0) (c .before .before .before .before .before .before .part .ensures) (c .before .before .before .before .before .next-update .ensures) (c .before .before .before .at .given .1), c .before .before .before .before .before .before .before .before .before .before .before .pre .1 .1))
+    (λ c κs. there (c .before .before .before .before .before .loop .inv .0 .walked) (c .before .before .before .before .part .ensures) (c .before .before .before .next-update .ensures) (c .before .at .given .1))
+    (λ c. omega (arith, there (c .before .before .before .before .before .before .before .loop .inv .0 .walked) (c .before .before .before .before .before .before .part .ensures) (c .before .before .before .before .before .next-update .ensures) (c .before .before .before .at .given .1), c .before .before .before .before .before .before .before .before .before .before .before .pre .1 .1))
+    (λ c. omega (arith, there (c .before .before .before .before .before .before .before .loop .inv .0 .walked) (c .before .before .before .before .before .before .part .ensures) (c .before .before .before .before .before .next-update .ensures) (c .before .before .before .at .given .1), c .before .before .before .before .before .before .before .before .before .before .before .pre .1 .1))
+    (λ c. omega (arith, there (c .before .before .before .before .before .before .before .loop .inv .0 .walked) (c .before .before .before .before .before .before .part .ensures) (c .before .before .before .before .before .next-update .ensures) (c .before .before .before .at .given .1), c .before .before .before .before .before .before .before .before .before .before .before .pre .1 .1))
     (λ c κs. (c .before .before .before .before .before .before .before .loop .inv .0 .lined, c .before .before .before .before .before .before .before .loop .inv .1))
     (λ c. omega (arith, c .before .before .before .note .ensures .lined .long, c .before .before .before .before .before .before .before .before .before .before .before .before .before .before .before .pre .0))
     (λ c. lists-many (lists-on (c .before .before .before .before .before .before .before .before .before .before .before .loop .inv .0) (c .before .before .before .before .before .before .before .before .before .before .part .ensures) (c .before .before .before .before .before .before .before .before .before .next-update .ensures) (c .before .before .before .before .before .before .before .at .given .1) (c .before .before .before .before .before .sequence-at .ensures) (c .before .before .before .note .ensures)) (c .if1 .taken))
-    (λ c. less (c .before .before .before .before .before .before .before .before .before .before .before .loop .inv .0) (c .before .before .before .before .before .before .before .before .before .before .part .ensures) (c .before .before .before .before .before .before .before .before .before .next-update .ensures) (c .before .before .before .before .before .before .before .at .given .1))
+    (λ c. less (c .before .before .before .before .before .before .before .before .before .before .before .loop .inv .0 .walked) (c .before .before .before .before .before .before .before .before .before .before .part .ensures) (c .before .before .before .before .before .before .before .before .before .next-update .ensures) (c .before .before .before .before .before .before .before .at .given .1))
     (λ c. (lists-on (c .before .before .before .before .before .before .before .before .before .before .before .loop .inv .0) (c .before .before .before .before .before .before .before .before .before .before .part .ensures) (c .before .before .before .before .before .before .before .before .before .next-update .ensures) (c .before .before .before .before .before .before .before .at .given .1) (c .before .before .before .before .before .sequence-at .ensures) (c .before .before .before .note .ensures), c .if1 .left)))

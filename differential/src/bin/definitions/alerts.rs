@@ -37,7 +37,7 @@ pub const DEFINITIONS: &[Definition] = &[
 ];
 
 /// What the definitions of one module have in common.
-const OF_APPLIES: Definition = Definition {
+pub const OF_APPLIES: Definition = Definition {
     name: "",
     of: "alerts",
     preamble: "use Rattle.alerts.specs.Applies.{

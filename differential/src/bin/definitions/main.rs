@@ -2,12 +2,17 @@
 //! between the definition at closed inputs and the original's answer. The checker then computes it.
 //! usage: definitions DIRECTORY SEED (in the repository's folder)
 mod alerts;
+mod branches;
+mod buffers;
 mod decode;
 mod formats;
 mod journey;
 mod opened;
 mod overlay;
 mod panel;
+mod reading;
+mod refusals;
+mod rows;
 
 use differential::random::Random;
 use opened::{opened, stands_on};
@@ -64,10 +69,14 @@ fn main() {
     let known = [
         formats::DEFINITIONS,
         alerts::DEFINITIONS,
+        rows::DEFINITIONS,
+        branches::DEFINITIONS,
         decode::DEFINITIONS,
         overlay::DEFINITIONS,
+        buffers::DEFINITIONS,
         journey::DEFINITIONS,
         panel::DEFINITIONS,
+        refusals::DEFINITIONS,
     ];
     let mut needed = BTreeSet::new();
     for definition in known.into_iter().flatten() {

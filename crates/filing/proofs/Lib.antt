@@ -1,0 +1,3 @@
+-- Lemmas on plain values.
+mod Filing
+mod Applying

@@ -1,0 +1,156 @@
+-- What is last in a stop_time_update, field by field, as the code keeps it: in plain words. Assumes nothing.
+use Prim.Native.Nat.{ℕ, _+_, _≤_}
+use mathlib.Core.Path.{_≡_, refl, _∙_}
+use mathlib.Core.List.{List, []}
+use mathlib.Core.Bool.{Bool, true, false}
+use mathlib.Core.Option.{Option, none, some}
+use native.Mathlib.Omega.{arith}
+use lib.Dec.{eqb}
+use lib.ListN.{take, drop}
+use Rattle.wire.specs.Wire.{choose}
+use Rattle.realtime.specs.Tree.{Tree, end, num, txt, msg, orElse, Leaf, count, words, last}
+use Rattle.realtime.specs.Schema.{feed, stopTimeUpdate, stopTimeEvent}
+use Rattle.merged.specs.Fold.{Takes, folded, inside}
+use Rattle.merged.specs.Reading.{Lens, Reads, front-part}
+use Rattle.merged.specs.Typed.{uint32, int32, int64, enum}
+use Rattle.merged.specs.declared.Span.{Span}
+use Rattle.merged.specs.declared.Delay.{Delay}
+use Rattle.merged.specs.declared.Time.{Time}
+use Rattle.merged.specs.declared.Event.{Event}
+use Rattle.merged.specs.declared.StopUpdate.{StopUpdate}
+use Rattle.merged.specs.declared.Number.{Number}
+use Rattle.merged.specs.declared.EventNumbers.{EventNumbers}
+
+-- a field alone, and what is made of its number and of its text
+pub record Single (B : Type 0) : Type 0 where
+  pub field : ℕ
+  pub number : ℕ → B
+  pub text : List ℕ → B
+
+abbrev pub taking : {B : Type 0} → Single B → Takes B
+taking o = record {
+  number = λ v f n. choose (eqb f (o .field)) (o .number n) v;
+  text = λ v f x. choose (eqb f (o .field)) (o .text x) v;
+  message = λ v f m. v;
+}
+
+-- of its last value, or v where there is none
+abbrev pub leaf : {B : Type 0} → Single B → B → Option Leaf → B
+leaf o v none = v
+leaf o v (some (count n)) = o .number n
+leaf o v (some (words x)) = o .text x
+
+leaf-number : {B : Type 0} (o : Single B) (v : B) (b : Bool) (n : ℕ) (l : Option Leaf)
+    → leaf o (choose b (o .number n) v) l ≡ leaf o v (orElse l (choose b (some (count n)) none))
+leaf-number o v true n none = refl
+leaf-number o v false n none = refl
+leaf-number o v b n (some (count m)) = refl
+leaf-number o v b n (some (words x)) = refl
+
+leaf-text : {B : Type 0} (o : Single B) (v : B) (b : Bool) (y : List ℕ) (l : Option Leaf)
+    → leaf o (choose b (o .text y) v) l ≡ leaf o v (orElse l (choose b (some (words y)) none))
+leaf-text o v true y none = refl
+leaf-text o v false y none = refl
+leaf-text o v b y (some (count m)) = refl
+leaf-text o v b y (some (words x)) = refl
+
+-- THE LAST WINS: one field after the other is the last of them
+pub taking-last : {B : Type 0} (o : Single B) (v : B) (t : Tree) → folded (taking o) v t ≡ leaf o v (last (o .field) t)
+taking-last o v end = refl
+taking-last o v (num f n t) = taking-last o (choose (eqb f (o .field)) (o .number n) v) t ∙ leaf-number o v (eqb f (o .field)) n (last (o .field) t)
+taking-last o v (txt f x t) = taking-last o (choose (eqb f (o .field)) (o .text x) v) t ∙ leaf-text o v (eqb f (o .field)) x (last (o .field) t)
+taking-last o v (msg f u m t) = taking-last o v t
+
+-- answers without a position, and the place of a text
+abbrev pub plain : {D B : Type 0} → (D → B) → Lens D B
+plain f = record { look = λ s d. f d; In = λ n d. Unit {0}; far = λ n m d h l. tt; front = λ s n d h l. refl }
+
+pub spans-far : (n m : ℕ) (p : Span) → n ≤ m → p .start + p .len ≤ n → p .start + p .len ≤ m
+spans-far n m p h l = omega arith
+
+abbrev pub spans : Lens Span (List ℕ)
+spans = record {
+  look = λ s p. take (p .len) (drop (p .start) s);
+  In = λ n p. p .start + p .len ≤ n;
+  far = spans-far;
+  front = λ s n p h l. front-part s n (p .start) (p .len) l h;
+}
+
+-- a number, 0 where it is absent; a text, empty where it is absent; a number that may be absent
+abbrev pub orZeroAt : ℕ → Single ℕ
+orZeroAt k = record { field = k; number = λ n. n; text = λ x. 0 }
+
+abbrev pub textAt : ℕ → Single (List ℕ)
+textAt k = record { field = k; number = λ n. []; text = λ x. x }
+
+abbrev pub numberAt : ℕ → Single (Option ℕ)
+numberAt k = record { field = k; number = some; text = λ x. none }
+
+-- stop_sequence 1, stop_id 4, schedule_relationship 5; of an event: delay 1, time 2
+abbrev pub sequence : Single ℕ
+sequence = orZeroAt 1
+
+abbrev pub stop : Single (List ℕ)
+stop = textAt 4
+
+abbrev pub relationship : Single ℕ
+relationship = orZeroAt 5
+
+abbrev pub delay : Single (Option ℕ)
+delay = numberAt 1
+
+abbrev pub time : Single (Option ℕ)
+time = numberAt 2
+
+-- a number that may be absent
+abbrev pub valueOf : Number → Option ℕ
+valueOf n = choose (eqb (n .given) 1) (some (n .value)) none
+
+abbrev pub noNumber : Number
+noNumber = record { given = 0; value = 0 }
+
+abbrev pub noNumbers : EventNumbers
+noNumbers = record { delay = noNumber; time = noNumber }
+
+abbrev pub noSpan : Span
+noSpan = record { start = 0; len = 0 }
+
+-- the typed answers
+abbrev pub fromDelay : Number → Delay
+fromDelay n = choose (eqb (n .given) 1) (Delay.Given (int32 (n .value))) Delay.Absent
+
+abbrev pub fromTime : Number → Time
+fromTime n = choose (eqb (n .given) 1) (Time.Given (int64 (n .value))) Time.Absent
+
+abbrev pub fromEvent : EventNumbers → Event
+fromEvent e = record { delay = fromDelay (e .delay); time = fromTime (e .time) }
+
+abbrev pub fromStop : ℕ → Span → ℕ → EventNumbers → EventNumbers → StopUpdate
+fromStop q p k a d = record { sequence = uint32 q; stop = p; arrival = fromEvent a; departure = fromEvent d; skipped = eqb (enum k) 1 }
+
+-- THE ANSWER r for an event from `from` on, over b
+pub record EventReads (s : List ℕ) (from : ℕ) (b r : EventNumbers) : Type 0 where
+  pub delay : Reads (plain valueOf) (taking delay) feed stopTimeEvent s from (b .delay) (r .delay)
+  pub time : Reads (plain valueOf) (taking time) feed stopTimeEvent s from (b .time) (r .time)
+
+-- for the events at field j of a stop_time_update
+pub record EventsRead (j : ℕ) (s : List ℕ) (from : ℕ) (r : EventNumbers) : Type 0 where
+  pub delay : Reads (plain valueOf) (inside j (taking delay)) feed stopTimeUpdate s from noNumber (r .delay)
+  pub time : Reads (plain valueOf) (inside j (taking time)) feed stopTimeUpdate s from noNumber (r .time)
+
+-- for a stop_time_update: its arrivals are 2, its departures 3
+abbrev pub SequenceReads : List ℕ → ℕ → ℕ → Type 0
+SequenceReads s from r = Reads (plain (λ n. n)) (taking sequence) feed stopTimeUpdate s from 0 r
+
+pub record StopReads (s : List ℕ) (from : ℕ) (r : StopUpdate) : Type 0 where
+  pub q : ℕ
+  pub p : Span
+  pub k : ℕ
+  pub a : EventNumbers
+  pub d : EventNumbers
+  pub is : r ≡ fromStop q p k a d
+  pub sequence : SequenceReads s from q
+  pub stop : Reads spans (taking stop) feed stopTimeUpdate s from noSpan p
+  pub relationship : Reads (plain (λ n. n)) (taking relationship) feed stopTimeUpdate s from 0 k
+  pub arrival : EventsRead 2 s from a
+  pub departure : EventsRead 3 s from d

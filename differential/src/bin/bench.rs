@@ -1,0 +1,118 @@
+//! The port's calls beside the original's `apply_trip_updates` on one message, run in turn; and the port alone on the
+//! largest messages. Each time is the best of many runs.
+use differential::messages::*;
+use differential::random::Random;
+use differential::rt::decode::apply_trip_updates;
+use differential::rt::overlay::FeedRtState;
+use differential::samples::NOON;
+use differential::wire::{delimited, group, groups, varint};
+use std::hint::black_box;
+use std::time::Instant;
+
+// A lent slice is two arguments: where it begins and how long it is.
+extern "C" {
+    fn probes_judge(bytes: *const u8, length: usize) -> u8;
+    fn probes_read(bytes: *const u8, length: usize) -> u64;
+}
+
+const MIB: usize = 1 << 20;
+
+/// Milliseconds of each of the port's calls on a message. The slice outlives each call, which reads no more than its length.
+fn port(message: &[u8]) -> [f64; 2] {
+    let (bytes, length) = (black_box(message.as_ptr()), message.len());
+    [millis(|| unsafe { probes_judge(bytes, length) }), millis(|| unsafe { probes_read(bytes, length) })]
+}
+
+fn millis<T>(call: impl FnOnce() -> T) -> f64 {
+    let start = Instant::now();
+    black_box(call());
+    start.elapsed().as_secs_f64() * 1e3
+}
+
+fn best(runs: usize, mut run: impl FnMut() -> [f64; 2]) -> [f64; 2] {
+    (0..runs).map(|_| run()).fold([f64::MAX; 2], |best, took| [best[0].min(took[0]), best[1].min(took[1])])
+}
+
+fn update(random: &mut Random, sequence: i64, at: i64) -> Vec<u8> {
+    let late = random.below(300) as i64;
+    stop_time_update(&[
+        stop_sequence(sequence),
+        arrival(&[time(at + late)]),
+        departure(&[delay(late), time(at + late + 30)]),
+        stop_id(&format!("{:05}", random.below(100_000))),
+    ])
+}
+
+fn trip_entity(random: &mut Random, number: i64) -> Vec<u8> {
+    let mut fields = vec![trip(&[
+        trip_id(&format!("SNCF:{:08}-{:04x}", number * 7919, random.below(65536))),
+        start_date("20260101"),
+        route_id(&format!("C{:05}", number % 40)),
+        direction_id(number % 2),
+    ])];
+    fields.extend((1..=20).map(|turn| update(random, turn, NOON + 60 * number + 120 * turn)));
+    fields.push(trip_delay(60));
+    entity(&[trip_update(&fields)])
+}
+
+/// A FULL_DATASET of 500 trips with 20 updates each.
+fn full_dataset() -> Vec<u8> {
+    let mut random = Random::new(7);
+    let mut parts = vec![header(&[incrementality(0), timestamp(NOON)])];
+    parts.extend((0..500).map(|number| trip_entity(&mut random, number)));
+    parts.concat()
+}
+
+fn against_the_original() {
+    let message = full_dataset();
+    let mut state = FeedRtState::new("IDFM");
+    let mut original = f64::MAX;
+    let [judge, read] = best(500, || {
+        original = original.min(millis(|| apply_trip_updates("IDFM", black_box(&message), &mut state)));
+        port(&message)
+    });
+    assert_eq!((state.trips.len(), unsafe { probes_judge(message.as_ptr(), message.len()) }), (1000, 0));
+    println!("500 trips with 20 updates, {} bytes:", message.len());
+    println!("  the original's apply_trip_updates {original:.3} ms");
+    println!("  the port: judged {judge:.3} ms, all read once {read:.3} ms");
+    println!("  port / original: {:.2}", (judge + read) / original);
+}
+
+/// As many as go into 1 MiB, 32 bytes left for what stands around them.
+fn filled(part: &[u8]) -> Vec<u8> {
+    part.repeat((MIB - 32) / part.len())
+}
+
+fn largest() -> Vec<(&'static str, Vec<u8>)> {
+    let record = |fields: Vec<u8>| entity(&[trip_update(&[fields])]);
+    let descending: Vec<u8> =
+        (1..=128).rev().flat_map(|turn| stop_time_update(&[stop_sequence(turn)])).collect();
+    let deep = (0..16).fold(filled(&varint(15, 1)), |inner, _| group(15, &inner));
+    vec![
+        ("empty entities", filled(&entity(&[]))),
+        ("entities with an empty trip_update", filled(&entity(&[trip_update(&[])]))),
+        ("an entity of empty trip_updates", entity(&[filled(&trip_update(&[]))])),
+        ("a record of empty updates", record(filled(&stop_time_update(&[])))),
+        ("a record of updates, 128 to 1 over and over", record(filled(&descending))),
+        ("a record of one text", record(trip(&[trip_id(&"a".repeat(MIB - 32))]))),
+        ("texts of 64 bytes", record(filled(&trip(&[trip_id(&"a".repeat(64))])))),
+        ("headers", filled(&header(&[timestamp(NOON)]))),
+        ("an unlisted text", delimited(15, vec![0; MIB - 16])),
+        ("unlisted numbers", filled(&varint(15, 1))),
+        ("groups 16 deep", filled(&groups(15, 16))),
+        ("numbers in a group 16 deep", deep),
+    ]
+}
+
+fn main() {
+    against_the_original();
+    println!("messages of 1 MiB, by the port:");
+    let mut slow = false;
+    for (name, message) in largest() {
+        assert!((MIB - 1024..=MIB).contains(&message.len()));
+        let [judge, read] = best(5, || port(&message));
+        println!("  {name}: judged {judge:.1} ms, read {read:.1} ms");
+        slow |= judge + read > 1e3;
+    }
+    std::process::exit(i32::from(slow));
+}
