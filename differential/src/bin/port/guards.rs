@@ -2,6 +2,7 @@
 use crate::calls::{Index, LENGTHS};
 use differential::form::{Form, Text};
 use differential::layout::{Trip, TripEntry, UpdateEntry};
+use differential::messages::{header, incrementality, DIFFERENTIAL};
 
 /// How many have another answer.
 pub fn run() -> usize {
@@ -12,11 +13,12 @@ pub fn run() -> usize {
         answers.push((Index::sized(lengths).leave(b"f", &[], &none()), Err(1)));
     }
     let mut index = Index::default();
-    let mut old = |old: &[u8], answer| answers.push((index.leave(b"f", &[], old), answer));
-    old(&trips(&["a", "aa", "b"], 128), Ok(0));
-    old(&trips(&["", &"k".repeat(137)], 0), Ok(0));
-    old(&trips(&["b", "a"], 0), Err(2));
-    old(&trips(&["a", "a"], 0), Err(2));
+    let keeps = header(&[incrementality(DIFFERENTIAL)]);
+    let mut old = |old: &[u8], answer| answers.push((index.leave(b"f", &keeps, old), answer));
+    old(&trips(&["a", "aa", "b"], 128), Ok(3));
+    old(&trips(&["", &"k".repeat(137)], 0), Ok(2));
+    old(&trips(&["b", "a"], 0), Ok(2));
+    old(&trips(&["a", "a"], 0), Ok(1));
     old(&trips(&["a"], 129), Err(2));
     old(&trips(&[&"k".repeat(138)], 0), Err(2));
     old(&[], Err(2));
