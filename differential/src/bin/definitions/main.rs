@@ -18,7 +18,7 @@ use differential::random::Random;
 use opened::{opened, stands_on};
 use std::collections::BTreeSet;
 use std::iter::repeat_with;
-use std::panic::{catch_unwind, AssertUnwindSafe};
+use std::panic::{catch_unwind, set_hook, take_hook, AssertUnwindSafe};
 use std::path::{Path, PathBuf};
 use std::{env, fs};
 
@@ -65,7 +65,6 @@ fn main() {
     let mut words = env::args().skip(1);
     let directory = PathBuf::from(words.next().expect("a directory"));
     let seed: u64 = words.next().and_then(|word| word.parse().ok()).expect("a seed");
-    std::panic::set_hook(Box::new(|_| ()));
     let known = [
         formats::DEFINITIONS,
         alerts::DEFINITIONS,
@@ -99,8 +98,11 @@ fn write_cases(folder: &Path, definition: &Definition, crates: &BTreeSet<String>
         Cases::AtRandom(count, case) => {
             let mut random = Random::new(seed);
             // Where the original panics (a window's edge inside a character) there is no answer: the next.
+            set_hook(Box::new(|_| ()));
             let answered = repeat_with(|| catch_unwind(AssertUnwindSafe(|| case(&mut random))));
-            answered.filter_map(Result::ok).take(count).collect()
+            let answered = answered.filter_map(Result::ok).take(count).collect();
+            drop(take_hook());
+            answered
         }
     };
     let (uses, unfolding) = opened(crates);
