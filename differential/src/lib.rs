@@ -18,6 +18,8 @@ pub mod literal;
 pub mod messages;
 pub mod panel;
 pub mod papers;
+#[cfg(feature = "port")]
+pub mod port;
 pub mod questions;
 pub mod random;
 pub mod samples;

@@ -1,6 +1,7 @@
-//! The port's calls beside the original's `apply_trip_updates` on one message, run in turn; and the port alone on the
+//! The port's index of what a message leaves beside the original's `apply_trip_updates`, run in turn; and the port alone on the
 //! largest messages. Each time is the best of many runs.
 use differential::messages::*;
+use differential::port::{judge, Index};
 use differential::random::Random;
 use differential::rt::decode::apply_trip_updates;
 use differential::rt::overlay::FeedRtState;
@@ -9,24 +10,21 @@ use differential::wire::{delimited, group, groups, varint};
 use std::hint::black_box;
 use std::time::Instant;
 
-// A lent slice is two arguments: where it begins and how long it is.
-extern "C" {
-    fn probes_judge(bytes: *const u8, length: usize) -> u8;
-    fn probes_read(bytes: *const u8, length: usize) -> u64;
-}
-
 const MIB: usize = 1 << 20;
 
-/// Milliseconds of each of the port's calls on a message. The slice outlives each call, which reads no more than its length.
-fn port(message: &[u8]) -> [f64; 2] {
-    let (bytes, length) = (black_box(message.as_ptr()), message.len());
-    [millis(|| unsafe { probes_judge(bytes, length) }), millis(|| unsafe { probes_read(bytes, length) })]
-}
+/// No old trips.
+const NONE: &[u8] = &[0];
 
 fn millis<T>(call: impl FnOnce() -> T) -> f64 {
     let start = Instant::now();
     black_box(call());
     start.elapsed().as_secs_f64() * 1e3
+}
+
+/// Milliseconds of the port: the judgement alone, and the whole call, which judges, indexes and counts updates.
+fn port(index: &mut Index, message: &[u8]) -> [f64; 2] {
+    let message = black_box(message);
+    [millis(|| judge(message)), millis(|| index.leave(b"IDFM", message, NONE))]
 }
 
 fn best(runs: usize, mut run: impl FnMut() -> [f64; 2]) -> [f64; 2] {
@@ -63,19 +61,19 @@ fn full_dataset() -> Vec<u8> {
     parts.concat()
 }
 
-fn against_the_original() {
+fn against_the_original(index: &mut Index) {
     let message = full_dataset();
     let mut state = FeedRtState::new("IDFM");
     let mut original = f64::MAX;
-    let [judge, read] = best(500, || {
+    let [judged, whole] = best(500, || {
         original = original.min(millis(|| apply_trip_updates("IDFM", black_box(&message), &mut state)));
-        port(&message)
+        port(index, &message)
     });
-    assert_eq!((state.trips.len(), unsafe { probes_judge(message.as_ptr(), message.len()) }), (1000, 0));
+    assert_eq!((state.trips.len(), index.leave(b"IDFM", &message, NONE)), (1000, Ok(1000)));
     println!("500 trips with 20 updates, {} bytes:", message.len());
     println!("  the original's apply_trip_updates {original:.3} ms");
-    println!("  the port: judged {judge:.3} ms, all read once {read:.3} ms");
-    println!("  port / original: {:.2}", (judge + read) / original);
+    println!("  the port {whole:.3} ms, of which the judgement alone {judged:.3} ms");
+    println!("  port / original: {:.2}", whole / original);
 }
 
 /// As many as go into 1 MiB, 32 bytes left for what stands around them.
@@ -84,13 +82,17 @@ fn filled(part: &[u8]) -> Vec<u8> {
 }
 
 fn largest() -> Vec<(&'static str, Vec<u8>)> {
-    let record = |fields: Vec<u8>| entity(&[trip_update(&[fields])]);
+    let named = |id: &str| trip(&[trip_id(id)]);
+    let record = |fields: Vec<u8>| entity(&[trip_update(&[named("a"), fields])]);
+    let keys: Vec<u8> =
+        (0..2048).rev().flat_map(|key| entity(&[trip_update(&[named(&format!("{key:04}"))])])).collect();
     let descending: Vec<u8> =
         (1..=128).rev().flat_map(|turn| stop_time_update(&[stop_sequence(turn)])).collect();
     let deep = (0..16).fold(filled(&varint(15, 1)), |inner, _| group(15, &inner));
     vec![
         ("empty entities", filled(&entity(&[]))),
         ("entities with an empty trip_update", filled(&entity(&[trip_update(&[])]))),
+        ("entities at 2,048 keys, from the last to the first, over and over", filled(&keys)),
         ("an entity of empty trip_updates", entity(&[filled(&trip_update(&[]))])),
         ("a record of empty updates", record(filled(&stop_time_update(&[])))),
         ("a record of updates, 128 to 1 over and over", record(filled(&descending))),
@@ -105,14 +107,16 @@ fn largest() -> Vec<(&'static str, Vec<u8>)> {
 }
 
 fn main() {
-    against_the_original();
+    let mut index = Index::default();
+    against_the_original(&mut index);
     println!("messages of 1 MiB, by the port:");
     let mut slow = false;
     for (name, message) in largest() {
-        assert!((MIB - 1024..=MIB).contains(&message.len()));
-        let [judge, read] = best(5, || port(&message));
-        println!("  {name}: judged {judge:.1} ms, read {read:.1} ms");
-        slow |= judge + read > 1e3;
+        assert!((MIB - MIB / 16..=MIB).contains(&message.len()));
+        let answer = index.leave(b"IDFM", &message, NONE);
+        let [judged, whole] = best(5, || port(&mut index, &message));
+        println!("  {name}: {whole:.1} ms, of which the judgement alone {judged:.1} ms ({answer:?})");
+        slow |= whole > 1e3;
     }
     std::process::exit(i32::from(slow));
 }

@@ -1,5 +1,5 @@
 //! Fields passed over, whatever they hold.
-use crate::calls;
+use differential::port;
 use differential::gens::{damaged, message};
 use differential::random::Random;
 use differential::tree::field_end;
@@ -16,7 +16,7 @@ pub fn run(seed: u64) -> usize {
         let at = random.below(message.len() + 2);
         let expected = field_end(&message, at);
         whole += usize::from(expected.is_some());
-        differ += usize::from(calls::field_end(&message, at) != expected.unwrap_or(0));
+        differ += usize::from(port::field_end(&message, at) != expected.unwrap_or(0));
     }
     println!("port: {FIELDS} fields passed over, {whole} of them whole, {differ} otherwise");
     differ

@@ -1,5 +1,5 @@
 //! What the index asks before the message: the working slices' lengths, the old trips, the feed's length.
-use crate::calls::{Index, LENGTHS};
+use differential::port::{Index, LENGTHS};
 use differential::form::{Form, Text};
 use differential::layout::{Trip, TripEntry, UpdateEntry};
 use differential::messages::{header, incrementality, DIFFERENTIAL};

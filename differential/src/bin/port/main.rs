@@ -1,6 +1,5 @@
 //! The port's calls beside the original and the second reading, on random inputs.
 mod big;
-mod calls;
 mod fields;
 mod guards;
 mod trips;

@@ -1,6 +1,5 @@
 //! What a message leaves of a feed's trips: the port's index beside `apply_trip_updates`.
 use crate::big;
-use crate::calls::{header, judge, Index, Place};
 use differential::bounds::bounds;
 use differential::form::Form;
 use differential::gens::{damaged, message};
@@ -8,6 +7,7 @@ use differential::host::Original;
 use differential::layout::{said, Said, TripEntry};
 use differential::messages::{header as header_field, incrementality, DIFFERENTIAL};
 use differential::panel::Call;
+use differential::port::{header, judge, Index, Place};
 use differential::questions::{self, feed_id, yes};
 use differential::random::Random;
 use std::collections::BTreeMap;

@@ -1,6 +1,6 @@
 //! The port's compiled calls. They ask nothing of their caller but that a slice is what it says it is: two arguments, where it begins
 //! and how long it is.
-use differential::layout::{StopUpdate, Trip, UpdateEntry};
+use crate::layout::{StopUpdate, Trip, UpdateEntry};
 
 mod raw {
     #[repr(C)]
