@@ -1,6 +1,6 @@
 //! Fields passed over, whatever they hold.
-use differential::port;
 use differential::gens::{damaged, message};
+use differential::port;
 use differential::random::Random;
 use differential::tree::field_end;
 

@@ -1,8 +1,8 @@
 //! What the index asks before the message: the working slices' lengths, the old trips, the feed's length.
-use differential::port::{Index, LENGTHS};
 use differential::form::{Form, Text};
 use differential::layout::{Trip, TripEntry, UpdateEntry};
 use differential::messages::{header, incrementality, DIFFERENTIAL};
+use differential::port::{Index, LENGTHS};
 
 /// How many have another answer.
 pub fn run() -> usize {
