@@ -1,6 +1,7 @@
 -- Lemmas on plain values.
 mod Reader
 mod Stops
+mod Trips
 mod Signed
 mod Typing
 mod Walking

@@ -1,20 +1,20 @@
 -- A turn of the loop of a reader that answers positions, on plain values. Assumes nothing.
-use Prim.Native.Nat.{ℕ, zero, suc, _+_, _-_, _≤_}
+use Prim.Native.Nat.{ℕ, _+_, _≤_}
 use mathlib.Core.Path.{_≡_, refl, sym, ap, subst, _∙_}
 use mathlib.Core.List.{List}
 use mathlib.Core.Bool.{Bool, true, false}
 use mathlib.Core.Option.{none}
 use native.Mathlib.Omega.{arith}
-use native.Mathlib.Numerals.{sub-one}
 use lib.ListN.{length, take, drop, length-take}
 use lib.Dec.{eqb}
 use borrow.Author.Tests.{eq-eqb, ne-eqb}
+use lib.Seq.{take-length}
 use Rattle.wire.specs.Wire.{choose}
 use Rattle.realtime.specs.Tree.{Schema, Tree, tree}
 use Rattle.realtime.specs.Steps.{Stepped}
 use Rattle.merged.specs.Fold.{inside, Takes, folded, Walked, walk-starts, walk-ends, walk-breaks, walk-number, walk-text, walk-message}
 use Rattle.merged.specs.Reading.{Lens, Ready, Reads, front-rest}
-use Rattle.merged.specs.Scalars.{Slot, fieldOf, at, said, Lying, Lasts, nothing, scalars, kept, kept-at, blank, own, path, takesAlong, along-last, Lasting}
+use Rattle.merged.specs.Scalars.{Slot, fieldOf, at, said, Lying, Lasts, nothing, scalars, kept, kept-at, blank, own, takesAlong, along-last, Lasting}
 use Rattle.merged.specs.declared.Scalar.{Scalar}
 use Rattle.merged.specs.declared.Scalars.{Scalars}
 use Rattle.realtime.specs.declared.Step.{Step}
@@ -113,21 +113,6 @@ module _ {σ : Schema} {t : ℕ} {s : List ℕ} {from : ℕ} {d₀ : Scalars} {a
   keep-text {f} {i} {l} {n} {r} S e =
       on-text R S (ap (scalars .look s) e ∙ kept-look s d f (Scalar.Text i l)) (λ h W. subst (scalars .In n) (sym e) (kept-within n d f (Scalar.Text i l) h W))
 
--- a path of no length, and a longer one
-along-here : (n a b : ℕ) → n ≡ 0 → takesAlong (path n a b) ≡ own
-along-here n a b e = ap (λ k. takesAlong (path k a b)) e
-
-along-more : (n a b : ℕ) → (n ≡ 0 → ⊥) → takesAlong (path n a b) ≡ inside a (takesAlong (path (n - 1) b 0))
-along-more zero a b h = absurd (h refl)
-along-more (suc n) a b h = ap (λ k. inside a (takesAlong (path k b 0))) (sym (sub-one (suc n)))
-
-module _ {σ : Schema} {t : ℕ} {s : List ℕ} {from : ℕ} {d r : Scalars} (n a b : ℕ) where
-  pub path-here : n ≡ 0 → Reads scalars own σ t s from d r → Reads scalars (takesAlong (path n a b)) σ t s from d r
-  path-here e Q = subst (λ φ. Reads scalars φ σ t s from d r) (sym (along-here n a b e)) Q
-
-  pub path-more : (n ≡ 0 → ⊥) → Reads scalars (inside a (takesAlong (path (n - 1) b 0))) σ t s from d r → Reads scalars (takesAlong (path n a b)) σ t s from d r
-  path-more e Q = subst (λ φ. Reads scalars φ σ t s from d r) (sym (along-more n a b e)) Q
-
 -- from nothing on
 pub blank-start : (s : List ℕ) (i : ℕ) → i ≤ length s → Ready scalars s i blank
 blank-start s i h = record { inside = h; within = λ k. go k }
@@ -139,10 +124,6 @@ blank-start s i h = record { inside = h; within = λ k. go k }
     go Slot.four = tt
     go Slot.five = tt
     go Slot.six = tt
-
--- in the first bytes of s up to the message's end
-pub blank-ready : (s : List ℕ) (i l : ℕ) (x : List ℕ) {d : Scalars} → i + l ≤ length s → x ≡ take (i + l) s → d ≡ blank → Ready scalars x i d
-blank-ready s i l x h p e = subst (Ready scalars x i) (sym e) (blank-start x i (omega (arith, ap length p, length-take (i + l) s)))
 
 blank-nothing : (s : List ℕ) → _≡_ {A = Lasts} (λ i. said s (at blank i)) nothing
 blank-nothing s = λ j i. go i j
@@ -167,3 +148,8 @@ lasting {σ} {t} {s} {x} {i} {l} {d} {r} ps h e b Q =
           (sym v ∙ Q .made .of m (ap (tree σ t) p ∙ q) ∙ ap (λ o. folded (takesAlong ps) o m) (ap (scalars .look x) b ∙ blank-nothing x) ∙ along-last ps m);
       within = scalars .far (i + l) (length s) r h W;
     }
+
+pub lasting-whole : {σ : Schema} {t : ℕ} (s : List ℕ) {d r : Scalars} (ps : List ℕ) → d ≡ blank → Reads scalars (takesAlong ps) σ t s 0 d r → Lasting σ t s 0 (length s) ps r
+lasting-whole s ps b Q =
+    let z : 0 + length s ≡ length s = omega arith in
+    lasting ps (omega arith) (sym (ap (λ n. take n s) z ∙ take-length s)) b Q

@@ -9,14 +9,14 @@ use lib.Dec.{eqb}
 use lib.ListN.{length, take, drop, length-take}
 use lib.Seq.{take-length}
 use Rattle.wire.specs.Wire.{choose, mapO}
-use Rattle.realtime.specs.Tree.{Schema, Tree, Leaf, count, words, last, sub, tree}
-use Rattle.realtime.specs.Schema.{feed, feedMessage, feedEntity, stopTimeUpdate}
+use Rattle.realtime.specs.Tree.{aNumber, Schema, Tree, Leaf, count, words, last, sub, tree}
+use Rattle.realtime.specs.Schema.{rows, feed, feedMessage, feedEntity, stopTimeUpdate}
 use Rattle.merged.specs.Fold.{Takes, folded, inside, inside-sub}
 use Rattle.merged.specs.Reading.{Lens, Reads, front-rest}
 use Rattle.merged.specs.Scalars.{one, two, three, four, five, six, said, Lying, Lasting}
-use Rattle.merged.specs.Numbers.{orZeroAt, textAt, numberAt, taking, leaf, taking-last, plain, spans, valueOf, noNumber, noSpan, fromEvent, EventsRead, SequenceReads, StopReads}
+use Rattle.merged.specs.Numbers.{orZeroAt, textAt, numberAt, taking, leaf, taking-last, plain, spans, valueOf, noNumber, noSpan, fromEvent, EventsRead, NumberReady, NumberReads, StopReads}
 use Rattle.merged.specs.Typed.{uint32, int32, int64, bool, enum, number, text, given, orZero}
-use Rattle.merged.specs.Narrow.{toSpan, toTimestamp, toDirection, toDelay, toBool, isValue, toHeader, toTrip}
+use Rattle.merged.specs.Narrow.{toSpan, toTimestamp, toDirection, toDelay, isValue, toHeader, toTrip}
 use Rattle.merged.specs.Views.{event, spanIn, viewTimestamp, viewDirection, viewDelay, viewTime, viewEvent, SpanInside, HeaderRead, DeletedRead, TripRead, StopRead, SequenceRead}
 use Rattle.merged.specs.declared.Scalar.{Scalar}
 use Rattle.merged.specs.declared.Scalars.{Scalars}
@@ -51,11 +51,6 @@ module _ (s : List ℕ) where
   delay-says (Scalar.Text i l) = refl
   delay-says Scalar.Nothing = refl
 
-  bool-says : (x : Scalar) → toBool x ≡ given bool (number (said s x))
-  bool-says (Scalar.Number n) = refl
-  bool-says (Scalar.Text i l) = refl
-  bool-says Scalar.Nothing = refl
-
   value-says : (v : ℕ) (x : Scalar) → isValue v x ≡ given (λ n. eqb (enum n) v) (number (said s x))
   value-says v (Scalar.Number n) = refl
   value-says v (Scalar.Text i l) = refl
@@ -76,9 +71,6 @@ header-read {σ} {s} {h} {r} L e = subst (HeaderRead σ s) (sym e) (record {
         timestamp = (timestamp-says s (h .f3) ∙ ap number (p three)) j;
       };
 })
-
-pub deleted-read : {σ : Schema} {s : List ℕ} {i l : ℕ} {d : Scalars} {r : Bool} → Lasting σ feedEntity s i l [] d → r ≡ toBool (d .f2) → DeletedRead σ s i l r
-deleted-read {σ} {s} {i} {l} {d} {r} L e = record { of = λ m q. e ∙ bool-says s (d .f2) ∙ ap (λ o. given bool (number o)) (L .of m q two) }
 
 pub trip-read : {σ : Schema} {s : List ℕ} {i l : ℕ} {d u : Scalars} {r : Trip} → Lasting σ feedEntity s i l (3 ∷ 1 ∷ []) d → Lasting σ feedEntity s i l (3 ∷ []) u
     → r ≡ toTrip d u → TripRead σ s i l r
@@ -140,10 +132,11 @@ time-view : (b : Bool) (n : ℕ) → viewTime (choose b (Time.Given (int64 n)) T
 time-view true n = refl
 time-view false n = refl
 
-module _ (s : List ℕ) {x : List ℕ} (i l : ℕ) (h : i + l ≤ length s) (e : x ≡ take (i + l) s) (m : Tree) (q : tree feed stopTimeUpdate (take l (drop i s)) ≡ some m) where
-  zero-of : (k : ℕ) {r : ℕ} → Reads (plain (λ n. n)) (taking (orZeroAt k)) feed stopTimeUpdate x i 0 r → r ≡ orZero (number (last k m))
-  zero-of k Q = made-of s i l h e Q m q ∙ taking-last (orZeroAt k) 0 m ∙ leaf-zero k (last k m)
+zero-of : (t k : ℕ) (s : List ℕ) {x : List ℕ} (i l : ℕ) → i + l ≤ length s → x ≡ take (i + l) s → (m : Tree) → tree feed t (take l (drop i s)) ≡ some m → {r : ℕ}
+    → NumberReads x i t k r → r ≡ orZero (number (last k m))
+zero-of t k s i l h e m q Q = made-of s i l h e Q m q ∙ taking-last (orZeroAt k) 0 m ∙ leaf-zero k (last k m)
 
+module _ (s : List ℕ) {x : List ℕ} (i l : ℕ) (h : i + l ≤ length s) (e : x ≡ take (i + l) s) (m : Tree) (q : tree feed stopTimeUpdate (take l (drop i s)) ≡ some m) where
   text-of : (k : ℕ) {r : Span} → Reads spans (taking (textAt k)) feed stopTimeUpdate x i noSpan r → spanIn s r ≡ text (last k m)
   text-of k Q = made-of s i l h e Q m q ∙ taking-last (textAt k) [] m ∙ leaf-text k (last k m)
 
@@ -160,14 +153,33 @@ module _ (s : List ℕ) {x : List ℕ} (i l : ℕ) (h : i + l ≤ length s) (e :
 pub stop-read : (s : List ℕ) {x : List ℕ} (i l : ℕ) {r : StopUpdate} → i + l ≤ length s → x ≡ take (i + l) s → StopReads x i r → StopRead feed s i l r
 stop-read s i l h e R = subst (StopRead feed s i l) (sym (R .is)) (record {
   of = λ m q. λ z. record {
-    sequence = ap uint32 (zero-of s i l h e m q 1 (R .sequence)) z;
+    sequence = ap uint32 (zero-of stopTimeUpdate 1 s i l h e m q (R .sequence)) z;
     stop = text-of s i l h e m q 4 (R .stop) z;
     arrival = event-of s i l h e m q 2 (R .arrival) z;
     departure = event-of s i l h e m q 3 (R .departure) z;
-    skipped = (ap (λ k. eqb (enum k) 1) (zero-of s i l h e m q 5 (R .relationship)) ∙ value-given (number (last 5 m))) z;
+    skipped = (ap (λ k. eqb (enum k) 1) (zero-of stopTimeUpdate 5 s i l h e m q (R .relationship)) ∙ value-given (number (last 5 m))) z;
   };
   stop = room-far s i l h e (R .stop);
 })
 
-pub sequence-read : (s : List ℕ) {x : List ℕ} (i l : ℕ) {n r : ℕ} → i + l ≤ length s → x ≡ take (i + l) s → SequenceReads x i n → r ≡ uint32 n → SequenceRead feed s i l r
-sequence-read s i l h e Q g = record { of = λ m q. g ∙ ap uint32 (zero-of s i l h e m q 1 Q) }
+pub sequence-read : (s : List ℕ) {x : List ℕ} (i l : ℕ) {n r : ℕ} → i + l ≤ length s → x ≡ take (i + l) s → NumberReads x i stopTimeUpdate 1 n → r ≡ uint32 n → SequenceRead feed s i l r
+sequence-read s i l h e Q g = record { of = λ m q. g ∙ ap uint32 (zero-of stopTimeUpdate 1 s i l h e m q Q) }
+
+mark-given : (o : Option ℕ) → bool (orZero o) ≡ given bool o
+mark-given none = refl
+mark-given (some n) = refl
+
+pub deleted-read : (s : List ℕ) {x : List ℕ} (i l : ℕ) {n : ℕ} {r : Bool} → i + l ≤ length s → x ≡ take (i + l) s → NumberReads x i feedEntity 2 n → r ≡ bool n → DeletedRead feed s i l r
+deleted-read s i l h e Q g = record { of = λ m q. g ∙ ap bool (zero-of feedEntity 2 s i l h e m q Q) ∙ mark-given (number (last 2 m)) }
+
+-- what the two readers of one number ask
+number-ready : (t k : ℕ) (s : List ℕ) {x : List ℕ} (i l : ℕ) → feed t k ≡ some aNumber → i + l ≤ length s → x ≡ take (i + l) s → NumberReady x i t k
+number-ready t k s i l g h e = record { inside = omega (arith, ap length e, length-take (i + l) s); listed = g }
+
+pub deleted-ready : (s : List ℕ) {x : List ℕ} (i l : ℕ) → i + l ≤ length s → x ≡ take (i + l) s → NumberReady x i feedEntity 2
+unfolding feed rows
+deleted-ready s i l = number-ready feedEntity 2 s i l refl
+
+pub sequence-ready : (s : List ℕ) {x : List ℕ} (i l : ℕ) → i + l ≤ length s → x ≡ take (i + l) s → NumberReady x i stopTimeUpdate 1
+unfolding feed rows
+sequence-ready s i l = number-ready stopTimeUpdate 1 s i l refl

@@ -2,7 +2,7 @@
 use Prim.Native.Nat.{ℕ}
 use mathlib.Core.Bool.{Bool, false}
 use lib.Dec.{eqb}
-use Rattle.merged.specs.Typed.{uint32, int32, bool, enum}
+use Rattle.merged.specs.Typed.{uint32, int32, enum}
 use Rattle.merged.specs.declared.Scalar.{Scalar}
 use Rattle.merged.specs.declared.Span.{Span}
 use Rattle.merged.specs.declared.Timestamp.{Timestamp}
@@ -31,11 +31,6 @@ abbrev pub toDelay : Scalar → Delay
 toDelay (Scalar.Number n) = Delay.Given (int32 n)
 toDelay (Scalar.Text i l) = Delay.Absent
 toDelay Scalar.Nothing = Delay.Absent
-
-abbrev pub toBool : Scalar → Bool
-toBool (Scalar.Number n) = bool n
-toBool (Scalar.Text i l) = false
-toBool Scalar.Nothing = false
 
 -- the enum's value is v
 abbrev pub isValue : ℕ → Scalar → Bool

@@ -6,9 +6,9 @@ use mathlib.Core.Bool.{Bool, true, false}
 use mathlib.Core.Option.{Option, none, some}
 use native.Mathlib.Omega.{arith}
 use lib.Dec.{eqb}
-use lib.ListN.{take, drop}
+use lib.ListN.{length, take, drop}
 use Rattle.wire.specs.Wire.{choose}
-use Rattle.realtime.specs.Tree.{Tree, end, num, txt, msg, orElse, Leaf, count, words, last}
+use Rattle.realtime.specs.Tree.{aNumber, Tree, end, num, txt, msg, orElse, Leaf, count, words, last}
 use Rattle.realtime.specs.Schema.{feed, stopTimeUpdate, stopTimeEvent}
 use Rattle.merged.specs.Fold.{Takes, folded, inside}
 use Rattle.merged.specs.Reading.{Lens, Reads, front-part}
@@ -138,10 +138,15 @@ pub record EventsRead (j : ℕ) (s : List ℕ) (from : ℕ) (r : EventNumbers) :
   pub delay : Reads (plain valueOf) (inside j (taking delay)) feed stopTimeUpdate s from noNumber (r .delay)
   pub time : Reads (plain valueOf) (inside j (taking time)) feed stopTimeUpdate s from noNumber (r .time)
 
--- for a stop_time_update: its arrivals are 2, its departures 3
-abbrev pub SequenceReads : List ℕ → ℕ → ℕ → Type 0
-SequenceReads s from r = Reads (plain (λ n. n)) (taking sequence) feed stopTimeUpdate s from 0 r
+-- for a number at field k of a message of type t, which is listed
+pub record NumberReady (s : List ℕ) (from t k : ℕ) : Type 0 where
+  pub inside : from ≤ length s
+  pub listed : feed t k ≡ some aNumber
 
+abbrev pub NumberReads : List ℕ → ℕ → ℕ → ℕ → ℕ → Type 0
+NumberReads s from t k r = Reads (plain (λ n. n)) (taking (orZeroAt k)) feed t s from 0 r
+
+-- for a stop_time_update: its arrivals are 2, its departures 3
 pub record StopReads (s : List ℕ) (from : ℕ) (r : StopUpdate) : Type 0 where
   pub q : ℕ
   pub p : Span
@@ -149,8 +154,8 @@ pub record StopReads (s : List ℕ) (from : ℕ) (r : StopUpdate) : Type 0 where
   pub a : EventNumbers
   pub d : EventNumbers
   pub is : r ≡ fromStop q p k a d
-  pub sequence : SequenceReads s from q
+  pub sequence : NumberReads s from stopTimeUpdate 1 q
   pub stop : Reads spans (taking stop) feed stopTimeUpdate s from noSpan p
-  pub relationship : Reads (plain (λ n. n)) (taking relationship) feed stopTimeUpdate s from 0 k
+  pub relationship : NumberReads s from stopTimeUpdate 5 k
   pub arrival : EventsRead 2 s from a
   pub departure : EventsRead 3 s from d

@@ -1,5 +1,5 @@
 -- The last scalars of a message, by their fields, along a path of messages of which all occurrences are merged. Assumes nothing.
-use Prim.Native.Nat.{ℕ, zero, suc, _+_, _≤_}
+use Prim.Native.Nat.{ℕ, _+_, _≤_}
 use mathlib.Core.Path.{_≡_, refl, ap, _∙_}
 use mathlib.Core.List.{List, [], _∷_}
 use mathlib.Core.Bool.{Bool, true, false}
@@ -9,10 +9,12 @@ use lib.Dec.{eqb}
 use lib.ListN.{length, take, drop}
 use Rattle.wire.specs.Wire.{choose}
 use Rattle.realtime.specs.Tree.{Schema, Tree, end, num, txt, msg, orElse, Leaf, count, words, last, sub, tree}
+use Rattle.realtime.specs.Schema.{feed, feedEntity, tripUpdate}
 use Rattle.merged.specs.Fold.{Takes, folded, inside, inside-sub}
-use Rattle.merged.specs.Reading.{Lens, front-part}
+use Rattle.merged.specs.Reading.{Lens, Ready, Reads, front-part}
 use Rattle.merged.specs.declared.Scalar.{Scalar}
 use Rattle.merged.specs.declared.Scalars.{Scalars}
+use Rattle.merged.specs.declared.TripScalars.{TripScalars}
 
 -- what a scalar of the code says of the bytes, and where it lies
 abbrev pub said : List ℕ → Scalar → Option Leaf
@@ -115,11 +117,6 @@ abbrev pub along : List ℕ → Tree → Tree
 along [] t = t
 along (p ∷ ps) t = along ps (sub p t)
 
--- a path as the code has it: its length, and two fields at most
-abbrev pub path : ℕ → ℕ → ℕ → List ℕ
-path zero a b = []
-path (suc n) a b = a ∷ path n b 0
-
 or-later : {A : Type 0} (o : Option A) (b : Bool) (n : A) (p : Option A) → orElse o (choose b (some n) p) ≡ orElse (orElse o (choose b (some n) none)) p
 or-later none true n p = refl
 or-later none false n p = refl
@@ -146,3 +143,16 @@ along-last (p ∷ ps) t = inside-sub p (takesAlong ps) nothing t ∙ along-last 
 pub record Lasting (σ : Schema) (t : ℕ) (s : List ℕ) (i l : ℕ) (ps : List ℕ) (r : Scalars) : Type 0 where
   pub of : (m : Tree) → tree σ t (take l (drop i s)) ≡ some m → (k : Slot) → said s (at r k) ≡ last (fieldOf k) (along ps m)
   pub within : (k : Slot) → Lying (length s) (at r k)
+
+-- of a trip_update: its trips, 1, and its own; of an entity, the same of all its trip_updates, 3
+pub record TripReady (s : List ℕ) (from : ℕ) (b : TripScalars) : Type 0 where
+  pub trip : Ready scalars s from (b .trip)
+  pub update : Ready scalars s from (b .update)
+
+pub record UpdateReads (s : List ℕ) (from : ℕ) (b r : TripScalars) : Type 0 where
+  pub trip : Reads scalars (takesAlong (1 ∷ [])) feed tripUpdate s from (b .trip) (r .trip)
+  pub update : Reads scalars own feed tripUpdate s from (b .update) (r .update)
+
+pub record TripReads (s : List ℕ) (from : ℕ) (r : TripScalars) : Type 0 where
+  pub trip : Reads scalars (takesAlong (3 ∷ 1 ∷ [])) feed feedEntity s from blank (r .trip)
+  pub update : Reads scalars (takesAlong (3 ∷ [])) feed feedEntity s from blank (r .update)

@@ -7,15 +7,16 @@ use realtime::Step;
 use realtime::TRIP_UPDATE;
 use realtime::next;
 ghost use mathlib.Core.Path.{_≡_};
+ghost use mathlib.Core.List.{[], _∷_};
 ghost use Prim.Native.Nat.{_+_, _≤_};
 ghost use lib.Dec.{eqb};
 ghost use lib.ListN.{length};
 ghost use Rattle.wire.specs.Wire.{choose};
 ghost use Rattle.realtime.specs.Schema.{feed};
 ghost use Rattle.merged.specs.Reading.{Ready, Reads};
-ghost use Rattle.merged.specs.Scalars.{Lasting, blank, kept, own, path, scalars, takesAlong};
-ghost use Rattle.merged.specs.Narrow.{isValue, toBool, toDelay, toDirection, toHeader, toSpan, toTimestamp, toTrip};
-ghost use Rattle.merged.specs.Numbers.{EventReads, SequenceReads, StopReads, fromDelay, fromEvent, fromStop, fromTime, noNumbers};
+ghost use Rattle.merged.specs.Scalars.{TripReads, TripReady, UpdateReads, blank, kept, own, scalars, takesAlong};
+ghost use Rattle.merged.specs.Narrow.{isValue, toDelay, toDirection, toHeader, toSpan, toTimestamp, toTrip};
+ghost use Rattle.merged.specs.Numbers.{EventReads, NumberReads, NumberReady, StopReads, fromDelay, fromEvent, fromStop, fromTime, noNumbers};
 ghost use Rattle.merged.specs.Typed as typed;
 ghost use Rattle.merged.specs.Walks.{NextEntity, NextUpdate, Sound, Walks, Yields, met, typeOf};
 ghost use Rattle.merged.specs.Starts.{atMerged, atPlain};
@@ -112,22 +113,11 @@ fn over_message(s: &[u8], from: usize, message: u64, before: Scalars) -> Scalars
     }
 }
 
-// The same of the messages at a path of fields below: of length `depth`, `a` and then `b`.
-fn over_path(
-    s: &[u8],
-    from: usize,
-    message: u64,
-    depth: usize,
-    a: u64,
-    b: u64,
-    before: Scalars,
-) -> Scalars
+// The same of the messages at field `a`, all merged.
+fn over_field(s: &[u8], from: usize, message: u64, a: u64, before: Scalars) -> Scalars
     requires { ⌜ Ready scalars (now s) from before ⌝ }
-    ensures { λ r. ⌜ Reads scalars (takesAlong (path depth a b)) feed message (now (s .entry)) from before r ⌝ }
+    ensures { λ r. ⌜ Reads scalars (takesAlong (a ∷ [])) feed message (now (s .entry)) from before r ⌝ }
 {
-    if depth == 0 {
-        return over_message(s, from, message, before);
-    }
     let mut at = from;
     let mut d = before;
     loop {
@@ -142,7 +132,7 @@ fn over_path(
             }
             Step::Message(field, inner, start, _, after) => {
                 if field == a {
-                    d = over_path(wire::part(s, 0, after), start, inner, depth - 1, b, 0, d);
+                    d = over_message(wire::part(s, 0, after), start, inner, d);
                 }
                 at = after;
             }
@@ -150,20 +140,70 @@ fn over_path(
     }
 }
 
-// The last values along a path of messages, all occurrences of each merged, of the message that stands in `len` bytes at `start`.
-fn lasts(s: &[u8], start: usize, len: usize, message: u64, depth: usize, a: u64, b: u64) -> Scalars
-    requires { ⌜ start + len ≤ length (now s) ⌝ }
-    ensures { λ r. ⌜ Lasting feed message (now (s .entry)) start len (path depth a b) r ⌝ }
+// Of the trip_updates of an entity: the last values of their trips, and their own.
+pub struct TripScalars {
+    pub trip: Scalars,
+    pub update: Scalars,
+}
+
+// Of one trip_update, in one walk, over what is known already.
+fn over_update(s: &[u8], from: usize, before: TripScalars) -> TripScalars
+    requires { ⌜ TripReady (now s) from before ⌝ }
+    ensures { λ r. ⌜ UpdateReads (now (s .entry)) from before r ⌝ }
 {
-    over_path(
-        wire::part(s, 0, start + len),
-        start,
-        message,
-        depth,
-        a,
-        b,
-        nothing(),
-    )
+    let mut at = from;
+    let mut trip = before.trip;
+    let mut update = before.update;
+    loop {
+        match next(s, at, TRIP_UPDATE) {
+            Step::Broken => return TripScalars { trip, update },
+            Step::End => return TripScalars { trip, update },
+            Step::Number(field, value, after) => {
+                update = keep(update, field, Scalar::Number(value));
+                at = after;
+            }
+            Step::Text(field, start, len, after) => {
+                update = keep(update, field, Scalar::Text { start, len });
+                at = after;
+            }
+            Step::Message(field, inner, start, _, after) => {
+                if field == 1 {
+                    trip = over_message(wire::part(s, 0, after), start, inner, trip);
+                }
+                at = after;
+            }
+        }
+    }
+}
+
+// Of all those of an entity.
+fn over_updates(s: &[u8], from: usize) -> TripScalars
+    requires { ⌜ from ≤ length (now s) ⌝ }
+    ensures { λ r. ⌜ TripReads (now (s .entry)) from r ⌝ }
+{
+    let mut at = from;
+    let mut d = TripScalars {
+        trip: nothing(),
+        update: nothing(),
+    };
+    loop {
+        match next(s, at, FEED_ENTITY) {
+            Step::Broken => return d,
+            Step::End => return d,
+            Step::Number(_, _, after) => {
+                at = after;
+            }
+            Step::Text(_, _, _, after) => {
+                at = after;
+            }
+            Step::Message(field, _, start, _, after) => {
+                if field == 3 {
+                    d = over_update(wire::part(s, 0, after), start, d);
+                }
+                at = after;
+            }
+        }
+    }
 }
 
 // Where a text stands. An absent text is empty.
@@ -284,16 +324,6 @@ fn delay_of(x: Scalar) -> Delay
         Scalar::Number(n) => Delay::Given(int32(n)),
         Scalar::Text { start: _, len: _ } => Delay::Absent,
         Scalar::Nothing => Delay::Absent,
-    }
-}
-
-fn bool_of(x: Scalar) -> bool
-    ensures { λ r. ⌜ r ≡ toBool x ⌝ }
-{
-    match x {
-        Scalar::Number(n) => n != 0,
-        Scalar::Text { start: _, len: _ } => false,
-        Scalar::Nothing => false,
     }
 }
 
@@ -479,20 +509,20 @@ fn over_stop(s: &[u8], from: usize) -> StopUpdate
     }
 }
 
-// Its last sequence alone, 0 where there is none: the messages in it are passed over.
-fn over_sequence(s: &[u8], from: usize) -> u64
-    requires { ⌜ from ≤ length (now s) ⌝ }
-    ensures { λ r. ⌜ SequenceReads (now (s .entry)) from r ⌝ }
+// The last number at field `k` of a message from `from` to the end, 0 where there is none.
+fn last_number(s: &[u8], from: usize, message: u64, k: u64) -> u64
+    requires { ⌜ NumberReady (now s) from message k ⌝ }
+    ensures { λ r. ⌜ NumberReads (now (s .entry)) from message k r ⌝ }
 {
     let mut at = from;
-    let mut sequence: u64 = 0;
+    let mut last: u64 = 0;
     loop {
-        match next(s, at, STOP_TIME_UPDATE) {
-            Step::Broken => return sequence,
-            Step::End => return sequence,
+        match next(s, at, message) {
+            Step::Broken => return last,
+            Step::End => return last,
             Step::Number(field, value, after) => {
-                if field == 1 {
-                    sequence = value;
+                if field == k {
+                    last = value;
                 }
                 at = after;
             }
@@ -510,7 +540,7 @@ fn over_sequence(s: &[u8], from: usize) -> u64
 pub fn header_of(s: &[u8]) -> Header
     ensures { λ r. ⌜ HeaderRead feed (now (s .entry)) r ⌝ }
 {
-    header_from(lasts(s, 0, s.len(), FEED_MESSAGE, 1, 1, 0))
+    header_from(over_field(s, 0, FEED_MESSAGE, 1, nothing()))
 }
 
 // Of an entity in `len` bytes at `start`: whether it is deleted.
@@ -518,9 +548,7 @@ pub fn is_deleted(s: &[u8], start: usize, len: usize) -> bool
     requires { ⌜ start + len ≤ length (now s) ⌝ }
     ensures { λ r. ⌜ DeletedRead feed (now (s .entry)) start len r ⌝ }
 {
-    let e = lasts(s, start, len, FEED_ENTITY, 0, 0, 0);
-    let mark = e.f2;
-    bool_of(mark)
+    last_number(wire::part(s, 0, start + len), start, FEED_ENTITY, 2) != 0
 }
 
 // And its trip, merged from all its trip_updates.
@@ -528,9 +556,10 @@ pub fn trip_of(s: &[u8], start: usize, len: usize) -> Trip
     requires { ⌜ start + len ≤ length (now s) ⌝ }
     ensures { λ r. ⌜ TripRead feed (now (s .entry)) start len r ⌝ }
 {
-    let d = lasts(s, start, len, FEED_ENTITY, 2, 3, 1);
-    let u = lasts(s, start, len, FEED_ENTITY, 1, 3, 0);
-    trip_from(d, u)
+    let d = over_updates(wire::part(s, 0, start + len), start);
+    let trip = d.trip;
+    let update = d.update;
+    trip_from(trip, update)
 }
 
 // A stop_time_update in `len` bytes at `start`.
@@ -546,7 +575,7 @@ pub fn sequence_at(s: &[u8], start: usize, len: usize) -> u32
     requires { ⌜ start + len ≤ length (now s) ⌝ }
     ensures { λ r. ⌜ SequenceRead feed (now (s .entry)) start len r ⌝ }
 {
-    uint32(over_sequence(wire::part(s, 0, start + len), start))
+    uint32(last_number(wire::part(s, 0, start + len), start, STOP_TIME_UPDATE, 1))
 }
 
 // A walk over the messages at a repeated field, of all the messages at another field merged: the next place outside, and what is left of the message that is open.

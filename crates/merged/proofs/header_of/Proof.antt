@@ -1,5 +1,12 @@
 -- `merged::header_of` meets its contract: the header is what is merged at field 1. Assumes nothing.
 use borrow.Author.Needs.{needs}
+use native.Mathlib.Omega.{arith}
+use denote.Ref.{now}
+use mathlib.Core.Path.{sym, subst}
+use mathlib.Core.List.{[], _∷_}
+use Rattle.merged.specs.Reading.{Ready}
+use Rattle.merged.specs.Scalars.{scalars}
+use Rattle.merged.proofs.Reader.{blank-start, lasting-whole}
 use Rattle.merged.proofs.Typing.{header-read}
 use Rattle.merged.proofs.header_of.Statement.{statement}
 use Rattle.merged.proofs.header_of.Tie as tie
@@ -9,5 +16,6 @@ header-of-spec =
     tie.close
     (tie.spec
     (λ c κs. search needs)
-    (λ c κs. tt)
-    (λ c. header-read (c .before .lasts .ensures) (c .header-from .ensures)))
+    (λ c κs. subst (Ready scalars (now (c .before .before .args .s)) 0) (sym (c .nothing .ensures)) (blank-start (now (c .before .before .args .s)) 0 (omega arith)))
+    (λ c κs. search needs)
+    (λ c. header-read (lasting-whole (now (c .before .before .before .before .args .s)) (1 ∷ []) (c .before .before .nothing .ensures) (c .before .over-field .ensures)) (c .header-from .ensures)))

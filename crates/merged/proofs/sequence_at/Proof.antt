@@ -1,11 +1,7 @@
 -- `merged::sequence_at` meets its contract, in the bytes up to the update's end. Assumes nothing.
 use borrow.Author.Needs.{needs}
-use Prim.Native.Nat.{_+_}
-use native.Mathlib.Omega.{arith}
 use denote.Ref.{now}
-use lib.ListN.{length, length-take}
-use mathlib.Core.Path.{ap}
-use Rattle.merged.proofs.Typing.{sequence-read}
+use Rattle.merged.proofs.Typing.{sequence-ready, sequence-read}
 use Rattle.merged.proofs.sequence_at.Statement.{statement}
 use Rattle.merged.proofs.sequence_at.Tie as tie
 
@@ -15,6 +11,6 @@ sequence-at-spec =
     (tie.spec
     (λ c. search needs)
     (λ c κs. search needs)
-    (λ c κs. let a = c .before .before .args in omega (arith, ap length (c .part .ensures), length-take (a .start + a .len) (now (a .s)), c .before .before .pre))
+    (λ c κs. let a = c .before .before .args in sequence-ready (now (a .s)) (a .start) (a .len) (c .before .before .pre) (c .part .ensures))
     (λ c κs. search needs)
-    (λ c. let a = c .before .before .before .before .args in sequence-read (now (a .s)) (a .start) (a .len) (c .before .before .before .before .pre) (c .before .before .part .ensures) (c .before .over-sequence .ensures) (c .uint32 .ensures)))
+    (λ c. let a = c .before .before .before .before .args in sequence-read (now (a .s)) (a .start) (a .len) (c .before .before .before .before .pre) (c .before .before .part .ensures) (c .before .last-number .ensures) (c .uint32 .ensures)))
