@@ -184,7 +184,7 @@ impl Index {
             && found.cancelled == trip.cancelled
             && found.directed.then_some(found.direction.into()) == trip.direction
             && found.delayed.then_some(found.delay.into()) == trip.delay
-            && count == trip.updates.len()
+            && count == trip.updates.len() + 16
             && self.updates.chunks(3).zip(&trip.updates).all(|(place, entry)| {
                 let update = entity.get(place[1] as usize..place[2] as usize);
                 u64::from(place[0]) == entry.sequence && update.is_some_and(|update| is_update(update, entry))

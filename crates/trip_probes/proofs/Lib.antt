@@ -2,3 +2,4 @@
 mod Reading
 mod Asking
 mod Outcomes
+mod Listing

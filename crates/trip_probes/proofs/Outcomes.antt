@@ -38,7 +38,7 @@ judged-few false Verdict.Broken = omega arith
 judged-few false Verdict.Text = omega arith
 judged-few false Verdict.Time = omega arith
 
-unless-asked : (q : ℕ) (x : Outcome) → (q ≡ 0 → ⊥) → refused q ≡ unlessAsked q x
+unless-asked : (q : ℕ) (x : Outcome Trips) → (q ≡ 0 → ⊥) → refused q ≡ unlessAsked q x
 unless-asked zero x n = absurd (n refl)
 unless-asked (suc q) x n = refl
 

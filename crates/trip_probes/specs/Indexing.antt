@@ -9,16 +9,17 @@ use Rattle.formats.specs.Format.{list, read}
 use Rattle.judging.specs.Judged.{judgeTo}
 use Rattle.judging.specs.declared.Judge.{Judge}
 use Rattle.realtime.specs.Tree.{tree}
-use Rattle.realtime.specs.Schema.{feedMessage}
+use Rattle.realtime.specs.Schema.{feedMessage, feedEntity}
 use Rattle.realtime.specs.Schema as schema
 use Rattle.realtime.specs.Judge.{asked, rules}
-use Rattle.decode.specs.Trip.{tripEntry}
+use Rattle.decode.specs.Trip.{StopUpdate, tripEntry}
 use Rattle.decode.specs.Map.{puts}
 use Rattle.decode.specs.Order.{texts}
+use Rattle.decode.specs.Record.{updatesIn}
 use Rattle.decode.specs.Leaves.{Trips, leaves}
 use Rattle.index.specs.Message.{messageOf}
 use Rattle.index.specs.Leaving.{Leaving, manyTrips, manyUpdates, trips, leaving}
-use Rattle.trip_probes.specs.Answers.{questionOf}
+use Rattle.trip_probes.specs.Answers.{questionOf, ofWhole}
 
 -- the lengths of the working slices
 abbrev pub sized : ℕ → ℕ → ℕ → ℕ → Bool
@@ -50,23 +51,30 @@ messageQuestion feed s = cond (leb (length s) 1048576) (judgedQuestion (leb (len
 abbrev pub question : Bool → List ℕ → List ℕ → List ℕ → ℕ
 question fit feed s old = cond fit (cond (areOld old) (messageQuestion feed s) 2) 1
 
--- A QUESTION with the answer no, or the trips that are left
-pub data Outcome : Type 0 where
-  refused : ℕ → Outcome
-  left : Trips → Outcome
+-- A QUESTION with the answer no, or what is left
+pub data Outcome (A : Type 0) : Type 0 where
+  refused : ℕ → Outcome A
+  left : A → Outcome A
 
-abbrev pub seven : Leaving → Outcome
+abbrev pub seven : Leaving → Outcome Trips
 seven manyTrips = refused 7
 seven manyUpdates = refused 7
 seven (trips t) = left t
 
-abbrev pub unlessAsked : ℕ → Outcome → Outcome
+abbrev pub unlessAsked : ℕ → Outcome Trips → Outcome Trips
 unlessAsked zero x = x
 unlessAsked (suc n) x = refused (suc n)
 
-abbrev pub outcome : Bool → List ℕ → List ℕ → List ℕ → Outcome
+abbrev pub outcome : Bool → List ℕ → List ℕ → List ℕ → Outcome Trips
 outcome fit feed s old = unlessAsked (question fit feed s old) (seven (leaving (leaves feed (messageOf s) (puts texts (oldTrips old) []))))
 
--- what the answer says, where n slots hold the trips t n
-abbrev pub answered : (ℕ → Trips) → ℕ → Outcome
+-- what the answer says, where n slots or lines hold t n
+abbrev pub answered : {A : Type 0} → (ℕ → A) → ℕ → Outcome A
 answered t r = cond (ltb r 16) (refused r) (left (t (r - 16)))
+
+-- The updates of an entity: more than 128 are refused
+abbrev pub limited : List (ℕ × StopUpdate) → Outcome (List (ℕ × StopUpdate))
+limited l = cond (ltb 128 (length l)) (refused 7) (left l)
+
+abbrev pub updatesOutcome : Bool → List ℕ → Outcome (List (ℕ × StopUpdate))
+updatesOutcome fit e = cond fit (cond (leb (length e) 1048576) (ofWhole (refused 4) (λ m. limited (updatesIn m)) (tree schema.feed feedEntity e)) (refused 3)) (refused 1)

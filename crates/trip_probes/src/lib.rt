@@ -17,6 +17,7 @@ use realtime::Verdict;
 ghost use mathlib.Core.Path.{_≡_};
 ghost use mathlib.Core.Bool.{false};
 ghost use Prim.Native.Nat.{_≤_};
+ghost use lib.Dec.{eqb};
 ghost use lib.ListN.{length};
 ghost use Rattle.slices.specs.Lists.{equal};
 ghost use Rattle.realtime.specs.Tree.{tree};
@@ -26,8 +27,9 @@ ghost use Rattle.merged.specs.Typed.{orZero};
 ghost use Rattle.merged.specs.Views.{SpanInside, header, spanIn, stopUpdate, trip, viewDelay, viewDirection, viewEvent, viewHeader, viewTime, viewTimestamp};
 ghost use Rattle.slots.specs.Index.{index};
 ghost use Rattle.slots.specs.Places as places;
-ghost use Rattle.updates.specs.Updates.{Listed};
-ghost use Rattle.trip_probes.specs.Indexing.{sized, unfailed, areOld, messageQuestion, question, answered, outcome};
+ghost use Rattle.updates.specs.Line.{laid};
+ghost use Rattle.updates.specs.Updates.{updatesAt};
+ghost use Rattle.trip_probes.specs.Indexing.{sized, unfailed, areOld, messageQuestion, question, answered, outcome, updatesOutcome};
 ghost use Rattle.trip_probes.specs.Answers.{questionOf, whole, present, orNought, ofWhole, headerNumbers, noHeader, tripNumbers, tripNumbersOf, noTrip, eventNumbers, stopNumbers, stopNumbersOf, noStop, textsAre};
 
 fn question_of(v: Verdict) -> u32
@@ -304,18 +306,26 @@ pub extern "C" fn trips_stop_text(u: &[u8], stop: &[u8]) -> bool
     false
 }
 
-// The places of an entity's updates, in ascending order of sequence, in 387 words: how many they are.
+// The places of an entity's updates, in ascending order of sequence, in 387 words: the first of the questions 1, 3, 4 and 7 with the answer no, or 16 and how many
+// they are.
 #[no_mangle]
 pub extern "C" fn trips_updates(updates: &mut [u32], e: &[u8]) -> usize
-    ensures { λ r. ⌜ (length (now (updates .entry)) ≡ 387 → length (now (e .entry)) ≤ 1048576 → Listed (now (e .entry)) 0 (length (now (e .entry))) (now (updates .exit)) r) ⌝ }
+    ensures { λ r. ⌜ answered (λ n. updatesAt (now (e .entry)) (laid n (now (updates .exit)))) r ≡ updatesOutcome (eqb (length (now (updates .entry))) 387) (now (e .entry)) ⌝ }
 {
     if updates.len() != 387 {
-        return 0;
+        return 1;
     }
     if e.len() > 1048576 {
-        return 0;
+        return 3;
     }
-    updates::updates_of(updates, e, 0, e.len())
+    if is_whole(e, FEED_ENTITY) {
+        let n = updates::updates_of(updates, e, 0, e.len());
+        if n > 128 {
+            return 7;
+        }
+        return 16 + n;
+    }
+    4
 }
 
 fn is_unfailed(j: Judge) -> bool
