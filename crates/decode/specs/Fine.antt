@@ -1,13 +1,13 @@
 -- A message that is within questions 5 and 6, taken apart: its parts, merged and repeated, are within them too. Assumes nothing.
 use mathlib.Core.Path.{_≡_, refl}
-use mathlib.Core.Bool.{Bool, true, false}
+use mathlib.Core.Bool.{Bool, true, false, cond}
 use mathlib.Core.List.{List, [], _∷_}
 use mathlib.Core.Option.{Option, none, some}
 use Prim.Native.Nat.{ℕ, zero, suc}
 use lib.Dec.{eqb}
 use lib.ListN.{length}
 use borrow.Author.Tests.{eqb-true}
-use Rattle.wire.specs.Wire.{choose, mapO, Value, number, eight, string, group, four, Field, fields}
+use Rattle.wire.specs.Wire.{mapO, Value, number, eight, string, group, four, Field, fields}
 use Rattle.formats.specs.Law.{All, none-some}
 use Rattle.decode.specs.Laws.{both-true}
 use Rattle.realtime.specs.Tree.{Kind, aNumber, aText, aMessage, Schema, Tree, end, num, txt, msg, Leaf, count, words, bindO, orElse, putNumber, putText, putMessage, put, build, nest, tree, join, last, sub, rep}
@@ -120,7 +120,7 @@ module _ (σ : Schema) (ρ : Rules) where
     fine-sub (txt g s r) x = fine-sub r (x .1)
     fine-sub (msg g v m r) x = go (eqb g f) refl (fine-sub r (x .2))
       where
-        go : (b : Bool) → eqb g f ≡ b → Fine σ ρ u (sub f r) → Fine σ ρ u (choose b (join m (sub f r)) (sub f r))
+        go : (b : Bool) → eqb g f ≡ b → Fine σ ρ u (sub f r) → Fine σ ρ u (cond b (join m (sub f r)) (sub f r))
         go true e h = fine-join u m (sub f r) (let z = at g v e (x .0) in rw z at (x .1)) h
         go false e h = h
 
@@ -131,12 +131,12 @@ module _ (σ : Schema) (ρ : Rules) where
     fine-rep (txt g s r) x = fine-rep r (x .1)
     fine-rep (msg g v m r) x = go (eqb g f) refl (fine-rep r (x .2))
       where
-        go : (b : Bool) → eqb g f ≡ b → All (Fine σ ρ u) (rep f r) → All (Fine σ ρ u) (choose b (m ∷ rep f r) (rep f r))
+        go : (b : Bool) → eqb g f ≡ b → All (Fine σ ρ u) (rep f r) → All (Fine σ ρ u) (cond b (m ∷ rep f r) (rep f r))
         go true e h = ((let z = at g v e (x .0) in rw z at (x .1)), h)
         go false e h = h
 
   -- the last value of a field
-  later : {A : Type 0} (P : A → Type 0) (o : Option A) (b : Bool) (a : A) → Given P o → (b ≡ true → P a) → Given P (orElse o (choose b (some a) none))
+  later : {A : Type 0} (P : A → Type 0) (o : Option A) (b : Bool) (a : A) → Given P o → (b ≡ true → P a) → Given P (orElse o (cond b (some a) none))
   later P none true a x h = h refl
   later P none false a x h = tt
   later P (some c) b a x h = x

@@ -9,7 +9,7 @@ use lib.Dec.{ltb, leb}
 use lib.ListN.{length, take, drop, length-drop}
 use borrow.Author.Tests.{lt-ltb, leb-true}
 use Rattle.formats.specs.Law.{All}
-use Rattle.wire.specs.Wire.{choose, mapO}
+use Rattle.wire.specs.Wire.{mapO}
 use Rattle.realtime.specs.Tree.{Tree, Leaf, count, words, tree, last, sub, rep}
 use Rattle.realtime.specs.Schema.{rows, feed, feedMessage, feedEntity, tripUpdate, tripDescriptor}
 use Rattle.realtime.specs.Judge.{rules, asked, textsFine, numbersFine, limit, printable}
@@ -63,11 +63,11 @@ whole s J = go (tree feed feedMessage s) refl J
     go none p j = no-broken j
     go (some m) p j = texts? (textsFine rules feedMessage m) refl j
       where
-        numbers? : (b : Bool) → numbersFine rules feedMessage m ≡ b → textsFine rules feedMessage m ≡ true → choose b Verdict.Fine Verdict.Time ≡ Verdict.Fine → Whole s
+        numbers? : (b : Bool) → numbersFine rules feedMessage m ≡ b → textsFine rules feedMessage m ≡ true → cond b Verdict.Fine Verdict.Time ≡ Verdict.Fine → Whole s
         numbers? true n t i = record { message = m; read = p; fine = fine-rep feed rules feedMessage 2 feedEntity refl m (tree-fine feed rules feedMessage s m p t n) }
         numbers? false n t i = no-time i
 
-        texts? : (b : Bool) → textsFine rules feedMessage m ≡ b → choose b (choose (numbersFine rules feedMessage m) Verdict.Fine Verdict.Time) Verdict.Text ≡ Verdict.Fine → Whole s
+        texts? : (b : Bool) → textsFine rules feedMessage m ≡ b → cond b (cond (numbersFine rules feedMessage m) Verdict.Fine Verdict.Time) Verdict.Text ≡ Verdict.Fine → Whole s
         texts? true t i = numbers? (numbersFine rules feedMessage m) refl t i
         texts? false t i = no-text i
 

@@ -2,14 +2,13 @@
 use Prim.Native.Nat.{ℕ, _+_, _≤_}
 use mathlib.Core.Path.{_≡_, refl, sym, ap, subst, _∙_}
 use mathlib.Core.List.{List}
-use mathlib.Core.Bool.{Bool, true, false}
+use mathlib.Core.Bool.{Bool, true, false, cond}
 use mathlib.Core.Option.{none}
 use native.Mathlib.Omega.{arith}
 use lib.ListN.{length, take, drop, length-take}
 use lib.Dec.{eqb}
 use borrow.Author.Tests.{eq-eqb, ne-eqb}
 use lib.Seq.{take-length}
-use Rattle.wire.specs.Wire.{choose}
 use Rattle.realtime.specs.Tree.{Schema, Tree, tree}
 use Rattle.realtime.specs.Steps.{Stepped}
 use Rattle.merged.specs.Fold.{inside, Takes, folded, Walked, walk-starts, walk-ends, walk-breaks, walk-number, walk-text, walk-message}
@@ -80,29 +79,29 @@ module _ {D B : Type 0} {L : Lens D B} (j : ℕ) (φ : Takes B) {σ : Schema} {t
       let b : drop i x ≡ take l (drop i s) = ap (drop i) e ∙ front-rest s n i l (S .forward .ends) N in
       record {
         walked = walk-message (R .walked) S (λ m q.
-            sym vr ∙ Q .made .of m (ap (tree σ u) b ∙ q) ∙ ap (λ v. folded φ v m) vd ∙ ap (λ c. choose c (folded φ (L .look s d) m) (L .look s d)) (sym (eq-eqb f j h)));
+            sym vr ∙ Q .made .of m (ap (tree σ u) b ∙ q) ∙ ap (λ v. folded φ v m) vd ∙ ap (λ c. cond c (folded φ (L .look s d) m) (L .look s d)) (sym (eq-eqb f j h)));
         within = Wr;
         inside = N;
       }
 
   pub passed : {f u i l n : ℕ} → Stepped σ t s at (Step.Message f u i l n) → (f ≡ j → ⊥) → Reading L (inside j φ) σ t s from d₀ n d
-  passed {f} {u} {i} {l} {n} S h = past-message R S (λ m. ap (λ c. choose c (folded φ (L .look s d) m) (L .look s d)) (sym (ne-eqb f j h)))
+  passed {f} {u} {i} {l} {n} S h = past-message R S (λ m. ap (λ c. cond c (folded φ (L .look s d) m) (L .look s d)) (sym (ne-eqb f j h)))
 
 -- a scalar is kept at its field
-said-choose : (s : List ℕ) (b : Bool) (x y : Scalar) → said s (choose b x y) ≡ choose b (said s x) (said s y)
-said-choose s true x y = refl
-said-choose s false x y = refl
+said-cond : (s : List ℕ) (b : Bool) (x y : Scalar) → said s (cond b x y) ≡ cond b (said s x) (said s y)
+said-cond s true x y = refl
+said-cond s false x y = refl
 
-lying-choose : (n : ℕ) (b : Bool) (x y : Scalar) → Lying n x → Lying n y → Lying n (choose b x y)
-lying-choose n true x y h h′ = h
-lying-choose n false x y h h′ = h′
+lying-cond : (n : ℕ) (b : Bool) (x y : Scalar) → Lying n x → Lying n y → Lying n (cond b x y)
+lying-cond n true x y h h′ = h
+lying-cond n false x y h h′ = h′
 
 kept-look : (s : List ℕ) (d : Scalars) (f : ℕ) (x : Scalar)
-    → _≡_ {A = Lasts} (λ i. said s (at (kept d f x) i)) (λ i. choose (eqb f (fieldOf i)) (said s x) (said s (at d i)))
-kept-look s d f x = λ j i. (ap (said s) (kept-at d f x i) ∙ said-choose s (eqb f (fieldOf i)) x (at d i)) j
+    → _≡_ {A = Lasts} (λ i. said s (at (kept d f x) i)) (λ i. cond (eqb f (fieldOf i)) (said s x) (said s (at d i)))
+kept-look s d f x = λ j i. (ap (said s) (kept-at d f x i) ∙ said-cond s (eqb f (fieldOf i)) x (at d i)) j
 
 kept-within : (n : ℕ) (d : Scalars) (f : ℕ) (x : Scalar) → Lying n x → ((i : Slot) → Lying n (at d i)) → (i : Slot) → Lying n (at (kept d f x) i)
-kept-within n d f x h W i = subst (Lying n) (sym (kept-at d f x i)) (lying-choose n (eqb f (fieldOf i)) x (at d i) h (W i))
+kept-within n d f x h W i = subst (Lying n) (sym (kept-at d f x i)) (lying-cond n (eqb f (fieldOf i)) x (at d i) h (W i))
 
 module _ {σ : Schema} {t : ℕ} {s : List ℕ} {from : ℕ} {d₀ : Scalars} {at₀ : ℕ} {d : Scalars} (R : Reading scalars own σ t s from d₀ at₀ d) where
   pub keep-number : {f k n : ℕ} {r : Scalars} → Stepped σ t s at₀ (Step.Number f k n) → r ≡ kept d f (Scalar.Number k) → Reading scalars own σ t s from d₀ n r

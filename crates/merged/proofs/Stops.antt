@@ -1,4 +1,5 @@
 -- A turn of the loops over a stop_time_update and over an event: each field a reading of its own. Assumes nothing.
+use mathlib.Core.Bool.{cond}
 use Prim.Native.Nat.{ℕ, _+_, _≤_}
 use mathlib.Core.Path.{_≡_, refl, sym, ap, subst, _∙_}
 use mathlib.Core.List.{List}
@@ -6,7 +7,6 @@ use mathlib.Core.Option.{some}
 use native.Mathlib.Omega.{arith}
 use lib.ListN.{length, take, drop, length-take}
 use borrow.Author.Tests.{eq-eqb, ne-eqb}
-use Rattle.wire.specs.Wire.{choose}
 use Rattle.realtime.specs.Tree.{aNumber, aText, aMessage, Schema}
 use Rattle.realtime.specs.Schema.{rows, feed, stopTimeUpdate, stopTimeEvent}
 use Rattle.realtime.specs.Steps.{Lies, Stepped}
@@ -24,17 +24,17 @@ use Rattle.merged.proofs.Reader as reader
 -- of a field alone
 module _ {D B : Type 0} {L : Lens D B} (o : Single B) {σ : Schema} {t : ℕ} {s : List ℕ} {from : ℕ} {d₀ : D} {at : ℕ} {d : D} (R : Reading L (taking o) σ t s from d₀ at d) where
   pub mine-number : {f m n : ℕ} {r : D} → Stepped σ t s at (Step.Number f m n) → f ≡ o .field → L .look s r ≡ o .number m → L .In n r → Reading L (taking o) σ t s from d₀ n r
-  mine-number {f} {m} S e q w = on-number R S (q ∙ ap (λ b. choose b (o .number m) (L .look s d)) (sym (eq-eqb f (o .field) e))) (λ W. w)
+  mine-number {f} {m} S e q w = on-number R S (q ∙ ap (λ b. cond b (o .number m) (L .look s d)) (sym (eq-eqb f (o .field) e))) (λ W. w)
 
   pub other-number : {f m n : ℕ} → Stepped σ t s at (Step.Number f m n) → (f ≡ o .field → ⊥) → Reading L (taking o) σ t s from d₀ n d
-  other-number {f} {m} S e = on-number R S (ap (λ b. choose b (o .number m) (L .look s d)) (sym (ne-eqb f (o .field) e))) (λ W. W)
+  other-number {f} {m} S e = on-number R S (ap (λ b. cond b (o .number m) (L .look s d)) (sym (ne-eqb f (o .field) e))) (λ W. W)
 
   pub mine-text : {f i l n : ℕ} {r : D} → Stepped σ t s at (Step.Text f i l n) → f ≡ o .field → L .look s r ≡ o .text (take l (drop i s)) → (i + l ≤ n → L .In n r)
       → Reading L (taking o) σ t s from d₀ n r
-  mine-text {f} {i} {l} S e q w = on-text R S (q ∙ ap (λ b. choose b (o .text (take l (drop i s))) (L .look s d)) (sym (eq-eqb f (o .field) e))) (λ p W. w p)
+  mine-text {f} {i} {l} S e q w = on-text R S (q ∙ ap (λ b. cond b (o .text (take l (drop i s))) (L .look s d)) (sym (eq-eqb f (o .field) e))) (λ p W. w p)
 
   pub other-text : {f i l n : ℕ} → Stepped σ t s at (Step.Text f i l n) → (f ≡ o .field → ⊥) → Reading L (taking o) σ t s from d₀ n d
-  other-text {f} {i} {l} S e = on-text R S (ap (λ b. choose b (o .text (take l (drop i s))) (L .look s d)) (sym (ne-eqb f (o .field) e))) (λ p W. W)
+  other-text {f} {i} {l} S e = on-text R S (ap (λ b. cond b (o .text (take l (drop i s))) (L .look s d)) (sym (ne-eqb f (o .field) e))) (λ p W. W)
 
   pub no-message : {f u i l n : ℕ} → Stepped σ t s at (Step.Message f u i l n) → Reading L (taking o) σ t s from d₀ n d
   no-message S = past-message R S (λ m. refl)

@@ -2,13 +2,13 @@
 use Prim.Native.Nat.{ℕ, _+_, _≤_}
 use mathlib.Core.Path.{_≡_, refl, sym, ap, subst, _∙_}
 use mathlib.Core.List.{List, [], _∷_}
-use mathlib.Core.Bool.{Bool, true, false}
+use mathlib.Core.Bool.{Bool, true, false, cond}
 use mathlib.Core.Option.{Option, none, some}
 use native.Mathlib.Omega.{arith}
 use lib.Dec.{eqb}
 use lib.ListN.{length, take, drop, length-take}
 use lib.Seq.{take-length}
-use Rattle.wire.specs.Wire.{choose, mapO}
+use Rattle.wire.specs.Wire.{mapO}
 use Rattle.realtime.specs.Tree.{aNumber, Schema, Tree, Leaf, count, words, last, sub, tree}
 use Rattle.realtime.specs.Schema.{rows, feed, feedMessage, feedEntity, stopTimeUpdate}
 use Rattle.merged.specs.Fold.{Takes, folded, inside, inside-sub}
@@ -124,11 +124,11 @@ value-given : (o : Option ℕ) → eqb (enum (orZero o)) 1 ≡ given (λ n. eqb 
 value-given none = refl
 value-given (some n) = refl
 
-delay-view : (b : Bool) (n : ℕ) → viewDelay (choose b (Delay.Given (int32 n)) Delay.Absent) ≡ mapO int32 (choose b (some n) none)
+delay-view : (b : Bool) (n : ℕ) → viewDelay (cond b (Delay.Given (int32 n)) Delay.Absent) ≡ mapO int32 (cond b (some n) none)
 delay-view true n = refl
 delay-view false n = refl
 
-time-view : (b : Bool) (n : ℕ) → viewTime (choose b (Time.Given (int64 n)) Time.Absent) ≡ mapO int64 (choose b (some n) none)
+time-view : (b : Bool) (n : ℕ) → viewTime (cond b (Time.Given (int64 n)) Time.Absent) ≡ mapO int64 (cond b (some n) none)
 time-view true n = refl
 time-view false n = refl
 

@@ -2,13 +2,13 @@
 use Prim.Native.Nat.{ℕ, _+_, _-_, _≤_}
 use mathlib.Core.Path.{_≡_, refl, sym, ap, _∙_}
 use mathlib.Core.List.{List, _∷_}
-use mathlib.Core.Bool.{Bool, true, false}
+use mathlib.Core.Bool.{Bool, true, false, cond}
 use mathlib.Core.Option.{Option, none, some}
 use native.Mathlib.Omega.{arith}
 use lib.Dec.{eqb}
 use lib.ListN.{length, take, drop, length-take}
 use borrow.Author.Tests.{eq-eqb, ne-eqb, eqb-true, eqb-false}
-use Rattle.wire.specs.Wire.{choose, mapO}
+use Rattle.wire.specs.Wire.{mapO}
 use Rattle.wire.specs.Fields.{none-some}
 use Rattle.realtime.specs.Tree.{aMessage, Schema, Tree, end, num, txt, msg, bindO, tree, join, sub, rep}
 use Rattle.realtime.specs.Steps.{Goes, Stepped, step-is}
@@ -44,7 +44,7 @@ module _ (a k : ℕ) where
   in-other l f u none i o h e = none-some e
   in-other l f u (some m) none o h e = none-some e
   in-other l f u (some m) (some n) none h e = none-some e
-  in-other l f u (some m) (some n) (some t) h e = sym (ap (λ b. some (choose b (m ∷ rep k (join n (sub a t))) (rep k (join n (sub a t))))) h) ∙ e
+  in-other l f u (some m) (some n) (some t) h e = sym (ap (λ b. some (cond b (m ∷ rep k (join n (sub a t))) (rep k (join n (sub a t))))) h) ∙ e
 
   in-found : (l : List Tree) (f u : ℕ) (p i o : Option Tree) → eqb f k ≡ true → leftOf a k (bindO p (λ m. mapO (msg f u m) i)) o ≡ some l
       → (m : Tree) × (r : List Tree) × (l ≡ m ∷ r) × (p ≡ some m) × (leftOf a k i o ≡ some r)
@@ -53,19 +53,19 @@ module _ (a k : ℕ) where
   in-found l f u (some m) (some n) none h e = none-some e
   in-found l f u (some m) (some n) (some t) h e =
       let r = rep k (join n (sub a t)) in
-      let q : some (m ∷ r) ≡ some l = sym (ap (λ b. some (choose b (m ∷ r) r)) h) ∙ e in
+      let q : some (m ∷ r) ≡ some l = sym (ap (λ b. some (cond b (m ∷ r) r)) h) ∙ e in
       (m, r, (cc), refl, refl)
 
   out-other : (l : List Tree) (f u : ℕ) (p i o : Option Tree) → eqb f a ≡ false → leftOf a k i (bindO p (λ m. mapO (msg f u m) o)) ≡ some l → leftOf a k i o ≡ some l
   out-other l f u p none o h e = none-some e
   out-other l f u none (some n) o h e = none-some e
   out-other l f u (some m) (some n) none h e = none-some e
-  out-other l f u (some m) (some n) (some t) h e = sym (ap (λ b. some (rep k (join n (choose b (join m (sub a t)) (sub a t))))) h) ∙ e
+  out-other l f u (some m) (some n) (some t) h e = sym (ap (λ b. some (rep k (join n (cond b (join m (sub a t)) (sub a t))))) h) ∙ e
 
   out-found : (l : List Tree) (f u : ℕ) (p o : Option Tree) → eqb f a ≡ true → leftOf a k (some end) (bindO p (λ m. mapO (msg f u m) o)) ≡ some l → leftOf a k p o ≡ some l
   out-found l f u none o h e = none-some e
   out-found l f u (some m) none h e = none-some e
-  out-found l f u (some m) (some t) h e = sym (ap (λ b. some (rep k (choose b (join m (sub a t)) (sub a t)))) h) ∙ e
+  out-found l f u (some m) (some t) h e = sym (ap (λ b. some (rep k (cond b (join m (sub a t)) (sub a t)))) h) ∙ e
 
 -- what was met, by the step
 module _ {σ : Schema} {t : ℕ} {s : List ℕ} {at : ℕ} (k : ℕ) where
@@ -74,7 +74,7 @@ module _ {σ : Schema} {t : ℕ} {s : List ℕ} {at : ℕ} (k : ℕ) where
   met-end (Step.Text f i l n) S e = let z : _≡_ {A = ℕ} 0 1 = cc in absurd (omega arith)
   met-end (Step.Message f u i l n) S e = go (eqb f k) e
     where
-      go : (b : Bool) → Met.End ≡ choose b (Met.Sought i l n) (Met.Other n) → Stepped σ t s at Step.End
+      go : (b : Bool) → Met.End ≡ cond b (Met.Sought i l n) (Met.Other n) → Stepped σ t s at Step.End
       go true q = let z : _≡_ {A = ℕ} 0 1 = cc in absurd (omega arith)
       go false q = let z : _≡_ {A = ℕ} 0 1 = cc in absurd (omega arith)
   met-end Step.End S e = S
@@ -85,7 +85,7 @@ module _ {σ : Schema} {t : ℕ} {s : List ℕ} {at : ℕ} (k : ℕ) where
   met-broken (Step.Text f i l n) S e = let z : _≡_ {A = ℕ} 0 1 = cc in absurd (omega arith)
   met-broken (Step.Message f u i l n) S e = go (eqb f k) e
     where
-      go : (b : Bool) → Met.Broken ≡ choose b (Met.Sought i l n) (Met.Other n) → Stepped σ t s at Step.Broken
+      go : (b : Bool) → Met.Broken ≡ cond b (Met.Sought i l n) (Met.Other n) → Stepped σ t s at Step.Broken
       go true q = let z : _≡_ {A = ℕ} 0 1 = cc in absurd (omega arith)
       go false q = let z : _≡_ {A = ℕ} 0 1 = cc in absurd (omega arith)
   met-broken Step.End S e = let z : _≡_ {A = ℕ} 0 1 = cc in absurd (omega arith)
@@ -97,7 +97,7 @@ module _ {σ : Schema} {t : ℕ} {s : List ℕ} {at : ℕ} (k : ℕ) where
   met-sought (Step.Text f i l n) S e = let z : _≡_ {A = ℕ} 0 1 = cc in absurd (omega arith)
   met-sought {i′} {l′} {n′} (Step.Message f u i l n) S e = go (eqb f k) refl e
     where
-      go : (b : Bool) → eqb f k ≡ b → Met.Sought i′ l′ n′ ≡ choose b (Met.Sought i l n) (Met.Other n) → (u : ℕ) × Stepped σ t s at (Step.Message k u i′ l′ n′)
+      go : (b : Bool) → eqb f k ≡ b → Met.Sought i′ l′ n′ ≡ cond b (Met.Sought i l n) (Met.Other n) → (u : ℕ) × Stepped σ t s at (Step.Message k u i′ l′ n′)
       go true h q =
           let p₁ : i ≡ i′ = cc in
           let p₂ : l ≡ l′ = cc in
@@ -115,7 +115,7 @@ module _ {σ : Schema} {t : ℕ} {s : List ℕ} {at : ℕ} (k : ℕ) where
   met-other {n′} (Step.Text f i l n) S e x y z = let p : n ≡ n′ = cc in y f i l (step-is S (ap (Step.Text f i l) p))
   met-other {n′} {P} (Step.Message f u i l n) S e x y z = go (eqb f k) refl e
     where
-      go : (b : Bool) → eqb f k ≡ b → Met.Other n′ ≡ choose b (Met.Sought i l n) (Met.Other n) → P
+      go : (b : Bool) → eqb f k ≡ b → Met.Other n′ ≡ cond b (Met.Sought i l n) (Met.Other n) → P
       go true h q = let c : _≡_ {A = ℕ} 0 1 = cc in absurd (omega arith)
       go false h q = let p : n ≡ n′ = cc in z f u i l (step-is S (ap (Step.Message f u i l) p)) (eqb-false f k h)
   met-other Step.End S e x y z = let c : _≡_ {A = ℕ} 0 1 = cc in absurd (omega arith)

@@ -2,11 +2,11 @@
 use Prim.Native.Nat.{ℕ}
 use mathlib.Core.Path.{_≡_, refl, sym, ap, _∙_}
 use mathlib.Core.List.{List}
-use mathlib.Core.Bool.{Bool, true, false}
+use mathlib.Core.Bool.{Bool, true, false, cond}
 use mathlib.Core.Option.{Option, none, some}
 use lib.ListN.{take, drop}
 use lib.Dec.{eqb}
-use Rattle.wire.specs.Wire.{choose, mapO}
+use Rattle.wire.specs.Wire.{mapO}
 use Rattle.wire.specs.Fields.{none-some}
 use Rattle.realtime.specs.Tree.{Schema, Tree, end, num, txt, msg, bindO, tree, join, sub}
 use Rattle.realtime.specs.Steps.{Stepped}
@@ -32,16 +32,16 @@ folded-join φ v (msg f u m t) b = folded-join φ (φ .message v f m) t b
 
 -- of a message, those inside it at field k alone
 abbrev pub inside : {B : Type 0} → ℕ → Takes B → Takes B
-inside k φ = record { number = λ v f n. v; text = λ v f x. v; message = λ v f m. choose (eqb f k) (folded φ v m) v }
+inside k φ = record { number = λ v f n. v; text = λ v f x. v; message = λ v f m. cond (eqb f k) (folded φ v m) v }
 
 -- MERGING: of the messages at field k, one after the other is all of them joined
 pub inside-sub : {B : Type 0} (k : ℕ) (φ : Takes B) (v : B) (t : Tree) → folded (inside k φ) v t ≡ folded φ v (sub k t)
 inside-sub k φ v end = refl
 inside-sub k φ v (num f n t) = inside-sub k φ v t
 inside-sub k φ v (txt f x t) = inside-sub k φ v t
-inside-sub {B} k φ v (msg f u m t) = inside-sub k φ (choose (eqb f k) (folded φ v m) v) t ∙ go (eqb f k)
+inside-sub {B} k φ v (msg f u m t) = inside-sub k φ (cond (eqb f k) (folded φ v m) v) t ∙ go (eqb f k)
   where
-    go : (b : Bool) → folded φ (choose b (folded φ v m) v) (sub k t) ≡ folded φ v (choose b (join m (sub k t)) (sub k t))
+    go : (b : Bool) → folded φ (cond b (folded φ v m) v) (sub k t) ≡ folded φ v (cond b (join m (sub k t)) (sub k t))
     go true = sym (folded-join φ v m (sub k t))
     go false = refl
 

@@ -2,12 +2,11 @@
 use Prim.Native.Nat.{ℕ, _+_, _≤_}
 use mathlib.Core.Path.{_≡_, refl, _∙_}
 use mathlib.Core.List.{List, []}
-use mathlib.Core.Bool.{Bool, true, false}
+use mathlib.Core.Bool.{Bool, true, false, cond}
 use mathlib.Core.Option.{Option, none, some}
 use native.Mathlib.Omega.{arith}
 use lib.Dec.{eqb}
 use lib.ListN.{length, take, drop}
-use Rattle.wire.specs.Wire.{choose}
 use Rattle.realtime.specs.Tree.{aNumber, Tree, end, num, txt, msg, orElse, Leaf, count, words, last}
 use Rattle.realtime.specs.Schema.{feed, stopTimeUpdate, stopTimeEvent}
 use Rattle.merged.specs.Fold.{Takes, folded, inside}
@@ -29,8 +28,8 @@ pub record Single (B : Type 0) : Type 0 where
 
 abbrev pub taking : {B : Type 0} → Single B → Takes B
 taking o = record {
-  number = λ v f n. choose (eqb f (o .field)) (o .number n) v;
-  text = λ v f x. choose (eqb f (o .field)) (o .text x) v;
+  number = λ v f n. cond (eqb f (o .field)) (o .number n) v;
+  text = λ v f x. cond (eqb f (o .field)) (o .text x) v;
   message = λ v f m. v;
 }
 
@@ -41,14 +40,14 @@ leaf o v (some (count n)) = o .number n
 leaf o v (some (words x)) = o .text x
 
 leaf-number : {B : Type 0} (o : Single B) (v : B) (b : Bool) (n : ℕ) (l : Option Leaf)
-    → leaf o (choose b (o .number n) v) l ≡ leaf o v (orElse l (choose b (some (count n)) none))
+    → leaf o (cond b (o .number n) v) l ≡ leaf o v (orElse l (cond b (some (count n)) none))
 leaf-number o v true n none = refl
 leaf-number o v false n none = refl
 leaf-number o v b n (some (count m)) = refl
 leaf-number o v b n (some (words x)) = refl
 
 leaf-text : {B : Type 0} (o : Single B) (v : B) (b : Bool) (y : List ℕ) (l : Option Leaf)
-    → leaf o (choose b (o .text y) v) l ≡ leaf o v (orElse l (choose b (some (words y)) none))
+    → leaf o (cond b (o .text y) v) l ≡ leaf o v (orElse l (cond b (some (words y)) none))
 leaf-text o v true y none = refl
 leaf-text o v false y none = refl
 leaf-text o v b y (some (count m)) = refl
@@ -57,8 +56,8 @@ leaf-text o v b y (some (words x)) = refl
 -- THE LAST WINS: one field after the other is the last of them
 pub taking-last : {B : Type 0} (o : Single B) (v : B) (t : Tree) → folded (taking o) v t ≡ leaf o v (last (o .field) t)
 taking-last o v end = refl
-taking-last o v (num f n t) = taking-last o (choose (eqb f (o .field)) (o .number n) v) t ∙ leaf-number o v (eqb f (o .field)) n (last (o .field) t)
-taking-last o v (txt f x t) = taking-last o (choose (eqb f (o .field)) (o .text x) v) t ∙ leaf-text o v (eqb f (o .field)) x (last (o .field) t)
+taking-last o v (num f n t) = taking-last o (cond (eqb f (o .field)) (o .number n) v) t ∙ leaf-number o v (eqb f (o .field)) n (last (o .field) t)
+taking-last o v (txt f x t) = taking-last o (cond (eqb f (o .field)) (o .text x) v) t ∙ leaf-text o v (eqb f (o .field)) x (last (o .field) t)
 taking-last o v (msg f u m t) = taking-last o v t
 
 -- answers without a position, and the place of a text
@@ -104,7 +103,7 @@ time = numberAt 2
 
 -- a number that may be absent
 abbrev pub valueOf : Number → Option ℕ
-valueOf n = choose (eqb (n .given) 1) (some (n .value)) none
+valueOf n = cond (eqb (n .given) 1) (some (n .value)) none
 
 abbrev pub noNumber : Number
 noNumber = record { given = 0; value = 0 }
@@ -117,10 +116,10 @@ noSpan = record { start = 0; len = 0 }
 
 -- the typed answers
 abbrev pub fromDelay : Number → Delay
-fromDelay n = choose (eqb (n .given) 1) (Delay.Given (int32 (n .value))) Delay.Absent
+fromDelay n = cond (eqb (n .given) 1) (Delay.Given (int32 (n .value))) Delay.Absent
 
 abbrev pub fromTime : Number → Time
-fromTime n = choose (eqb (n .given) 1) (Time.Given (int64 (n .value))) Time.Absent
+fromTime n = cond (eqb (n .given) 1) (Time.Given (int64 (n .value))) Time.Absent
 
 abbrev pub fromEvent : EventNumbers → Event
 fromEvent e = record { delay = fromDelay (e .delay); time = fromTime (e .time) }

@@ -2,12 +2,11 @@
 use Prim.Native.Nat.{ℕ, _+_, _≤_}
 use mathlib.Core.Path.{_≡_, refl, ap, _∙_}
 use mathlib.Core.List.{List, [], _∷_}
-use mathlib.Core.Bool.{Bool, true, false}
+use mathlib.Core.Bool.{Bool, true, false, cond}
 use mathlib.Core.Option.{Option, none, some}
 use native.Mathlib.Omega.{arith}
 use lib.Dec.{eqb}
 use lib.ListN.{length, take, drop}
-use Rattle.wire.specs.Wire.{choose}
 use Rattle.realtime.specs.Tree.{Schema, Tree, end, num, txt, msg, orElse, Leaf, count, words, last, sub, tree}
 use Rattle.realtime.specs.Schema.{feed, feedEntity, tripUpdate}
 use Rattle.merged.specs.Fold.{Takes, folded, inside, inside-sub}
@@ -81,15 +80,15 @@ scalars = record { look = λ s d i. said s (at d i); In = λ n d. (i : Slot) →
 -- the scalar x is kept at its field f
 abbrev pub kept : Scalars → ℕ → Scalar → Scalars
 kept d f x = record {
-  f1 = choose (eqb f 1) x (d .f1);
-  f2 = choose (eqb f 2) x (d .f2);
-  f3 = choose (eqb f 3) x (d .f3);
-  f4 = choose (eqb f 4) x (d .f4);
-  f5 = choose (eqb f 5) x (d .f5);
-  f6 = choose (eqb f 6) x (d .f6);
+  f1 = cond (eqb f 1) x (d .f1);
+  f2 = cond (eqb f 2) x (d .f2);
+  f3 = cond (eqb f 3) x (d .f3);
+  f4 = cond (eqb f 4) x (d .f4);
+  f5 = cond (eqb f 5) x (d .f5);
+  f6 = cond (eqb f 6) x (d .f6);
 }
 
-pub kept-at : (d : Scalars) (f : ℕ) (x : Scalar) (i : Slot) → at (kept d f x) i ≡ choose (eqb f (fieldOf i)) x (at d i)
+pub kept-at : (d : Scalars) (f : ℕ) (x : Scalar) (i : Slot) → at (kept d f x) i ≡ cond (eqb f (fieldOf i)) x (at d i)
 kept-at d f x one = refl
 kept-at d f x two = refl
 kept-at d f x three = refl
@@ -103,8 +102,8 @@ blank = record { f1 = Scalar.Nothing; f2 = Scalar.Nothing; f3 = Scalar.Nothing; 
 -- how the fields of a message are taken, one after the other, and those along a path of messages
 abbrev pub own : Takes Lasts
 own = record {
-  number = λ v f n i. choose (eqb f (fieldOf i)) (some (count n)) (v i);
-  text = λ v f x i. choose (eqb f (fieldOf i)) (some (words x)) (v i);
+  number = λ v f n i. cond (eqb f (fieldOf i)) (some (count n)) (v i);
+  text = λ v f x i. cond (eqb f (fieldOf i)) (some (words x)) (v i);
   message = λ v f m. v;
 }
 
@@ -117,7 +116,7 @@ abbrev pub along : List ℕ → Tree → Tree
 along [] t = t
 along (p ∷ ps) t = along ps (sub p t)
 
-or-later : {A : Type 0} (o : Option A) (b : Bool) (n : A) (p : Option A) → orElse o (choose b (some n) p) ≡ orElse (orElse o (choose b (some n) none)) p
+or-later : {A : Type 0} (o : Option A) (b : Bool) (n : A) (p : Option A) → orElse o (cond b (some n) p) ≡ orElse (orElse o (cond b (some n) none)) p
 or-later none true n p = refl
 or-later none false n p = refl
 or-later (some x) b n p = refl
@@ -129,9 +128,9 @@ or-none (some a) = refl
 own-last : (v : Lasts) (t : Tree) → folded own v t ≡ (λ i. orElse (last (fieldOf i) t) (v i))
 own-last v end = refl
 own-last v (num g n t) =
-    own-last (λ i. choose (eqb g (fieldOf i)) (some (count n)) (v i)) t ∙ λ j i. or-later (last (fieldOf i) t) (eqb g (fieldOf i)) (count n) (v i) j
+    own-last (λ i. cond (eqb g (fieldOf i)) (some (count n)) (v i)) t ∙ λ j i. or-later (last (fieldOf i) t) (eqb g (fieldOf i)) (count n) (v i) j
 own-last v (txt g x t) =
-    own-last (λ i. choose (eqb g (fieldOf i)) (some (words x)) (v i)) t ∙ λ j i. or-later (last (fieldOf i) t) (eqb g (fieldOf i)) (words x) (v i) j
+    own-last (λ i. cond (eqb g (fieldOf i)) (some (words x)) (v i)) t ∙ λ j i. or-later (last (fieldOf i) t) (eqb g (fieldOf i)) (words x) (v i) j
 own-last v (msg g k m t) = own-last v t
 
 -- THE LAW OF MERGING: one after the other is the last of the joined

@@ -1,11 +1,12 @@
 -- The messages at a repeated field k, of all the messages at field a merged, one after the other. Assumes nothing.
+use mathlib.Core.Bool.{cond}
 use Prim.Native.Nat.{ℕ, _+_, _-_, _≤_, _<_}
 use mathlib.Core.Path.{_≡_, subst}
 use mathlib.Core.List.{List, [], _∷_}
 use mathlib.Core.Option.{Option, none, some}
 use lib.ListN.{length, take, drop}
 use lib.Dec.{eqb}
-use Rattle.wire.specs.Wire.{choose, mapO}
+use Rattle.wire.specs.Wire.{mapO}
 use Rattle.realtime.specs.Tree.{Kind, aNumber, aText, aMessage, Schema, Tree, bindO, tree, join, sub, rep}
 use Rattle.realtime.specs.Schema.{feed, feedMessage, feedEntity, tripUpdate, stopTimeUpdate}
 use Rattle.realtime.specs.declared.Step.{Step}
@@ -31,7 +32,7 @@ pub record Sound (s : List ℕ) (outer end at : ℕ) : Type 0 where
 abbrev pub met : ℕ → Step → Met
 met k (Step.Number f v n) = Met.Other n
 met k (Step.Text f i l n) = Met.Other n
-met k (Step.Message f u i l n) = choose (eqb f k) (Met.Sought i l n) (Met.Other n)
+met k (Step.Message f u i l n) = cond (eqb f k) (Met.Sought i l n) (Met.Other n)
 met k Step.End = Met.End
 met k Step.Broken = Met.Broken
 

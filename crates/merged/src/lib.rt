@@ -11,7 +11,7 @@ ghost use mathlib.Core.List.{[], _∷_};
 ghost use Prim.Native.Nat.{_+_, _≤_};
 ghost use lib.Dec.{eqb};
 ghost use lib.ListN.{length};
-ghost use Rattle.wire.specs.Wire.{choose};
+ghost use mathlib.Core.Bool.{cond};
 ghost use Rattle.realtime.specs.Schema.{feed};
 ghost use Rattle.merged.specs.Reading.{Ready, Reads};
 ghost use Rattle.merged.specs.Scalars.{TripReads, TripReady, UpdateReads, blank, kept, own, scalars, takesAlong};
@@ -60,7 +60,7 @@ fn nothing() -> Scalars
 }
 
 fn pick(field: u64, own: u64, x: Scalar, old: Scalar) -> Scalar
-    ensures { λ r. ⌜ r ≡ choose (eqb field own) x old ⌝ }
+    ensures { λ r. ⌜ r ≡ cond (eqb field own) x old ⌝ }
 {
     if field == own {
         return x;

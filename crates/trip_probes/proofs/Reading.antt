@@ -1,13 +1,12 @@
 -- What is read of a message that is not broken. Assumes nothing.
 use Prim.Native.Nat.{ℕ}
 use mathlib.Core.Path.{_≡_, refl, ap, _∙_}
-use mathlib.Core.Bool.{Bool, true, false, _&&_}
+use mathlib.Core.Bool.{Bool, true, false, cond, _&&_}
 use mathlib.Core.List.{List}
 use mathlib.Core.Option.{Option, none, some}
 use lib.ListN.{length, take}
 use native.Mathlib.Omega.{arith}
 use lib.Seq.{take-length}
-use Rattle.wire.specs.Wire.{choose}
 use Rattle.realtime.specs.Tree.{Tree, tree}
 use Rattle.realtime.specs.Schema.{feed}
 use Rattle.realtime.specs.Judge.{Rules, asked, textsFine, numbersFine}
@@ -23,7 +22,7 @@ unbroken Verdict.Text = true
 unbroken Verdict.Time = true
 unbroken Verdict.Fine = true
 
-chosen : (b c : Bool) → unbroken (choose b (choose c Verdict.Fine Verdict.Time) Verdict.Text) ≡ true
+chosen : (b c : Bool) → unbroken (cond b (cond c Verdict.Fine Verdict.Time) Verdict.Text) ≡ true
 chosen true true = refl
 chosen true false = refl
 chosen false c = refl
