@@ -21,11 +21,10 @@ use Rattle.decode.specs.Record.{maybe}
 use Rattle.decode.specs.Keyed.{Short, Keyed}
 
 pub added-text : (out : List ℕ) (at : ℕ) (x out′ : List ℕ) → at + length x ≤ length out → out′ ≡ pasted out at x → Added out at x out′ (at + length x)
-added-text out at x out′ h e =
-    record { fits = h; next = refl; bytes = e ∙ rw append-assoc }
+added-text out at x out′ h e = record { fits = h; next = refl; bytes = e }
 
 pub added-byte : (out : List ℕ) (at b : ℕ) → at < length out → Added out at (b ∷ []) (set out at b) (at + 1)
-added-byte out at b h = record { fits = omega arith; next = refl; bytes = set-split out at b h ∙ rw add-one }
+added-byte out at b h = record { fits = omega arith; next = refl; bytes = set-split out at b h ∙ rw (add-one, append-assoc) }
 
 pub decimal-short : (k n : ℕ) → length (decimalOf k n) ≤ k
 decimal-short zero n = omega arith
