@@ -1,6 +1,6 @@
 -- The civil (Gregorian) calendar: the date of a day that is counted from 1 January 1970. Assumes nothing: these are definitions.
 use Prim.Native.Nat.{ℕ, zero, suc, _+_, _-_, _*_, _/_, _%_}
-use mathlib.Core.Bool.{Bool, true, false, cond}
+use mathlib.Core.Bool.{cond}
 use mathlib.Core.List.{List, [], _∷_}
 use lib.Dec.{ltb, eqb}
 use Rattle.calendar.specs.declared.YearDay.{YearDay}

@@ -3,7 +3,7 @@ use mathlib.Core.Path.{_≡_, refl}
 use mathlib.Core.List.{List, [], _∷_}
 use mathlib.Core.Option.{Option, none, some}
 use Prim.Native.Nat.{ℕ, _-_, _^_}
-use lib.IntN.{ℤ, negsuc}
+use lib.IntN.{negsuc}
 use Rattle.formats.specs.Format.{Format, empty, number, signed, list, Value, read}
 use Rattle.formats.specs.Number.{zag}
 

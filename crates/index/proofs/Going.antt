@@ -2,11 +2,11 @@
 use Prim.Native.Nat.{ℕ, _+_, _-_, _≤_, _<_}
 use mathlib.Core.Path.{_≡_, refl, sym, ap, subst, _∙_}
 use mathlib.Core.Bool.{Bool, true, false, cond, false≢true}
-use mathlib.Core.List.{List, [], _∷_, _++_}
+use mathlib.Core.List.{List, [], _∷_}
 use mathlib.Core.Option.{Option, none, some}
 use native.Mathlib.Omega.{arith}
-use lib.Dec.{ltb, leb}
-use lib.ListN.{length, take, drop, length-drop}
+use lib.Dec.{leb}
+use lib.ListN.{length, take, drop}
 use borrow.Author.Tests.{lt-ltb, leb-true}
 use Rattle.formats.specs.Law.{All}
 use Rattle.wire.specs.Wire.{mapO}
@@ -17,11 +17,11 @@ use Rattle.realtime.specs.declared.Verdict.{Verdict}
 use Rattle.merged.specs.Typed.{text}
 use Rattle.merged.specs.Views.{trip, deleted}
 use Rattle.merged.specs.Walks as walks
-use Rattle.merged.specs.Walks.{leftEntities, ahead, Yield, Found, NextEntity, found, yielded}
+use Rattle.merged.specs.Walks.{leftEntities, Yield, NextEntity, found, yielded}
 use Rattle.merged.specs.Starts.{atPlain, entities-left, plain-sound}
 use Rattle.merged.specs.declared.Walk.{Walk}
 use Rattle.merged.specs.declared.Item.{Item}
-use Rattle.decode.specs.Map.{put, puts, mapValues}
+use Rattle.decode.specs.Map.{puts, mapValues}
 use Rattle.decode.specs.Order.{texts}
 use Rattle.decode.specs.Laws.{both-true, map-puts, map-length, puts-append, puts-longer, puts-all}
 use Rattle.decode.specs.Trip as held
@@ -32,7 +32,7 @@ use Rattle.slots.specs.Index.{Place, index, Sound}
 use Rattle.filing.specs.Entity as entity
 use Rattle.filing.specs.Entity.{placed, Applies}
 use Rattle.decode.specs.Fine.{Fine, Given, LeafFine, fine-sub, fine-rep, fine-last, tree-fine}
-use Rattle.slots.specs.Places.{orEnd, bytesAt, recordAt, heldAt, held, isNew, beyond, Readable}
+use Rattle.slots.specs.Places.{orEnd, bytesAt, recordAt, heldAt, held, beyond}
 use Rattle.index.specs.Message.{Judged, messageOf, Fit, AllFit, withEntities, Indexed}
 
 -- ---- a judged message

@@ -10,9 +10,8 @@ use borrow.Author.Tests.{lt-ltb, le-ltb}
 use Rattle.formats.specs.Law.{All}
 use Rattle.formats.specs.Format.{list}
 use Rattle.places.specs.Here.{Here}
-use Rattle.realtime.specs.Tree.{rep}
 use Rattle.realtime.specs.Schema.{feed}
-use Rattle.merged.specs.Views.{header, HeaderRead}
+use Rattle.merged.specs.Views.{HeaderRead}
 use Rattle.merged.specs.declared.Header.{Header}
 use Rattle.decode.specs.Trip.{tripEntry}
 use Rattle.decode.specs.Map.{puts}
@@ -20,15 +19,15 @@ use Rattle.decode.specs.Order.{texts}
 use Rattle.decode.specs.Laws.{puts-all}
 use Rattle.slots.specs.Index.{Place, placeAt, slotted, index, Sound}
 use Rattle.slots.specs.Slots.{index-length}
-use Rattle.decode.specs.Leaves.{Trips, entries, differential, leaves}
-use Rattle.slots.specs.Places.{oldAt, heldAt, held, isNew, crowded, anyCrowded, Readable}
+use Rattle.decode.specs.Leaves.{Trips, differential, leaves}
+use Rattle.slots.specs.Places.{oldAt, heldAt, held, isNew, crowded, anyCrowded}
 use Rattle.updates.specs.Updates.{ReadableSlot, crowdedIn}
 use Rattle.updates.specs.Laws.{crowded-held}
 use Rattle.old_trips.specs.Old.{Joined}
-use Rattle.index.specs.Message.{Judged, messageOf, Fit, AllFit, withEntities, Indexed}
-use Rattle.index.specs.Leaving.{leaving, manyTrips, manyUpdates, trips, viewLeft, Old, Begun, Leaves}
+use Rattle.index.specs.Message.{Judged, messageOf, AllFit, withEntities, Indexed}
+use Rattle.index.specs.Leaving.{trips, Old, Begun, Leaves}
 use Rattle.index.specs.declared.Left.{Left}
-use Rattle.index.proofs.Going.{Whole, whole, message-is, held-length}
+use Rattle.index.proofs.Going.{whole, message-is, held-length}
 
 -- ---- the index before the entities
 

@@ -12,10 +12,10 @@ use Rattle.formats.specs.Class.{printable, token, all, allowed}
 use Rattle.formats.specs.Format.{small, text, list, optional, constant, _&_, Fits, write}
 use Rattle.slices.specs.Lists.{lexOf}
 use Rattle.slices.specs.declared.Order.the-variants.{Less}
-use Rattle.decode.specs.Trip.{tripEntry, Trip, StopUpdate, dateOf, id, delay, number32, stopUpdate, trip}
+use Rattle.decode.specs.Trip.{tripEntry, Trip, StopUpdate, id, delay, number32, stopUpdate, trip}
 use Rattle.decode.specs.Map.{ascending}
-use Rattle.decode.specs.Order.{texts, numbers, cons-before, lex-itself}
-use Rattle.decode.specs.Key.{shown, tailOf, incompleteKey, rawOk, datedOk, keyOk}
+use Rattle.decode.specs.Order.{texts, numbers, cons-before}
+use Rattle.decode.specs.Key.{shown, tailOf, incompleteKey}
 use Rattle.decode.specs.Leaves as leaves
 use Rattle.alerts.specs.Alert.{alert}
 use Rattle.overlay.specs.Entries.{or-right, incomplete-ok}
