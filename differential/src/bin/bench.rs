@@ -8,9 +8,13 @@ use differential::rt::overlay::FeedRtState;
 use differential::samples::NOON;
 use differential::wire::{delimited, group, groups, varint};
 use std::hint::black_box;
+use std::thread;
 use std::time::Instant;
 
 const MIB: usize = 1 << 20;
+
+/// What a call needs of the stack goes by the depth of the listed messages and of groups, not by the message.
+const STACK: usize = 64 << 10;
 
 /// No old trips.
 const NONE: &[u8] = &[0];
@@ -88,6 +92,7 @@ fn largest() -> Vec<(&'static str, Vec<u8>)> {
         (0..2048).rev().flat_map(|key| entity(&[trip_update(&[named(&format!("{key:04}"))])])).collect();
     let descending: Vec<u8> =
         (1..=128).rev().flat_map(|turn| stop_time_update(&[stop_sequence(turn)])).collect();
+    let events = stop_time_update(&[arrival(&[delay(1)]), departure(&[delay(1)])]);
     let deep = (0..16).fold(filled(&varint(15, 1)), |inner, _| group(15, &inner));
     vec![
         ("empty entities", filled(&entity(&[]))),
@@ -96,6 +101,7 @@ fn largest() -> Vec<(&'static str, Vec<u8>)> {
         ("an entity of empty trip_updates", entity(&[filled(&trip_update(&[]))])),
         ("a record of empty updates", record(filled(&stop_time_update(&[])))),
         ("a record of updates, 128 to 1 over and over", record(filled(&descending))),
+        ("a record of updates with two events each", record(filled(&events))),
         ("a record of one text", record(trip(&[trip_id(&"a".repeat(MIB - 32))]))),
         ("texts of 64 bytes", record(filled(&trip(&[trip_id(&"a".repeat(64))])))),
         ("headers", filled(&header(&[timestamp(NOON)]))),
@@ -106,17 +112,24 @@ fn largest() -> Vec<(&'static str, Vec<u8>)> {
     ]
 }
 
-fn main() {
-    let mut index = Index::default();
-    against_the_original(&mut index);
-    println!("messages of 1 MiB, by the port:");
-    let mut slow = false;
+/// Whether each takes less than a second.
+fn largest_in_time(index: &mut Index) -> bool {
+    println!("messages of 1 MiB, by the port, on a stack of {} KiB:", STACK >> 10);
+    let mut in_time = true;
     for (name, message) in largest() {
         assert!((MIB - MIB / 16..=MIB).contains(&message.len()));
         let answer = index.leave(b"IDFM", &message, NONE);
-        let [judged, whole] = best(5, || port(&mut index, &message));
+        let [judged, whole] = best(5, || port(index, &message));
         println!("  {name}: {whole:.1} ms, of which the judgement alone {judged:.1} ms ({answer:?})");
-        slow |= whole > 1e3;
+        in_time &= whole <= 1e3;
     }
-    std::process::exit(i32::from(slow));
+    in_time
+}
+
+fn main() {
+    let mut index = Index::default();
+    against_the_original(&mut index);
+    let small = thread::Builder::new().stack_size(STACK);
+    let in_time = small.spawn(move || largest_in_time(&mut index)).expect("a thread").join();
+    std::process::exit(i32::from(!in_time.expect("no fault")));
 }
