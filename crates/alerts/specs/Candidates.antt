@@ -161,7 +161,7 @@ module _ (l : List Alert) (trip route from to : List ℕ) where
       let byTrip : Alert → Bool = λ a. any (λ t. meets (legTrips trip) (t ∷ undated t ∷ [])) (informed-trip-ids a) in
       let byRoute : Alert → Bool = λ a. any (λ r. meets (legRoutes route) (idKeys r)) (informed-route-ids a) in
       let byStop : Alert → Bool = λ a. any (λ s. meets (legStops from to) (idKeys s)) (informed-stop-ids a) in
-      let each : member j trips || member j routes || member j stops ≡ member j (search l trip route from to) =
+      let each : member j trips || member j routes || member j stops ≡ member j (numbers (λ a. byTrip a || byRoute a || byStop a) 0 l) =
       rw (
         member-lookup j (legTrips trip) tripKeys informed-trip-ids l,
         member-lookup j (legRoutes route) idKeys informed-route-ids l,
