@@ -40,7 +40,9 @@ zeros-all (b ∷ s) e = let h = both-true (eqb 0 b) (all (eqb 0) s) e in let z :
 -- the state of its image
 pub image-state : (n : ℕ) (s : State) → Fits overlay s → valid s ≡ true → stateOf (image n s) ≡ some s
 unfolding stateOf image filled
-image-state n s f h = rw (read-write overlay s (replicate (n - length (write overlay s)) 0) f, all-zeros (n - length (write overlay s)), h) refl
+image-state n s f h =
+    let k = n - length (write overlay s) in
+    ap accepted (read-write overlay s (replicate k 0) f) ∙ (λ i. cond (all-zeros k i && h i) (some s) none)
 
 -- what an accepted buffer holds
 accepted-some : (o : Option (State × List ℕ)) (s : State) → accepted o ≡ some s
