@@ -94,6 +94,7 @@ module _ {name s o keys₀ marks₀ order₀ keys marks order : List ℕ} {at n 
   pub leaves-many : 2048 < m → Leaves name s o at keys marks order Left.ManyTrips
   leaves-many g = record {
     sound = λ i e. absurd (let z : _≡_ {A = ℕ} 0 1 = cc in omega arith);
+    fit = λ i e. absurd (let z : _≡_ {A = ℕ} 0 1 = cc in omega arith);
     of = λ v q k. sym (rw (lt-ltb 2048 (length (leaves name (messageOf s) (puts texts v []))) (rw (← left-is v q k) (I .many g o))) refl);
   }
 
@@ -117,11 +118,13 @@ module _ {name s o keys₀ marks₀ order₀ keys marks order : List ℕ} {at n 
       pub leaves-crowded : c ≡ true → Leaves name s o at keys marks order Left.ManyUpdates
       leaves-crowded t = record {
         sound = λ i e. absurd (let z : _≡_ {A = ℕ} 0 1 = cc in omega arith);
+        fit = λ i e. absurd (let z : _≡_ {A = ℕ} 0 1 = cc in omega arith);
         of = λ v q k. sym (rw (short v q k, crowds v q k, t) refl);
       }
 
       pub leaves-trips : c ≡ false → Leaves name s o at keys marks order (Left.Trips m)
       leaves-trips t = record {
         sound = λ i e. let z : m ≡ i = cc in rw z at (I .sound);
+        fit = λ i e. let z : m ≡ i = cc in rw z at fits;
         of = λ v q k. ap trips (held-is v q k) ∙ sym (rw (short v q k, crowds v q k, t) refl);
       }

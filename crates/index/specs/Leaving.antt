@@ -15,7 +15,7 @@ use Rattle.slots.specs.Index.{index, Sound}
 use Rattle.decode.specs.Leaves.{Trips, leaves}
 use Rattle.slots.specs.Places.{held, isNew, crowded, anyCrowded}
 use Rattle.old_trips.specs.Old.{Stands}
-use Rattle.index.specs.Message.{messageOf}
+use Rattle.index.specs.Message.{messageOf, AllFit}
 use Rattle.index.specs.declared.Left.{Left}
 
 -- the trips; or more than 2,048 of them; or one of them with more than 128 updates
@@ -45,7 +45,9 @@ pub record Begun (o : List ℕ) (at : ℕ) (differential : Bool) (keys marks ord
   pub aged : All (λ e. isNew (e .1) ≡ false) (index keys marks order r)
   pub of : (v : Trips) (q : ℕ) → Here (list 2048 tripEntry) o at q v → (s : List ℕ) → held s o (index keys marks order r) ≡ cond differential (puts texts v []) []
 
--- THE INDEX IS WHAT THE MESSAGE LEAVES, in order. The old trips of a state ascend, and then `puts texts v []` is v (`puts-itself`)
+-- THE INDEX IS WHAT THE MESSAGE LEAVES, in order, and every place of it can be read. The old trips of a state ascend, and then `puts texts v []` is v
+-- (`puts-itself`)
 pub record Leaves (feed s o : List ℕ) (at : ℕ) (keys marks order : List ℕ) (r : Left) : Type 0 where
   pub sound : (n : ℕ) → r ≡ Left.Trips n → Sound keys marks order n
+  pub fit : (n : ℕ) → r ≡ Left.Trips n → AllFit s o (index keys marks order n)
   pub of : (v : Trips) (q : ℕ) → Here (list 2048 tripEntry) o at q v → viewLeft (λ n. held s o (index keys marks order n)) r ≡ leaving (leaves feed (messageOf s) (puts texts v []))
