@@ -1,4 +1,4 @@
-/* Runs and measures `slices` and `wire` through the calls of crates/probes. A slice is two arguments: where it starts and how long
+/* Runs and measures `slices` and `wire` through the calls of crates/wire_probes. A slice is two arguments: where it starts and how long
    it is. */
 #include <stdbool.h>
 #include <stdint.h>

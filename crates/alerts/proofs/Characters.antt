@@ -10,7 +10,7 @@ use lib.ListN.{length, getD, take, drop, drop-of-length-le}
 use lib.Seq.{drop-cons, take-suc}
 use borrow.Author.Tests.{le-leb, lt-leb}
 use Rattle.alerts.specs.Label.{continues, characters, Ends}
-use Rattle.alerts.specs.LabelLaws.{on-byte}
+use Rattle.alerts.specs.laws.Label.{on-byte}
 
 pub continues-low : (b : ℕ) → b < 128 → false ≡ continues b
 continues-low b h = rw (lt-leb 128 b h) refl

@@ -1,4 +1,4 @@
--- An alert and an alert sheet (document 01, "Cards and sheets"), as formats and by their parts.
+-- Believe: 01, Cards and sheets. An alert and an alert sheet, as formats and by their parts.
 use mathlib.Core.List.{List, []}
 use mathlib.Core.Logic.{_⊎_, inl, inr}
 use mathlib.Core.Bool.{Bool, true, false}

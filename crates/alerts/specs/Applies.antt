@@ -1,5 +1,6 @@
--- Whether an alert applies to a leg: `alert_applies_to_leg_with_mode` and all that it calls, under the names of the Rust. A text that is
--- lent in parts is joined here; `&blob[start..end]` is those bytes, also where a character is cut.
+-- Believe: 01, Times and status. Whether an alert applies to a leg: `alert_applies_to_leg_with_mode` and all that it
+-- calls, under the names of the Rust. A text that is lent in parts is joined here; `&blob[start..end]` is those
+-- bytes, also where a character is cut.
 use mathlib.Core.List.{List, [], _∷_, _++_}
 use mathlib.Core.Option.{Option, none, some}
 use mathlib.Core.Bool.{Bool, true, false, cond, not, _&&_, _||_}

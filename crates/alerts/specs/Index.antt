@@ -1,5 +1,5 @@
--- A leg's candidate alerts: by the index that `rebuild_alert_index` builds, as `alert_candidates_for_leg` looks it up, and by a search
--- of the alerts' ids that needs no index.
+-- Believe: 01, Overlay, and Times and status. A leg's candidate alerts: by the index that `rebuild_alert_index`
+-- builds, as `alert_candidates_for_leg` looks it up, and by a search of the alerts' ids that needs no index.
 use mathlib.Core.List.{List, [], _∷_, _++_}
 use mathlib.Core.Option.{Option, none, some}
 use mathlib.Core.Bool.{Bool, cond, _||_}

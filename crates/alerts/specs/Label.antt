@@ -1,5 +1,5 @@
--- The label of an alert (document 01, "Rust forms that need another body"): the header itself, or, where there is no header, the
--- description's first 120 characters. An empty text is no label.
+-- Believe: 01, Rust forms that need another body. The label of an alert: the header itself, or, where there is no
+-- header, the description's first 120 characters. An empty text is no label.
 use mathlib.Core.Path.{_≡_}
 use mathlib.Core.List.{List, [], _∷_}
 use mathlib.Core.Bool.{Bool, cond}

@@ -4,11 +4,5 @@ pub mod Alert
 pub mod Index
 pub mod Applies
 pub mod Label
-pub mod Reduced
-pub mod ListLaws
-pub mod TextLaws
-pub mod Candidates
-pub mod Implied
-pub mod ProductCodes
-pub mod Vectors
-pub mod LabelLaws
+pub mod promises
+pub mod laws

@@ -1,4 +1,5 @@
--- Lists and tests: some element passes, a number is there, the elements that pass, what each element gives in order.
+-- Believe: what every layer uses. Lists and tests: some element passes, a number is there, the elements that pass,
+-- what each element gives in order.
 use mathlib.Core.List.{List, [], _∷_, _++_}
 use mathlib.Core.Bool.{Bool, true, false, cond, _||_}
 use Prim.Native.Nat.{ℕ}

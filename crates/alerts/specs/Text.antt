@@ -1,5 +1,5 @@
--- Texts as bytes: what the alert rules ask of a text. A pattern is the first argument. Each definition computes: what a test settles,
--- a `let` leaves unlooked at.
+-- Believe: what every layer uses. Texts as bytes: what the alert rules ask of a text. A pattern is the first
+-- argument. Each definition computes: what a test settles, a `let` leaves unlooked at.
 use mathlib.Core.List.{List, [], _∷_, _++_, map}
 use mathlib.Core.Option.{Option, none, some}
 use mathlib.Core.Bool.{Bool, true, false, cond, _&&_, _||_}

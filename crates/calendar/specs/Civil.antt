@@ -1,4 +1,5 @@
--- The civil (Gregorian) calendar: the date of a day that is counted from 1 January 1970. Assumes nothing: these are definitions.
+-- Believe: what every layer uses. The civil (Gregorian) calendar: the date of a day that is counted from 1 January
+-- 1970.
 use Prim.Native.Nat.{ℕ, zero, suc, _+_, _-_, _*_, _/_, _%_}
 use mathlib.Core.Bool.{cond}
 use mathlib.Core.List.{List, [], _∷_}

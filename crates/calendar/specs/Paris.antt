@@ -1,5 +1,6 @@
--- Document 01, `chrono_tz`: Paris is UTC+1, and UTC+2 from 01:00 UTC on the last Sunday of March until 01:00 UTC on the last Sunday
--- of October. Instants are seconds since 1970-01-01 00:00:00 UTC. Assumes nothing: these are definitions.
+-- Believe: 01, Rust forms that need another body. Document 01, `chrono_tz`: Paris is UTC+1, and UTC+2 from 01:00 UTC
+-- on the last Sunday of March until 01:00 UTC on the last Sunday of October. Instants are seconds since 1970-01-01
+-- 00:00:00 UTC.
 use Prim.Native.Nat.{ℕ, _+_, _-_, _*_, _/_, _%_}
 use mathlib.Core.Bool.{Bool, cond, _&&_}
 use mathlib.Core.List.{List, [], _∷_}

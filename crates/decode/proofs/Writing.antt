@@ -11,14 +11,15 @@ use lib.ListN.{length, take, drop, set, length-append, length-drop}
 use lib.Seq.{set-split, length-take-le}
 use borrow.Author.Tests.{lt-ltb, le-ltb}
 use Rattle.slices.specs.Lists.{pasted}
-use Rattle.merged.specs.Views.{spanIn, SpanInside, viewDirection}
-use Rattle.merged.specs.declared.Trip.{Trip}
-use Rattle.merged.specs.declared.Span.{Span}
+use Rattle.realtime_views.specs.promises.Views.{spanIn, SpanInside, viewDirection}
+use Rattle.realtime_views.specs.declared.Trip.{Trip}
+use Rattle.realtime_views.specs.declared.Span.{Span}
 use Rattle.decode.specs.Trip.{Maybe}
 use Rattle.decode.specs.Key.{empty, decimalOf, shown, prefixed, headOf, tailOf}
-use Rattle.decode.specs.Written.{Added, none, then, written-there, written-before, written-whole}
+use Rattle.decode.specs.laws.Written.{none, then, written-there, written-before, written-whole}
+use Rattle.decode.specs.promises.Written.{Added}
 use Rattle.decode.specs.Record.{maybe}
-use Rattle.decode.specs.Keyed.{Short, Keyed}
+use Rattle.decode.specs.promises.Keyed.{Short, Keyed}
 
 pub added-text : (out : List ℕ) (at : ℕ) (x out′ : List ℕ) → at + length x ≤ length out → out′ ≡ pasted out at x → Added out at x out′ (at + length x)
 added-text out at x out′ h e = record { fits = h; next = refl; bytes = e }

@@ -1,5 +1,5 @@
--- The keys of a trip record, as `insert_trip` and `incomplete_trip_key` make them. Each stands without the feed and ':' in front. Assumes
--- nothing: these are definitions.
+-- Believe: 01, Overlay. The keys of a trip record, as `insert_trip` and `incomplete_trip_key` make them. Each stands
+-- without the feed and ':' in front.
 use Prim.Native.Nat.{ℕ, zero, suc, _+_, _-_, _/_, _%_}
 use mathlib.Core.Bool.{Bool, true, false, cond, _&&_, _||_, not}
 use mathlib.Core.List.{List, [], _∷_, _++_}
@@ -9,7 +9,7 @@ use lib.ListN.{length, take}
 use Rattle.formats.specs.Class.{printable, inClass}
 use Rattle.slices.specs.Lists.{lexOf}
 use Rattle.realtime.specs.Tree.{Tree}
-use Rattle.merged.specs.Views.{trip, deleted}
+use Rattle.realtime_views.specs.Views.{trip, deleted}
 use Rattle.decode.specs.Trip.{Trip, Maybe, dateOf, routeOf, directionOf, timeOf}
 use Rattle.decode.specs.Map.{isSame}
 use Rattle.decode.specs.Record.{tripIn}

@@ -1,11 +1,8 @@
 pub mod Trip
 pub mod Map
 pub mod Order
-pub mod Laws
 pub mod Record
 pub mod Key
-pub mod Written
 pub mod Leaves
-pub mod Fine
-pub mod Keyed
-pub mod Examples
+pub mod promises
+pub mod laws

@@ -1,5 +1,4 @@
--- A map is a list of keys and values, strictly ascending by key. Assumes nothing: these are definitions.
-use mathlib.Core.Path.{_≡_}
+-- Believe: 01, Overlay. A map is a list of keys and values, strictly ascending by key.
 use mathlib.Core.Bool.{Bool, true, false, _&&_}
 use mathlib.Core.List.{List, [], _∷_}
 use mathlib.Core.Option.{Option, none, some}
@@ -10,11 +9,6 @@ use Rattle.slices.specs.declared.Order.the-variants.{Less, Same, More}
 -- keys with an order
 pub record Ordered (K : Type 0) : Type 0 where
   pub compare : K → K → Order
-  pub itself : (a : K) → compare a a ≡ Same
-  pub same : (a b : K) → compare a b ≡ Same → a ≡ b
-  pub less : (a b : K) → compare a b ≡ More → compare b a ≡ Less
-  pub more : (a b : K) → compare a b ≡ Less → compare b a ≡ More
-  pub through : (a b c : K) → compare a b ≡ Less → compare b c ≡ Less → compare a c ≡ Less
 
 abbrev pub isLess : Order → Bool
 isLess Less = true

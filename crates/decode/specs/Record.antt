@@ -1,11 +1,11 @@
--- The trip record of an entity, as `apply_trip_updates` makes it. Assumes nothing: these are definitions.
+-- Believe: 01, Overlay. The trip record of an entity, as `apply_trip_updates` makes it.
 use Prim.Native.Nat.{ℕ}
 use mathlib.Core.Bool.{Bool, cond}
 use mathlib.Core.List.{List, [], map}
 use mathlib.Core.Logic.{inl, inr}
 use mathlib.Core.Option.{Option, none, some}
 use Rattle.realtime.specs.Tree.{Tree, sub, rep}
-use Rattle.merged.specs.Views.{trip, stopUpdate}
+use Rattle.realtime_views.specs.Views.{trip, stopUpdate}
 use Rattle.decode.specs.Trip.{StopUpdate, Trip, Maybe}
 use Rattle.decode.specs.Map.{puts}
 use Rattle.decode.specs.Order.{numbers}

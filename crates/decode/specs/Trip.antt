@@ -1,5 +1,5 @@
--- The record of a trip, as the state holds it: a value of a format. Route and stop ids stand without the feed's prefix, and an empty text is
--- an absent one. Assumes nothing: these are definitions.
+-- Believe: 01, Overlay. The record of a trip, as the state holds it: a value of a format. Route and stop ids stand
+-- without the feed's prefix, and an empty text is an absent one.
 use Prim.Native.Nat.{ℕ}
 use mathlib.Core.List.{List}
 use mathlib.Core.Logic.{_⊎_}

@@ -1,16 +1,16 @@
 // The keys of an entity, written into their slots.
-use merged::Direction;
-use merged::Span;
-use merged::Trip;
+use realtime_views::Direction;
+use realtime_views::Span;
+use realtime_views::Trip;
 ghost use mathlib.Core.Path.{_≡_};
 ghost use Prim.Native.Nat.{_+_, _*_, _≤_, _<_};
 ghost use mathlib.Core.List.{[], _∷_, _++_};
 ghost use lib.ListN.{length, take, drop};
 ghost use Rattle.decode.specs.Key.{decimalOf, datedKey, prefixed, shown, headOf, tailOf};
-ghost use Rattle.merged.specs.Views.{spanIn, SpanInside, viewDirection};
+ghost use Rattle.realtime_views.specs.promises.Views.{spanIn, SpanInside, viewDirection};
 ghost use Rattle.decode.specs.Record.{maybe};
-ghost use Rattle.decode.specs.Written.{Added};
-ghost use Rattle.decode.specs.Keyed.{Room, Short, Keyed};
+ghost use Rattle.decode.specs.promises.Written.{Added};
+ghost use Rattle.decode.specs.promises.Keyed.{Room, Short, Keyed};
 
 // All of x goes in at `at`.
 fn add(out: &mut [u8], at: usize, x: &[u8]) -> usize

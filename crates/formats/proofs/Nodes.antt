@@ -5,7 +5,7 @@ use Prim.Native.Nat.{ℕ, zero, suc, _+_, _-_, _*_, _≤_, _<_}
 use native.Mathlib.Omega.{arith}
 use lib.ListN.{length, getD, List·getD-eq-default}
 use Rattle.formats.specs.Format.{Format, never, list, choice, _&_}
-use Rattle.formats.specs.Outcome.{nodeFormat, formatAt, leafFormat}
+use Rattle.formats.specs.promises.Outcome.{nodeFormat, formatAt, leafFormat}
 
 -- a word past the end
 pub word-end : (t : List ℕ) (i : ℕ) → length t ≤ i → 0 ≡ getD t i 0

@@ -11,9 +11,12 @@ use lib.ListN.{length, drop, getD, length-drop, drop-of-length-le}
 use lib.Seq.{drop-cons}
 use lib.Dec.{eqb}
 use borrow.Author.Tests.{lt-ltb, le-ltb, eq-eqb, ne-eqb}
-use Rattle.formats.specs.Law.{Reader, Law, bind}
-use Rattle.formats.specs.Number.{groupsR, groupsLaw, numberR, top, littleR, littleLaw}
-use Rattle.formats.specs.Outcome.{numbered, suffix}
+use Rattle.formats.specs.Readers.{Reader, bind}
+use Rattle.formats.specs.laws.Law.{Law}
+use Rattle.formats.specs.Number.{groupsR, numberR, top, littleR}
+use Rattle.formats.specs.laws.Number.{groupsLaw, littleLaw}
+use Rattle.formats.specs.laws.Outcome.{suffix}
+use Rattle.formats.specs.promises.Outcome.{numbered}
 use Rattle.formats.specs.declared.Numeral.{Numeral}
 use Rattle.formats.specs.declared.Numeral.the-variants.{Got, Bad}
 

@@ -9,10 +9,13 @@ use native.Mathlib.Omega.{arith}
 use lib.ListN.{length, drop, getD, length-append, length-drop, drop-of-length-le}
 use lib.Dec.{ltb}
 use borrow.Author.Tests.{lt-ltb, le-ltb, ltb-true, ltb-false, le-leb, lt-leb, eq-eqb, ne-eqb}
-use Rattle.formats.specs.Law.{bind, bytesR, constR, manyR}
-use Rattle.formats.specs.Number.{numberR, numberLaw, littleR, littleLaw}
-use Rattle.formats.specs.Format.{Format, choice, Value, write, read, element, law, count-over}
-use Rattle.formats.specs.Outcome.{numbered, skipped, skipTo, skipMany, formatAt, leafFormat, tagAt, broken, at-place}
+use Rattle.formats.specs.Readers.{bind, bytesR, constR, manyR}
+use Rattle.formats.specs.Number.{numberR, littleR}
+use Rattle.formats.specs.laws.Number.{numberLaw, littleLaw}
+use Rattle.formats.specs.Format.{Format, choice, Value, write, read, element}
+use Rattle.formats.specs.laws.Format.{law, count-over}
+use Rattle.formats.specs.laws.Outcome.{broken, at-place}
+use Rattle.formats.specs.promises.Outcome.{numbered, skipped, skipTo, skipMany, formatAt, leafFormat, tagAt}
 use Rattle.formats.specs.declared.Numeral.{Numeral}
 use Rattle.formats.specs.declared.Numeral.the-variants.{Got, Bad}
 use Rattle.formats.specs.declared.Skip.{Skip}

@@ -1,5 +1,5 @@
--- Which texts a class has: judged beside the form.
--- UTF-8 is the Unicode Standard's table 3-7, "Well-Formed UTF-8 Byte Sequences", row by row.
+-- Believe: 01, Cards and sheets. Which texts a class has: judged beside the form. UTF-8 is the Unicode Standard's
+-- table 3-7, "Well-Formed UTF-8 Byte Sequences", row by row.
 use mathlib.Core.List.{List, [], _∷_}
 use mathlib.Core.Option.{Option, none, some}
 use mathlib.Core.Bool.{Bool, true, false, cond, not, _&&_}

@@ -2,9 +2,9 @@
 ghost use mathlib.Core.Path.{_≡_};
 ghost use Prim.Native.Nat.{_+_, _*_, _<_, _≤_};
 ghost use lib.ListN.{length, getD, drop};
-ghost use Rattle.formats.specs.Law.{bytesR, constR};
+ghost use Rattle.formats.specs.Readers.{bytesR, constR};
 ghost use Rattle.formats.specs.Number.{groupsR, numberR, littleR};
-ghost use Rattle.formats.specs.Outcome.{numbered, skipped, skipTo, skipMany, formatAt, leafFormat, tagAt};
+ghost use Rattle.formats.specs.promises.Outcome.{numbered, skipped, skipTo, skipMany, formatAt, leafFormat, tagAt};
 
 // What reading a number finds: the number and the place past it.
 pub enum Numeral {

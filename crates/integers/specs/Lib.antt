@@ -1,1 +1,1 @@
-pub mod Wrapped
+pub mod promises

@@ -1,4 +1,4 @@
--- The journey card's form (document 01, "Cards and sheets"), with the limits of questions 5 to 7 on it. Assumes nothing: these are definitions.
+-- Believe: 01, Cards and sheets. The journey card's form, with the limits of questions 5 to 7 on it.
 use Prim.Native.Nat.{ℕ}
 use mathlib.Core.List.{List}
 use lib.IntN.{ℤ, pos, negsuc}

@@ -1,4 +1,4 @@
--- The finished card (document 01, "Times and status"): `enrich_with_realtime` on what look-up sees of the feeds. Assumes nothing: these are definitions.
+-- Believe: 01, Times and status. The finished card: `enrich_with_realtime` on what look-up sees of the feeds.
 use Prim.Native.Nat.{ℕ}
 use mathlib.Core.Bool.{Bool, true, false, cond, _&&_, _||_, not}
 use mathlib.Core.List.{List, [], _∷_, map}

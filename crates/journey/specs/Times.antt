@@ -1,4 +1,4 @@
--- Times (document 01, "Times and status"): what a trip's record makes of a scheduled event. Assumes nothing: these are definitions.
+-- Believe: 01, Times and status. Times: what a trip's record makes of a scheduled event.
 use Prim.Native.Nat.{ℕ, suc, _-_, _^_, _%_}
 use mathlib.Core.Bool.{Bool, true, false}
 use mathlib.Core.List.{List}
@@ -6,7 +6,7 @@ use mathlib.Core.Logic.{inl, inr}
 use mathlib.Core.Option.{Option, none, some}
 use lib.IntN.{ℤ, pos, negsuc, _+ℤ_, _-ℤ_}
 use lib.Dec.{eqb}
-use Rattle.merged.specs.Typed.{int32}
+use Rattle.realtime_views.specs.Typed.{int32}
 use Rattle.decode.specs.Trip.{Maybe, StopUpdate, Trip, arrivalDelayOf, arrivalTimeOf, departureDelayOf, departureTimeOf, delayOf, cancelledOf}
 use Rattle.overlay.specs.Change.{latest}
 use Rattle.overlay.specs.Lookup.{Found, find-stop-update}

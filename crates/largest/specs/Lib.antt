@@ -1,3 +1,1 @@
-pub mod Table
-pub mod Fills
-pub mod Largest
+pub mod laws

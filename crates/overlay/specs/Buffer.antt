@@ -1,26 +1,13 @@
--- ONE BUFFER for one state, and back; all zeros is none; every valid state fits the published length. Assumes nothing.
-use mathlib.Core.Path.{_≡_, refl, ap, _∙_}
-use mathlib.Core.Bool.{Bool, true, false, cond, _&&_}
-use mathlib.Core.List.{List, [], _∷_, _++_}
-use mathlib.Core.Logic.{_↔_}
-use mathlib.Core.Option.{Option, none, some}
-use Prim.Native.Nat.{ℕ, zero, suc, _-_, _≤_}
-use native.Mathlib.Omega.{arith}
-use lib.Dec.{eqb}
-use lib.ListN.{length, replicate, length-append, length-replicate}
-use borrow.Author.Tests.{eqb-true}
-use Rattle.formats.specs.Law.{none-some}
-use Rattle.formats.specs.Class.{all}
-use Rattle.formats.specs.Format.{Fits, read, write, read-write, write-read}
-use Rattle.judging.specs.Judged.{ok}
-use Rattle.capacity.specs.Capacity.{capacity, capacity-bounds}
-use Rattle.decode.specs.Laws.{both-true}
-use Rattle.overlay.specs.Rules.{Judged, formed-of, keeps}
-use Rattle.decode.specs.Map.{ascending}
-use Rattle.decode.specs.Order.{texts}
-use Rattle.overlay.specs.State.{State, overlay, feedsOf}
-use Rattle.overlay.specs.Valid.{feedValid, within, valid}
-use Rattle.overlay.specs.Image.{filled, image, accepted, stateOf}
+-- Believe: 01, Overlay. The buffer of a state, and the published length.
+use mathlib.Core.Path.{_≡_}
+use mathlib.Core.Bool.{true}
+use mathlib.Core.List.{List}
+use Prim.Native.Nat.{ℕ, _≤_}
+use lib.ListN.{length}
+use Rattle.formats.specs.Format.{Fits, write}
+use Rattle.overlay.specs.State.{State, overlay}
+use Rattle.overlay.specs.Valid.{valid}
+use Rattle.overlay.specs.Image.{image}
 
 -- b is the buffer of n bytes of the state s
 pub record Buffer (n : ℕ) (s : State) (b : List ℕ) : Type 0 where
@@ -29,85 +16,6 @@ pub record Buffer (n : ℕ) (s : State) (b : List ℕ) : Type 0 where
   pub valid : valid s ≡ true
   pub room : length (write overlay s) ≤ n
 
-all-zeros : (n : ℕ) → all (eqb 0) (replicate n 0) ≡ true
-all-zeros zero = refl
-all-zeros (suc n) = all-zeros n
-
-zeros-all : (s : List ℕ) → all (eqb 0) s ≡ true → s ≡ replicate (length s) 0
-zeros-all [] e = refl
-zeros-all (b ∷ s) e = let h = both-true (eqb 0 b) (all (eqb 0) s) e in let z : 0 ≡ b = eqb-true 0 b (h .0) in rw (← z) (ap (λ t. 0 ∷ t) (zeros-all s (h .1)))
-
--- the state of its image
-pub image-state : (n : ℕ) (s : State) → Fits overlay s → valid s ≡ true → stateOf (image n s) ≡ some s
-unfolding stateOf image filled
-image-state n s f h =
-    let k = n - length (write overlay s) in
-    ap accepted (read-write overlay s (replicate k 0) f) ∙ (λ i. cond (all-zeros k i && h i) (some s) none)
-
--- what an accepted buffer holds
-accepted-some : (o : Option (State × List ℕ)) (s : State) → accepted o ≡ some s
-    → (rest : List ℕ) × (o ≡ some (s, rest)) × (all (eqb 0) rest ≡ true) × (valid s ≡ true)
-accepted-some none s e = none-some e
-accepted-some (some p) s e = go (all (eqb 0) (p .1) && valid (p .0)) refl e
-  where
-    go : (t : Bool) → (all (eqb 0) (p .1) && valid (p .0)) ≡ t → cond t (some (p .0)) none ≡ some s
-        → (rest : List ℕ) × (some p ≡ some (s, rest)) × (all (eqb 0) rest ≡ true) × (valid s ≡ true)
-    go true h k =
-        let z : p .0 ≡ s = cc in
-        let q = both-true (all (eqb 0) (p .1)) (valid (p .0)) h in
-        (p .1, ap {B = Option (State × List ℕ)} (λ x. some (x, p .1)) z, q .0, rw z at (q .1))
-    go false h k = none-some k
-
-zeros-filled : (x rest b : List ℕ) → b ≡ x ++ rest → rest ≡ replicate (length rest) 0 → b ≡ filled (length b) x
-unfolding filled
-zeros-filled x rest b e z =
-    let n : length rest ≡ length b - length x = omega (arith, ap length e, length-append x rest) in
-    e ∙ ap (λ r. x ++ r) (z ∙ ap (λ k. replicate k 0) n)
-
-pub state-buffer : (b : List ℕ) (s : State) → stateOf b ≡ some s → Buffer (length b) s b
-unfolding stateOf image
-state-buffer b s e =
-    let (rest, r, z, h) = accepted-some (read overlay b) s e in
-    let (w, f) = write-read overlay b s rest r in
-    record {
-      is = zeros-filled (write overlay s) rest b w (zeros-all rest z);
-      fits = f;
-      valid = h;
-      room = omega (arith, ap length w, length-append (write overlay s) rest);
-    }
-
-filled-length : (n : ℕ) (x : List ℕ) → length x ≤ n → length (filled n x) ≡ n
-unfolding filled
-filled-length n x h = rw (length-append, length-replicate) (omega arith)
-
--- ONE BUFFER: the accepted buffers of n bytes are the images of the valid states that have room there, each of its own
-pub one-buffer : (n : ℕ) (s : State) (b : List ℕ) → Buffer n s b ↔ ((length b ≡ n) × (stateOf b ≡ some s))
-unfolding image
-one-buffer n s b = (
-  λ B. (ap length (B .is) ∙ filled-length n (write overlay s) (B .room), ap stateOf (B .is) ∙ image-state n s (B .fits) (B .valid)),
-  λ h. rw (h .0) at (state-buffer b s (h .1)),
-)
-
-pub no-state : (n : ℕ) → stateOf (replicate n 0) ≡ none
-unfolding stateOf
-no-state zero = refl
-no-state (suc n) = refl
-
--- a valid state is within the rules
-pub valid-rules : (s : State) → Fits overlay s → valid s ≡ true → Judged overlay s × (ok 7 overlay s ≡ true)
-unfolding valid within
-valid-rules s f h =
-    let w = both-true (ok 5 overlay s && (ok 6 overlay s && ok 7 overlay s)) (ascending texts (feedsOf s) && all feedValid (feedsOf s)) h .0 in
-    let a = both-true (ok 5 overlay s) (ok 6 overlay s && ok 7 overlay s) w in
-    let b = both-true (ok 6 overlay s) (ok 7 overlay s) (a .1) in
-    (record { formed = formed-of overlay s f; five = a .0; six = b .0 }, b .1)
-
 -- CAPACITY: the published length is the largest writing, and every valid state fits it
 abbrev pub published : ℕ
 published = 111398044
-
-pub published-capacity : capacity overlay ≡ published
-published-capacity = refl
-
-pub valid-room : (s : State) → Fits overlay s → valid s ≡ true → length (write overlay s) ≤ published
-valid-room s f h = let w = valid-rules s f h in rw published-capacity at (capacity-bounds overlay s f (keeps overlay s (w .0 .five) (w .0 .six) (w .1)))

@@ -1,4 +1,4 @@
--- What a message, an alert sheet and a vehicle sheet make of a state (document 01, "Overlay"). Assumes nothing: these are definitions.
+-- Believe: 01, Overlay. What a message, an alert sheet and a vehicle sheet make of a state.
 use Prim.Native.Nat.{ℕ, _+_, _^_, _%_}
 use mathlib.Core.Bool.{cond}
 use mathlib.Core.List.{List, [], _∷_}

@@ -1,4 +1,4 @@
--- The buffer of a state: its writing, and then zeros. Assumes nothing: these are definitions.
+-- Believe: 01, Overlay. The buffer of a state: its writing, and then zeros.
 use Prim.Native.Nat.{ℕ, _-_}
 use mathlib.Core.Bool.{Bool, cond, _&&_}
 use mathlib.Core.List.{List, _++_}

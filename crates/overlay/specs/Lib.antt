@@ -5,9 +5,5 @@ pub mod Records
 pub mod Lookup
 pub mod Change
 pub mod Report
-pub mod Rules
 pub mod Buffer
-pub mod Keeps
-pub mod Kept
-pub mod Shown
-pub mod Entries
+pub mod laws

@@ -1,5 +1,5 @@
--- Look-up (document 01, "Overlay" and "Times and status"), named as in the Rust: trips by key and by descriptor, stop updates by sequence and by
--- stop id, vehicles of a trip. Of several matches the smallest key's is taken. Assumes nothing: these are definitions.
+-- Believe: 01, Overlay, and Times and status. Look-up, named as in the Rust: trips by key and by descriptor, stop
+-- updates by sequence and by stop id, vehicles of a trip. Of several matches the smallest key's is taken.
 use Prim.Native.Nat.{ℕ}
 use mathlib.Core.Bool.{Bool, true, false, cond, _&&_, _||_, not}
 use mathlib.Core.List.{List, [], _∷_, _++_}

@@ -1,5 +1,5 @@
--- What look-up sees of the feeds: of each, its trip records, its vehicles and its alerts. The history's book is one of these, and a state shows
--- one. Assumes nothing: these are definitions.
+-- Believe: 01, Overlay. What look-up sees of the feeds: of each, its trip records, its vehicles and its alerts. The
+-- history's book is one of these, and a state shows one.
 use Prim.Native.Nat.{ℕ}
 use mathlib.Core.List.{List}
 use mathlib.Core.Option.{Option, Option·map}

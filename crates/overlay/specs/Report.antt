@@ -1,5 +1,6 @@
--- What a report call gives: the version and, for a feed id, `trip_update_count` and the header timestamp. 25 bytes, numbers low byte first:
--- version 8, count 8, whether there is a timestamp 1, the timestamp 8 (its 64 bits). Assumes nothing: these are definitions.
+-- Believe: 01, Overlay. What a report call gives: the version and, for a feed id, `trip_update_count` and the header
+-- timestamp. 25 bytes, numbers low byte first: version 8, count 8, whether there is a timestamp 1, the timestamp 8
+-- (its 64 bits).
 use Prim.Native.Nat.{ℕ, suc, _-_, _^_}
 use mathlib.Core.List.{List, _∷_, _++_}
 use mathlib.Core.Logic.{inl, inr}

@@ -1,6 +1,6 @@
--- The overlay's state (document 01, "Overlay" and the end of "Questions before work") and its layout: a value of one format. Feeds stand
--- ascending by id, trips by the rest of their keys after `feed:`, vehicles by key, alerts as the sheet had them. The alerts' index is a function of
--- the alerts and is not stored. Assumes nothing: these are definitions.
+-- Believe: 01, Overlay, and Questions before work. The overlay's state and its layout: a value of one format. Feeds
+-- stand ascending by id, trips by the rest of their keys after `feed:`, vehicles by key, alerts as the sheet had
+-- them. The alerts' index is a function of the alerts and is not stored.
 use Prim.Native.Nat.{ℕ}
 use mathlib.Core.List.{List, []}
 use mathlib.Core.Logic.{inl}

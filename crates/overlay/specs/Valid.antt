@@ -1,5 +1,5 @@
--- Which states are an overlay's (document 01, the end of "Questions before work"): questions 5 to 7 hold, keys ascend, each trip key is one that
--- `insert_trip` gives for its record, the count is one of the two. Assumes nothing: these are definitions.
+-- Believe: 01, Questions before work. Which states are an overlay's: questions 5 to 7 hold, keys ascend, each trip
+-- key is one that `insert_trip` gives for its record, the count is one of the two.
 use Prim.Native.Nat.{ℕ}
 use mathlib.Core.Bool.{Bool, _&&_, _||_}
 use mathlib.Core.List.{List}
@@ -7,7 +7,7 @@ use lib.Dec.{eqb}
 use lib.ListN.{length}
 use Rattle.formats.specs.Class.{all}
 use Rattle.formats.specs.Format.{Format, Value}
-use Rattle.judging.specs.Judged.{ok}
+use Rattle.formats_judge.specs.Judged.{ok}
 use Rattle.decode.specs.Trip.{Trip, updatesOf}
 use Rattle.decode.specs.Map.{ascending}
 use Rattle.decode.specs.Order.{texts, numbers}

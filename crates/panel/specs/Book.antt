@@ -1,5 +1,5 @@
--- The history's plain book (document 01, "History"): fed each call's arguments except the overlay, and the number that it returned; and what it says of
--- each call's output. Assumes nothing: these are definitions.
+-- Believe: 01, History. The history's plain book: fed each call's arguments except the overlay, and the number that
+-- it returned; and what it says of each call's output.
 use Prim.Native.Nat.{ℕ}
 use mathlib.Core.Path.{_≡_}
 use mathlib.Core.Bool.{cond}

@@ -1,5 +1,5 @@
--- The calls, what each gives, and a list of them run one after the other over the overlay that the last accepted writing call left. Assumes nothing:
--- these are definitions.
+-- Believe: 01, History. The calls, what each gives, and a list of them run one after the other over the overlay that
+-- the last accepted writing call left.
 use Prim.Native.Nat.{ℕ}
 use mathlib.Core.Bool.{Bool, true, false, cond}
 use mathlib.Core.List.{List, [], _∷_, map}

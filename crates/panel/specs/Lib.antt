@@ -3,9 +3,5 @@ pub mod Questions
 pub mod Calls
 pub mod Book
 pub mod Gained
-pub mod Accepts
-pub mod Asked
-pub mod Seven
-pub mod History
 pub mod Rides
-pub mod Again
+pub mod laws

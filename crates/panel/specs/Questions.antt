@@ -1,5 +1,5 @@
--- What each call gives: the questions of document 01 ("Questions before work") in their order, each put to the whole input, and what an accepted
--- call writes. Assumes nothing: these are definitions.
+-- Believe: 01, Questions before work. What each call gives: the questions of document 01 ("Questions before work")
+-- in their order, each put to the whole input, and what an accepted call writes.
 use Prim.Native.Nat.{ℕ}
 use mathlib.Core.Bool.{Bool, cond, _&&_}
 use mathlib.Core.List.{List, [], _∷_}
@@ -9,7 +9,7 @@ use lib.Dec.{eqb, leb}
 use lib.ListN.{length}
 use Rattle.formats.specs.Class.{token}
 use Rattle.formats.specs.Format.{Format, text, Value, read, write}
-use Rattle.judging.specs.Judged.{ok}
+use Rattle.formats_judge.specs.Judged.{ok}
 use Rattle.realtime.specs.Tree.{Tree, tree}
 use Rattle.realtime.specs.Schema.{feedMessage, feed}
 use Rattle.realtime.specs.Judge.{rules, textsFine, numbersFine}

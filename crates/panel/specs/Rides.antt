@@ -1,34 +1,25 @@
--- THE RIDE CHECKS of document 01 that are marked P: one table, one theorem. Assumes nothing.
+-- Believe: 01, Ride checks. The ride checks of document 01 that are marked P: the table.
 use Prim.Native.Nat.{ℕ}
-use mathlib.Core.Path.{_≡_, refl}
+use mathlib.Core.Path.{_≡_}
 use mathlib.Core.Bool.{Bool, true, false}
 use mathlib.Core.List.{List, [], _∷_, _++_, map}
 use mathlib.Core.Logic.{inl, inr}
 use mathlib.Core.Option.{Option, none, some}
 use lib.IntN.{ℤ, pos, negsuc}
 use lib.ListN.{replicate}
-use Rattle.wire.specs.Wire as wire
-use Rattle.slices.specs.Lists.{lexOf}
-use Rattle.judging.specs.Judged.{ok}
-use Rattle.realtime.specs.Tree.{tree, nest}
-use Rattle.realtime.specs.Schema.{rows, feed}
-use Rattle.calendar.specs.Civil.{leapDay, yearFrom, monthFrom}
-use Rattle.calendar.specs.Paris.{isSummer, parisDigits}
+use Rattle.formats_judge.specs.Judged.{ok}
+use Rattle.calendar.specs.Paris.{parisDigits}
 use Rattle.decode.specs.Trip.{Trip}
 use Rattle.decode.specs.Leaves as leaves
 use Rattle.alerts.specs.Text.{text}
 use Rattle.alerts.specs.Alert.{Alert}
 use Rattle.alerts.specs.Applies.{product-code-token}
 use Rattle.overlay.specs.State.{overlay, feedWith, stateWith}
-use Rattle.overlay.specs.Valid as valid
-use Rattle.overlay.specs.Image as image
-use Rattle.overlay.specs.Records.{Feeds, shown}
-use Rattle.overlay.specs.Change as change
+use Rattle.overlay.specs.Records.{Feeds}
 use Rattle.overlay.specs.Lookup as lookup
 use Rattle.journey.specs.Card.{Transit, Card, transitValue}
 use Rattle.journey.specs.Times as times
 use Rattle.journey.specs.Enrich as enrich
-use Rattle.panel.specs.Questions as questions
 use Rattle.panel.specs.Questions.{Lengths}
 use Rattle.panel.specs.Calls.{Call, message, card, Gave, freshOverlay, run, numbers}
 
@@ -141,14 +132,3 @@ table =
     ∷ row (numbers (run small (freshOverlay small) (groups 16 ∷ groups 17 ∷ []))) (0 ∷ 4 ∷ [])
     ∷ row (map keysFit (2048 ∷ 2049 ∷ [])) (true ∷ false ∷ [])
     ∷ []
-
-pub rides : Holds table
-unfolding table run questions.freshOf questions.messageOf questions.treeOf questions.cardCallOf questions.arrivingOf questions.finished questions.whole
-    image.stateOf image.filled image.room valid.valid valid.within valid.feedValid shown change.afterMessage change.feedAt change.putFeed
-    leaves.leaves leaves.entries leaves.countOf
-    tree nest feed rows wire.fields wire.many wire.field wire.value wire.payload wire.until wire.text wire.bytes wire.key wire.varint wire.digits lexOf
-    lookup.first lookup.feed-of lookup.trip-at lookup.get-trip lookup.find-stop-update lookup.resolve-trip-rt lookup.get-vehicle-for-trip lookup.vehicle-for-trip lookup.stop-update-by-stop-id
-    times.apply-time enrich.trip-rt enrich.cancels enrich.departs enrich.arrives enrich.live enrich.late enrich.applies enrich.alerts-of enrich.disrupted
-    enrich.enrichMiddle enrich.enrichTransit enrich.status-of enrich.labels-of enrich.headers-of enrich.enrich-with-realtime
-    isSummer leapDay yearFrom monthFrom
-rides = (refl, (refl, (refl, (refl, (refl, (refl, (refl, (refl, (refl, (refl, tt))))))))))

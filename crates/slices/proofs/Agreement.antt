@@ -11,7 +11,7 @@ use lib.ListN.{length, getD, drop, drop-of-length-le}
 use lib.Seq.{drop-cons}
 use borrow.Author.Tests.{eq-eqb, ne-eqb, eqb-true, eqb-false, lt-ltb, le-ltb}
 use Rattle.slices.specs.Lists.{equal, lexOf, alike, commonOf}
-use Rattle.slices.specs.Laws.{and-left, and-right, equal-true}
+use Rattle.slices.specs.laws.Lists.{and-left, and-right, equal-true}
 use Rattle.slices.specs.declared.Order.the-variants.{Less, Same, More}
 
 -- a and b agree before i: what they have in common goes on there

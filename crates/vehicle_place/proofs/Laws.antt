@@ -15,12 +15,13 @@ use mir.Facts.{toZ-ofZ}
 use mir.Syntax.{w64}
 use mir.Val.{SFits, toZ, ofZ}
 use Rattle.formats.specs.Number.{zig, numberW, littleW}
-use Rattle.writing.specs.declared.Put.{Put}
-use Rattle.writing.specs.Adds.{Adds, then, same}
-use Rattle.writing.specs.Given.{optionalW}
+use Rattle.formats_write.specs.declared.Put.{Put}
+use Rattle.formats_write.specs.laws.Adds.{then, same}
+use Rattle.formats_write.specs.promises.Adds.{Adds}
+use Rattle.formats_write.specs.promises.Given.{optionalW}
 use Rattle.vehicle_place.specs.declared.VehiclePlace.{VehiclePlace}
-use Rattle.vehicle_place.specs.Place.{placeOf, placeW}
-use Rattle.vehicle_place.specs.Coordinates.{coordinateOf, bitsOf}
+use Rattle.vehicle_place.specs.promises.Place.{placeOf, placeW}
+use Rattle.vehicle_place.specs.promises.Coordinates.{coordinateOf, bitsOf}
 use Rattle.vehicle_place.specs.declared.Coordinate.{Coordinate}
 use Rattle.vehicle_place.specs.declared.Coordinate.the-variants.{Number, NaN}
 

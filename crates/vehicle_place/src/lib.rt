@@ -1,15 +1,15 @@
 // A vehicle's place by value: latitude, longitude and when it was told. Floats are handed on bit for bit. The language has no bits of a NaN,
 // so a coordinate is a float, or the pattern of a NaN: together they carry all 2^64 patterns.
-use writing::OptionalNumber;
-use writing::OptionalSigned;
-use writing::Put;
+use formats_write::OptionalNumber;
+use formats_write::OptionalSigned;
+use formats_write::Put;
 ghost use mathlib.Core.Path.{_≡_};
 ghost use lib.Dec.{T};
 ghost use mathlib.Core.Bool.{not};
 ghost use lib.Ieee.{binary64, isNan, nanBits, ofBits, toBits};
-ghost use Rattle.writing.specs.Adds.{Adds};
-ghost use Rattle.vehicle_place.specs.Coordinates.{coordinateOf, bitsOf};
-ghost use Rattle.vehicle_place.specs.Place.{ReadsPlace, placeW};
+ghost use Rattle.formats_write.specs.promises.Adds.{Adds};
+ghost use Rattle.vehicle_place.specs.promises.Coordinates.{coordinateOf, bitsOf};
+ghost use Rattle.vehicle_place.specs.promises.Place.{ReadsPlace, placeW};
 
 pub enum Coordinate {
     Number(f64),
@@ -68,9 +68,9 @@ pub fn read(s: &[u8], latitude: usize, longitude: usize, updated: usize) -> Vehi
     ensures { λ r. ⌜ ReadsPlace (now (s .entry)) latitude longitude updated r ⌝ }
 {
     VehiclePlace {
-        latitude: Coordinate::from_bits(places::float(s, latitude)),
-        longitude: Coordinate::from_bits(places::float(s, longitude)),
-        updated: places::signed(s, updated),
+        latitude: Coordinate::from_bits(formats_read::float(s, latitude)),
+        longitude: Coordinate::from_bits(formats_read::float(s, longitude)),
+        updated: formats_read::signed(s, updated),
     }
 }
 
@@ -80,7 +80,7 @@ pub fn write(out: &mut [u8], w: Put, v: VehiclePlace) -> Put
 {
     let latitude = v.latitude;
     let longitude = v.longitude;
-    let w1 = writing::optional_float(out, w, OptionalNumber::Present(latitude.to_bits()));
-    let w2 = writing::optional_float(out, w1, OptionalNumber::Present(longitude.to_bits()));
-    writing::optional_signed(out, w2, OptionalSigned::Present(v.updated))
+    let w1 = formats_write::optional_float(out, w, OptionalNumber::Present(latitude.to_bits()));
+    let w2 = formats_write::optional_float(out, w1, OptionalNumber::Present(longitude.to_bits()));
+    formats_write::optional_signed(out, w2, OptionalSigned::Present(v.updated))
 }

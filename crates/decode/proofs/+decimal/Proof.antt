@@ -4,7 +4,7 @@ use native.Mathlib.Omega.{arith}
 use borrow.Author.Needs.{needs}
 use borrow.Fn.Kinds.{In}
 use borrow.Fn.PlainCycle.{Measures, is, falls, and}
-use Rattle.decode.specs.Written.{then, written-whole}
+use Rattle.decode.specs.laws.Written.{then, written-whole}
 use Rattle.decode.proofs.Writing.{decimal-short, added-none, added-digit, added-more}
 use Rattle.decode.proofs.decimal.Reads as decimal
 use Rattle.decode.proofs.decimal.Kinds as decimal-kinds

@@ -3,7 +3,7 @@ use borrow.Author.Needs.{needs}
 use mathlib.Core.List.{_∷_}
 use native.Mathlib.Omega.{arith}
 use lib.ListN.{length-append}
-use Rattle.decode.specs.Written.{written-whole}
+use Rattle.decode.specs.laws.Written.{written-whole}
 use Rattle.decode.proofs.Writing.{span-length, keyed, joined}
 use Rattle.decode.proofs.write_dated.Statement.{statement}
 use Rattle.decode.proofs.write_dated.Tie as tie

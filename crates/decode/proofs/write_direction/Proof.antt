@@ -1,7 +1,7 @@
 use borrow.Author.Needs.{needs}
 -- `decode::write_direction` writes a direction in decimal. Assumes nothing.
 use native.Mathlib.Omega.{arith}
-use Rattle.decode.specs.Written.{none, written-whole}
+use Rattle.decode.specs.laws.Written.{none, written-whole}
 use Rattle.decode.proofs.write_direction.Statement.{statement}
 use Rattle.decode.proofs.write_direction.Tie as tie
 

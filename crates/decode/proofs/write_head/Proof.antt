@@ -1,7 +1,7 @@
 use borrow.Author.Needs.{needs}
 -- `decode::write_head` writes route and direction. Assumes nothing.
 use native.Mathlib.Omega.{arith}
-use Rattle.decode.specs.Written.{then, written-whole}
+use Rattle.decode.specs.laws.Written.{then, written-whole}
 use Rattle.decode.proofs.Writing.{prefixed-short}
 use Rattle.decode.proofs.write_head.Statement.{statement}
 use Rattle.decode.proofs.write_head.Tie as tie

@@ -1,7 +1,7 @@
 use borrow.Author.Needs.{needs}
 -- `decode::write_incomplete` writes the key of an entity without a trip id. Assumes nothing.
 use native.Mathlib.Omega.{arith}
-use Rattle.decode.specs.Written.{then, written-whole}
+use Rattle.decode.specs.laws.Written.{then, written-whole}
 use Rattle.decode.proofs.Writing.{keyed, spans-head, spans-whole}
 use Rattle.decode.proofs.write_incomplete.Statement.{statement}
 use Rattle.decode.proofs.write_incomplete.Tie as tie

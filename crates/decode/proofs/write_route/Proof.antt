@@ -1,7 +1,7 @@
 use borrow.Author.Needs.{needs}
 -- `decode::write_route` writes a route with the feed in front. Assumes nothing.
 use native.Mathlib.Omega.{arith}
-use Rattle.decode.specs.Written.{written-whole}
+use Rattle.decode.specs.laws.Written.{written-whole}
 use Rattle.decode.proofs.Writing.{span-length, joined, routed, unrouted}
 use Rattle.decode.proofs.write_route.Statement.{statement}
 use Rattle.decode.proofs.write_route.Tie as tie

@@ -1,7 +1,7 @@
 use borrow.Author.Needs.{needs}
 -- `decode::write_tail` writes date and time. Assumes nothing.
 use native.Mathlib.Omega.{arith}
-use Rattle.decode.specs.Written.{then, written-whole}
+use Rattle.decode.specs.laws.Written.{then, written-whole}
 use Rattle.decode.proofs.Writing.{span-length}
 use Rattle.decode.proofs.write_tail.Statement.{statement}
 use Rattle.decode.proofs.write_tail.Tie as tie

@@ -3,7 +3,7 @@ use borrow.Author.Needs.{needs}
 use denote.Ref.{now}
 use mathlib.Core.Path.{ap, _∙_}
 use lib.Seq.{take-length}
-use Rattle.wire.specs.Places.{skippedAt}
+use Rattle.wire.specs.promises.Places.{skippedAt}
 use Rattle.realtime.proofs.past.Statement.{statement}
 use Rattle.realtime.proofs.past.Tie as tie
 

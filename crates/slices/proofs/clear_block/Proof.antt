@@ -1,5 +1,5 @@
 -- `slices::clear_block` meets its contract: what is left as it is was zeros. Assumes nothing.
-use Rattle.slices.specs.Laws.{zeros-true}
+use Rattle.slices.specs.laws.Lists.{zeros-true}
 use borrow.Author.Needs.{needs}
 use mathlib.Core.Path.{sym, _∙_}
 use Rattle.slices.proofs.clear_block.Statement.{statement}

@@ -1,0 +1,7 @@
+pub mod Lists
+pub mod Text
+pub mod Candidates
+pub mod Implied
+pub mod ProductCodes
+pub mod Vectors
+pub mod Label

@@ -1,0 +1,16 @@
+-- `alerts_text::lines::other_subject` meets its contract.
+use borrow.Author.Needs.{needs}
+use Rattle.alerts_text.proofs.Naming.{other-unnamed, other-own, other-subject}
+use Rattle.alerts_text.proofs.lines.other_subject.Statement.{statement}
+use Rattle.alerts_text.proofs.lines.other_subject.Tie as tie
+
+pub other-subject-spec : {M : Type 1} → statement M
+other-subject-spec =
+    tie.close
+    (tie.spec
+    (λ c κs. search needs)
+    (λ c. search (other-unnamed))
+    (λ c κs. search needs)
+    (λ c. search (other-own))
+    (λ c κs. search needs)
+    (λ c. search (other-subject)))

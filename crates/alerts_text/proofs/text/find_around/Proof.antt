@@ -1,0 +1,31 @@
+-- `alerts_text::text::find_around` meets its contract. The invariant: the first place is the first from i on.
+use Prim.Native.Nat.{_-_}
+use mathlib.Core.List.{_++_}
+use native.Mathlib.Omega.{arith}
+use lib.ListN.{length}
+use borrow.Author.Needs.{needs}
+use Rattle.alerts_text.proofs.Searching.{Unfound, unfound-start, unfound-more, found-here, nowhere}
+use Rattle.alerts_text.proofs.text.find_around.Statement.{statement}
+use Rattle.alerts_text.proofs.text.find_around.Tie as tie
+
+abbrev Inv-loop : tie.InvT-loop
+Inv-loop s before name after i₀ i = Unfound (before ++ name ++ after) s i
+
+abbrev μ-loop : tie.MeasureT-loop
+μ-loop s before name after i₀ i = length s - i
+
+pub find-around-spec : {M : Type 1} → statement M
+find-around-spec =
+    tie.close
+    (tie.spec
+    Inv-loop
+    μ-loop
+    (λ c. unfound-start _ _)
+    (λ c κs. search needs)
+    (λ c. search (found-here))
+    (λ c. omega arith)
+    (λ c. omega arith)
+    (λ c. search (unfound-more))
+    (λ c κs. search needs)
+    (λ c. search (found-here))
+    (λ c. search (nowhere)))

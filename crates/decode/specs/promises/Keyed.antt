@@ -1,0 +1,26 @@
+-- Promise. A key that is written into its slot of a lent slice: 137 bytes to a slot.
+use Prim.Native.Nat.{ℕ, _*_, _≤_}
+use mathlib.Core.Path.{_≡_}
+use mathlib.Core.List.{List}
+use lib.ListN.{length, take, drop}
+use Rattle.realtime_views.specs.promises.Views.{SpanInside}
+use Rattle.realtime_views.specs.declared.Trip.{Trip}
+
+-- the texts of an entity lie in the bytes, and are as long as question 5 lets them be
+pub record Short (s : List ℕ) (t : Trip) : Type 0 where
+  pub id : SpanInside (length s) (t .id) × (t .id .len ≤ 64)
+  pub date : SpanInside (length s) (t .date) × (t .date .len ≤ 16)
+  pub time : SpanInside (length s) (t .time) × (t .time .len ≤ 16)
+  pub route : SpanInside (length s) (t .route) × (t .route .len ≤ 64)
+
+-- slot n is there
+pub record Room (keys : List ℕ) (n : ℕ) : Type 0 where
+  pub counted : n ≤ 2048
+  pub keyed : length keys ≡ 280713
+
+-- key k stands in slot n, and the slots before it are as they were
+pub record Keyed (keys : List ℕ) (n : ℕ) (k keys′ : List ℕ) (r : ℕ) : Type 0 where
+  pub key : take r (drop (137 * n) keys′) ≡ k
+  pub before : take (137 * n) keys′ ≡ take (137 * n) keys
+  pub long : length keys′ ≡ length keys
+  pub short : r ≤ 137

@@ -1,0 +1,99 @@
+// The index of what a message leaves of a feed's trips: every entity's keys, in order.
+use realtime_views::Item;
+ghost use mathlib.Core.Path.{_≡_};
+ghost use Prim.Native.Nat.{_≤_};
+ghost use lib.ListN.{length};
+ghost use Rattle.decode_slots.specs.Index.{index};
+ghost use Rattle.decode_slots.specs.promises.Index.{Sound};
+ghost use Rattle.decode_old.specs.promises.Old.{Stands};
+ghost use Rattle.decode_index.specs.promises.Message.{Judged, Indexed};
+ghost use Rattle.decode_index.specs.promises.Leaving.{Old, Begun, Leaves};
+
+// The entities of a message are applied one after the other: how many keys there are then. Above 2,048 the rest is not looked at.
+pub fn apply_entities(
+    keys: &mut [u8],
+    marks: &mut [u32],
+    order: &mut [u32],
+    n: usize,
+    feed: &[u8],
+    s: &[u8],
+) -> usize
+    requires { ⌜ Sound (now keys) (now marks) (now order) n ⌝ }
+    requires { ⌜ (n ≤ 2048) × (length (now feed) ≤ 16) × (length (now s) ≤ 1048576) ⌝ }
+    requires { ⌜ Judged (now s) ⌝ }
+    ensures { λ r. ⌜ Indexed (now (feed .entry)) (now (s .entry)) (index (now (keys .entry)) (now (marks .entry)) (now (order .entry)) n) (now (keys .exit)) (now (marks .exit)) (now (order .exit)) r ⌝ }
+{
+    let mut walk = realtime_views::entities(s);
+    let mut m = n;
+    loop {
+        match realtime_views::next_entity(s, walk) {
+            Item::Done => return m,
+            Item::At {
+                start: at,
+                len,
+                walk: rest,
+            } => {
+                m = decode_keys::apply(keys, marks, order, m, feed, s, at, len);
+                if m > 2048 {
+                    return m;
+                }
+                walk = rest;
+            }
+        }
+    }
+}
+
+// What a message leaves: the index in its first n slots, or more than 2,048 trips, or a record with more than 128 updates.
+pub enum Left {
+    ManyTrips,
+    ManyUpdates,
+    Trips(usize),
+}
+
+// The index before the entities: the old trips where the message says what has changed, else none.
+fn begin(
+    keys: &mut [u8],
+    marks: &mut [u32],
+    order: &mut [u32],
+    differential: bool,
+    old: &[u8],
+    at: usize,
+) -> usize
+    requires { ⌜ (length (now keys) ≡ 280713) × (length (now marks) ≡ 6147) × (length (now order) ≡ 2049) ⌝ }
+    requires { ⌜ Stands (now old) at ⌝ }
+    ensures { λ r. ⌜ Begun (now (old .entry)) at differential (now (keys .exit)) (now (marks .exit)) (now (order .exit)) r ⌝ }
+{
+    if differential {
+        return decode_old::join(keys, marks, order, old, at);
+    }
+    0
+}
+
+// What a judged message leaves of a feed's trips, the old ones of which stand in `old` at `at`.
+pub fn leave(
+    keys: &mut [u8],
+    marks: &mut [u32],
+    order: &mut [u32],
+    updates: &mut [u32],
+    feed: &[u8],
+    s: &[u8],
+    old: &[u8],
+    at: usize,
+) -> Left
+    requires { ⌜ (length (now keys) ≡ 280713) × (length (now marks) ≡ 6147) × (length (now order) ≡ 2049) × (length (now updates) ≡ 387) ⌝ }
+    requires { ⌜ (length (now feed) ≤ 16) × (length (now s) ≤ 1048576) ⌝ }
+    requires { ⌜ Judged (now s) ⌝ }
+    requires { ⌜ Old (now old) at ⌝ }
+    ensures { λ r. ⌜ Leaves (now (feed .entry)) (now (s .entry)) (now (old .entry)) at (now (keys .exit)) (now (marks .exit)) (now (order .exit)) r ⌝ }
+{
+    let h = realtime_views::header_of(s);
+    let n = begin(keys, marks, order, h.differential, old, at);
+    let m = apply_entities(keys, marks, order, n, feed, s);
+    if m > 2048 {
+        return Left::ManyTrips;
+    }
+    if decode_updates::any_crowded(updates, marks, order, m, s) {
+        return Left::ManyUpdates;
+    }
+    Left::Trips(m)
+}

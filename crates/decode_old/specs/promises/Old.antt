@@ -1,0 +1,54 @@
+-- Promise. The old trips of a feed: how they stand in the old overlay's bytes, and the index that they have joined.
+use Prim.Native.Nat.{ℕ, _+_, _≤_}
+use mathlib.Core.Path.{_≡_}
+use mathlib.Core.Bool.{false}
+use mathlib.Core.List.{List, []}
+use lib.ListN.{length}
+use Rattle.formats.specs.Readers.{All}
+use Rattle.formats.specs.Format.{list, Value}
+use Rattle.formats_read.specs.promises.Here.{Here}
+use Rattle.decode.specs.Trip.{trip, tripEntry}
+use Rattle.decode.specs.Map.{puts}
+use Rattle.decode.specs.Order.{texts}
+use Rattle.decode_slots.specs.Index.{index}
+use Rattle.decode_slots.specs.promises.Index.{Sound}
+use Rattle.decode_keys.specs.promises.Entity.{Filed}
+use Rattle.decode.specs.Leaves.{Trips}
+use Rattle.decode_slots.specs.Places.{beyond, isNew, held}
+
+-- a feed's trips stand in o from `at` on, and are as many and as short as the state lets them be
+pub record Stands (o : List ℕ) (at : ℕ) : Type 0 where
+  pub trips : Trips
+  pub end : ℕ
+  pub here : Here (list 2048 tripEntry) o at end trips
+  pub few : length trips ≤ 2048
+  pub short : All (λ e. length (e .0) ≤ 137) trips
+  pub small : length o ≤ 4000000000
+
+-- THE OLD TRIPS HAVE JOINED: the index holds them, whatever the message, and nothing else. Those of a state ascend, and then `puts texts v []` is v
+pub record Joined (o : List ℕ) (at : ℕ) (keys marks order : List ℕ) (r : ℕ) : Type 0 where
+  pub sound : Sound keys marks order r
+  pub few : r ≤ 2048
+  pub aged : All (λ e. isNew (e .1) ≡ false) (index keys marks order r)
+  pub of : (v : Trips) (q : ℕ) → Here (list 2048 tripEntry) o at q v → (s : List ℕ) → held s o (index keys marks order r) ≡ puts texts v []
+
+-- one of them stands at p
+pub record Entry (o : List ℕ) (p : ℕ) : Type 0 where
+  pub entry : Value tripEntry
+  pub end : ℕ
+  pub here : Here tripEntry o p end entry
+  pub short : length (entry .0) ≤ 137
+  pub small : length o ≤ 4000000000
+
+-- the entry at p ends at `next`, and its key has gone in with the place of its record
+pub record Passes (o : List ℕ) (p : ℕ) (keys marks order : List ℕ) (n : ℕ) (keys′ marks′ order′ : List ℕ) (r next : ℕ) : Type 0 where
+  pub ends : (v : Value tripEntry) (q : ℕ) → Here tripEntry o p q v → next ≡ q
+  pub filed : (v : Value tripEntry) → Here tripEntry o p next v
+      → (m : ℕ) × Here trip o m next (v .1) × Filed keys marks order n (v .0) (beyond + m) (beyond + next) keys′ marks′ order′ r
+
+-- the entries us have joined
+pub record Filled (o keys marks order : List ℕ) (n : ℕ) (us : Trips) : Type 0 where
+  pub sound : Sound keys marks order n
+  pub few : n ≤ length us
+  pub aged : All (λ e. isNew (e .1) ≡ false) (index keys marks order n)
+  pub holds : (s : List ℕ) → held s o (index keys marks order n) ≡ puts texts us []

@@ -1,0 +1,90 @@
+// The old trips of a feed join the index before a message's entities: where the message says what has changed, and not all there is.
+mod table;
+
+use formats_judge::Judge;
+use table::DEPTH;
+use table::LIST;
+use table::TRIP;
+use table::TRIPS;
+ghost use mathlib.Core.Path.{_≡_};
+ghost use Prim.Native.Nat.{ℕ, _+_, _≤_};
+ghost use lib.ListN.{length};
+ghost use Rattle.formats.specs.Format.{list, Value};
+ghost use Rattle.formats_judge.specs.Judged.{judgeTo};
+ghost use Rattle.formats_read.specs.promises.Here.{Here};
+ghost use Rattle.decode.specs.Trip.{trip, tripEntry};
+ghost use Rattle.decode_slots.specs.promises.Index.{Sound};
+ghost use Rattle.decode_slots.specs.Places.{beyond};
+ghost use Rattle.decode_old.specs.promises.Old.{Stands, Joined, Entry, Passes};
+
+// The judgement of the trips that stand at `at`: their form, and the first of the questions 5 to 7 that they fail.
+pub fn judge(old: &[u8], at: usize) -> Judge
+    requires { ⌜ at ≤ length (now old) ⌝ }
+    ensures { λ r. ⌜ r ≡ judgeTo (list 2048 tripEntry) (now (old .entry)) at ⌝ }
+{
+    formats_judge::judge_value(&TRIPS, DEPTH, LIST, old, at)
+}
+
+// The place past the record at `at`.
+fn past_trip(old: &[u8], at: usize) -> usize
+    ensures { λ r. ⌜ ((v : Value trip) (q : ℕ) → Here trip (now (old .entry)) at q v → r ≡ q) ⌝ }
+{
+    formats_read::past(&TRIPS, DEPTH, TRIP, old, at)
+}
+
+// A place of the old overlay's bytes, above all those of a message.
+fn old_place(p: usize) -> u32
+    requires { ⌜ p ≤ 4000000000 ⌝ }
+    ensures { λ r. ⌜ r ≡ beyond + p ⌝ }
+{
+    1048577 + p as u32
+}
+
+// How many slots are in use, and the place past the entry.
+struct Passed {
+    slots: usize,
+    next: usize,
+}
+
+// The key of the entry at `at` goes into the index with the place of its record.
+fn file_entry(
+    keys: &mut [u8],
+    marks: &mut [u32],
+    order: &mut [u32],
+    n: usize,
+    old: &[u8],
+    at: usize,
+) -> Passed
+    requires { ⌜ Sound (now keys) (now marks) (now order) n ⌝ }
+    requires { ⌜ n ≤ 2048 ⌝ }
+    requires { ⌜ Entry (now old) at ⌝ }
+    ensures { λ r. ⌜ Passes (now (old .entry)) at (now (keys .entry)) (now (marks .entry)) (now (order .entry)) n (now (keys .exit)) (now (marks .exit)) (now (order .exit)) (r .slots) (r .next) ⌝ }
+{
+    let key = formats_read::text(old, at);
+    let start = key.from;
+    let end = key.to;
+    let next = past_trip(old, end);
+    let from = old_place(end);
+    let till = old_place(next);
+    let slots = decode_keys::file_key(keys, marks, order, n, old, start, end - start, from, till);
+    Passed { slots, next }
+}
+
+// The index of the old trips that stand at `at`: how many slots are in use.
+pub fn join(keys: &mut [u8], marks: &mut [u32], order: &mut [u32], old: &[u8], at: usize) -> usize
+    requires { ⌜ (length (now keys) ≡ 280713) × (length (now marks) ≡ 6147) × (length (now order) ≡ 2049) ⌝ }
+    requires { ⌜ Stands (now old) at ⌝ }
+    ensures { λ r. ⌜ Joined (now (old .entry)) at (now (keys .exit)) (now (marks .exit)) (now (order .exit)) r ⌝ }
+{
+    let count = formats_read::number(old, at);
+    let mut p = count.next;
+    let mut left = count.value;
+    let mut n: usize = 0;
+    while 0 < left {
+        let passed = file_entry(keys, marks, order, n, old, p);
+        n = passed.slots;
+        p = passed.next;
+        left -= 1;
+    }
+    n
+}

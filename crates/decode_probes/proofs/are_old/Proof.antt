@@ -1,0 +1,16 @@
+-- `decode_probes::are_old` meets its contract. Assumes nothing.
+use borrow.Author.Needs.{needs}
+use mathlib.Core.Path.{ap, _∙_}
+use Rattle.decode_probes.specs.Indexing.{unfailed}
+use Rattle.decode_probes.proofs.Asking.{old-long, old-judged}
+use Rattle.decode_probes.proofs.are_old.Statement.{statement}
+use Rattle.decode_probes.proofs.are_old.Tie as tie
+
+pub are-old-spec : {M : Type 1} → statement M
+are-old-spec =
+    tie.close
+    (tie.spec
+    (λ c. old-long (c .before .before .args .old .now) (c .if1 .taken))
+    (λ c κs. search needs)
+    (λ c κs. search needs)
+    (λ c. old-judged (c .before .before .before .before .args .old .now) (c .before .before .if1 .left) (c .is-unfailed .ensures ∙ ap unfailed (c .before .judge .ensures))))

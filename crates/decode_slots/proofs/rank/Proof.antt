@@ -1,0 +1,55 @@
+-- `decode_slots::rank`: the rank lies between `lo` and `hi`. Assumes nothing.
+use mathlib.Core.Path.{_≡_}
+use mathlib.Core.Bool.{true, false}
+use Prim.Native.Nat.{_+_, _-_, _/_, _≤_, _<_}
+use native.Mathlib.Omega.{arith}
+use lib.ListN.{getD}
+use Rattle.slices.specs.Lists.{lexOf}
+use Rattle.decode.specs.Map.{isMore}
+use Rattle.decode.specs.Order.{texts}
+use Rattle.decode_slots.specs.Index.{keyAt, index}
+use Rattle.decode_slots.specs.promises.Index.{keyIn, rankOf}
+use Rattle.decode_slots.proofs.Ranks.{rank-within, rank-more, rank-else, slot-below}
+use Rattle.decode_slots.proofs.rank.Statement.{statement}
+use Rattle.decode_slots.proofs.rank.Tie as tie
+
+abbrev Inv-loop : tie.InvT-loop
+Inv-loop keys marks order n len lo₀ hi₀ lo hi = let r = rankOf texts (keyIn keys n len) (index keys marks order n) in (lo ≤ r) × (r ≤ hi) × (hi ≤ n)
+
+abbrev μ-loop : tie.MeasureT-loop
+μ-loop keys marks order n len lo₀ hi₀ lo hi = hi - lo
+
+pub rank-spec : {M : Type 1} → statement M
+rank-spec =
+    tie.close
+    (tie.spec
+    Inv-loop
+    μ-loop
+    (λ c. let a = c .before .before .before .args in (omega arith, rank-within (a .keys .now) (a .marks .now) (a .order .now) (a .n) (c .before .before .before .pre .0) (keyIn (a .keys .now) (a .n) (a .len)), omega arith))
+    (λ c. omega arith)
+    (λ c. omega arith)
+    (λ c κs. omega (arith, c .before .before .before .before .before .pre .0 .ordered, c .before .before .before .before .before .pre .0 .counted))
+    (λ c κs. let S = c .before .before .before .before .before .before .pre .0 in
+    let a = c .before .before .before .before .before .before .args in
+    let mid = c .before .before .loop .lo + (c .before .before .loop .hi - c .before .before .loop .lo) / 2 in
+    let h = slot-below (a .keys .now) (a .marks .now) (a .order .now) (a .n) S mid (omega arith) in
+    let j : c .word .result < a .n = omega (arith, c .word .ensures) in
+    let l = S .lengths (c .word .result) j in
+    (omega (arith, S .keyed), (omega (arith, S .marked), omega (arith, S .keyed))))
+    (λ c κs. omega arith)
+    (λ c. omega arith)
+    (λ c. omega arith)
+    (λ c. let a = c .before .before .before .before .before .before .before .before .before .args in
+    let k = keyIn (a .keys .now) (a .n) (a .len) in
+    let mid = c .before .before .before .before .before .loop .lo + (c .before .before .before .before .before .loop .hi - c .before .before .before .before .before .loop .lo) / 2 in
+    let e : isMore (lexOf k (keyAt (a .keys .now) (a .marks .now) (getD (a .order .now) mid 0))) ≡ true = cc in
+    let h = rank-more (a .keys .now) (a .marks .now) (a .order .now) (a .n) (c .before .before .before .before .before .before .before .before .before .pre .0) k mid (omega arith) e in
+    (omega arith, omega arith, omega arith))
+    (λ c. omega arith)
+    (λ c. let a = c .before .before .before .before .before .before .before .before .before .args in
+    let k = keyIn (a .keys .now) (a .n) (a .len) in
+    let mid = c .before .before .before .before .before .loop .lo + (c .before .before .before .before .before .loop .hi - c .before .before .before .before .before .loop .lo) / 2 in
+    let e : isMore (lexOf k (keyAt (a .keys .now) (a .marks .now) (getD (a .order .now) mid 0))) ≡ false = cc in
+    let h = rank-else (a .keys .now) (a .marks .now) (a .order .now) (a .n) (c .before .before .before .before .before .before .before .before .before .pre .0) k mid (omega arith) e in
+    (omega arith, omega arith, omega arith))
+    (λ c. omega arith))

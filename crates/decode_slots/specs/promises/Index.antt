@@ -1,0 +1,44 @@
+-- Promise. The working index: when its slices hold one, where a key ranks in it, and what they hold when a key is
+-- put.
+use Prim.Native.Nat.{ℕ, suc, _+_, _-_, _*_, _≤_, _<_}
+use mathlib.Core.Path.{_≡_}
+use mathlib.Core.Bool.{true}
+use mathlib.Core.List.{List, [], _∷_, _++_}
+use lib.ListN.{length, getD, take, drop, set}
+use Rattle.formats.specs.Readers.{All}
+use Rattle.decode.specs.Map.{Ordered, byOrder, put, ascending}
+use Rattle.decode.specs.Order.{texts}
+use Rattle.decode_slots.specs.Index.{index}
+
+-- the slices have their lengths, with room for one key more than a feed may have, and the first n slots are in use
+pub record Sound (keys marks order : List ℕ) (n : ℕ) : Type 0 where
+  pub counted : n ≤ 2049
+  pub ordered : length order ≡ 2049
+  pub marked : length marks ≡ 6147
+  pub keyed : length keys ≡ 280713
+  pub slots : All (λ j. j < n) (take n order)
+  pub lengths : (j : ℕ) → j < n → getD marks (3 * j) 0 ≤ 137
+  pub ascends : ascending texts (index keys marks order n) ≡ true
+
+-- the key that stands in slot n, `len` long
+abbrev pub keyIn : List ℕ → ℕ → ℕ → List ℕ
+keyIn keys n len = take len (drop (137 * n) keys)
+
+-- how many keys stand before k
+module _ {K : Type 0} (O : Ordered K) {A : Type 0} where
+  abbrev pub rankOf : K → List (K × A) → ℕ
+  rankOf k [] = 0
+  rankOf k (e ∷ m) = byOrder (O .compare k (e .0)) 0 0 (suc (rankOf k m))
+
+-- a with v at `at`, and what stood from there to `end` one place on
+abbrev pub inserted : List ℕ → ℕ → ℕ → ℕ → List ℕ
+inserted a at end v = take at a ++ v ∷ (take (end - at) (drop at a) ++ drop (end + 1) a)
+
+-- the place of a slot becomes another
+abbrev pub remarked : List ℕ → ℕ → ℕ → ℕ → List ℕ
+remarked marks j from till = set (set marks (3 * j + 1) from) (3 * j + 2) till
+
+-- after the key in slot n has gone in at its place: the map, and how many slots are in use
+pub record Settled (keys marks order : List ℕ) (n len from till : ℕ) (marks′ order′ : List ℕ) (r : ℕ) : Type 0 where
+  pub map : index keys marks′ order′ r ≡ put texts (keyIn keys n len) (from, till) (index keys marks order n)
+  pub sound : Sound keys marks′ order′ r

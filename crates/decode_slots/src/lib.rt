@@ -1,0 +1,149 @@
+// A sorted index in lent slices: keys of at most 137 bytes, each with a place, found by halving.
+use slices::Order;
+ghost use mathlib.Core.Path.{_≡_};
+ghost use Prim.Native.Nat.{_+_, _*_, _≤_, _<_};
+ghost use mathlib.Core.Bool.{_&&_};
+ghost use lib.Dec.{ltb};
+ghost use lib.ListN.{length, getD, set};
+ghost use Rattle.slices.specs.Lists.{lexOf};
+ghost use Rattle.decode.specs.Map.{isSame, isMore};
+ghost use Rattle.decode.specs.Order.{texts};
+ghost use Rattle.decode_slots.specs.Index.{keyAt, index};
+ghost use Rattle.decode_slots.specs.promises.Index.{keyIn, Sound, Settled, rankOf, inserted, remarked};
+
+fn wide(x: u32) -> usize
+    ensures { λ r. ⌜ r ≡ x ⌝ }
+{
+    x as usize
+}
+
+pub fn word(a: &[u32], i: usize) -> usize
+    requires { ⌜ i < length (now a) ⌝ }
+    ensures { λ r. ⌜ r ≡ getD (now (a .entry)) i 0 ⌝ }
+{
+    wide(a[i])
+}
+
+// v goes in at `at`, and what stands from there to `end` moves one place on.
+pub fn insert(a: &mut [u32], at: usize, end: usize, v: u32)
+    requires { ⌜ (at ≤ end) × (end < length (now a)) ⌝ }
+    ensures { λ _. ⌜ now (a .exit) ≡ inserted (now (a .entry)) at end v ⌝ }
+{
+    let mut i = end;
+    while at < i {
+        a[i] = a[i - 1];
+        i -= 1;
+    }
+    a[at] = v;
+}
+
+fn is_more(o: Order) -> bool
+    ensures { λ r. ⌜ r ≡ isMore o ⌝ }
+{
+    match o {
+        Order::Less => false,
+        Order::Same => false,
+        Order::More => true,
+    }
+}
+
+fn is_same(o: Order) -> bool
+    ensures { λ r. ⌜ r ≡ isSame o ⌝ }
+{
+    match o {
+        Order::Less => false,
+        Order::Same => true,
+        Order::More => false,
+    }
+}
+
+// The order of the key that stands in slot n, `len` long, and the key of a slot.
+fn key_order(keys: &[u8], marks: &[u32], n: usize, len: usize, slot: usize) -> Order
+    requires { ⌜ 137 * n + len ≤ length (now keys) ⌝ }
+    requires { ⌜ 3 * slot < length (now marks) ⌝ }
+    requires { ⌜ 137 * slot + getD (now marks) (3 * slot) 0 ≤ length (now keys) ⌝ }
+    ensures { λ r. ⌜ r ≡ lexOf (keyIn (now (keys .entry)) n len) (keyAt (now (keys .entry)) (now (marks .entry)) slot) ⌝ }
+{
+    let known = word(marks, 3 * slot);
+    slices::compare(
+        wire::part(keys, 137 * n, len),
+        wire::part(keys, 137 * slot, known),
+    )
+}
+
+// How many keys stand before the key in slot n: found by halving.
+fn rank(keys: &[u8], marks: &[u32], order: &[u32], n: usize, len: usize) -> usize
+    requires { ⌜ Sound (now keys) (now marks) (now order) n ⌝ }
+    requires { ⌜ (n ≤ 2048) × (len ≤ 137) ⌝ }
+    ensures { λ r. ⌜ r ≡ rankOf texts (keyIn (now (keys .entry)) n len) (index (now (keys .entry)) (now (marks .entry)) (now (order .entry)) n) ⌝ }
+{
+    let mut lo: usize = 0;
+    let mut hi = n;
+    while lo < hi {
+        let mid = lo + (hi - lo) / 2;
+        let slot = word(order, mid);
+        if is_more(key_order(keys, marks, n, len, slot)) {
+            lo = mid + 1;
+        } else {
+            hi = mid;
+        }
+    }
+    lo
+}
+
+// Whether the key at rank r is the key in slot n.
+fn stands(keys: &[u8], marks: &[u32], order: &[u32], n: usize, len: usize, r: usize) -> bool
+    requires { ⌜ Sound (now keys) (now marks) (now order) n ⌝ }
+    requires { ⌜ (n ≤ 2048) × (len ≤ 137) ⌝ }
+    ensures { λ b. ⌜ b ≡ (ltb r n && isSame (lexOf (keyIn (now (keys .entry)) n len) (keyAt (now (keys .entry)) (now (marks .entry)) (getD (now (order .entry)) r 0)))) ⌝ }
+{
+    if r >= n {
+        return false;
+    }
+    is_same(key_order(keys, marks, n, len, word(order, r)))
+}
+
+// The place of a slot.
+pub fn mark(marks: &mut [u32], slot: usize, from: u32, till: u32)
+    requires { ⌜ 3 * slot + 3 ≤ length (now marks) ⌝ }
+    ensures { λ _. ⌜ now (marks .exit) ≡ remarked (now (marks .entry)) slot from till ⌝ }
+{
+    marks[3 * slot + 1] = from;
+    marks[3 * slot + 2] = till;
+}
+
+// Slot n is in use from now on, at rank r.
+fn enter(marks: &mut [u32], order: &mut [u32], n: usize, r: usize, len: usize, from: u32, till: u32)
+    requires { ⌜ (n ≤ 2048) × (r ≤ n) × (len ≤ 137) ⌝ }
+    requires { ⌜ (length (now marks) ≡ 6147) × (length (now order) ≡ 2049) ⌝ }
+    ensures { λ _. ⌜ now (marks .exit) ≡ remarked (set (now (marks .entry)) (3 * n) len) n from till ⌝ }
+    ensures { λ _. ⌜ now (order .exit) ≡ inserted (now (order .entry)) r n n ⌝ }
+{
+    marks[3 * n] = len as u32;
+    mark(marks, n, from, till);
+    insert(order, r, n, n as u32);
+}
+
+// The key in slot n goes in at its rank, over an old one: how many slots are in use then.
+pub fn settle(
+    keys: &[u8],
+    marks: &mut [u32],
+    order: &mut [u32],
+    n: usize,
+    len: usize,
+    from: u32,
+    till: u32,
+) -> usize
+    requires { ⌜ Sound (now keys) (now marks) (now order) n ⌝ }
+    requires { ⌜ (n ≤ 2048) × (len ≤ 137) ⌝ }
+    ensures { λ r. ⌜ Settled (now (keys .entry)) (now (marks .entry)) (now (order .entry)) n len from till (now (marks .exit)) (now (order .exit)) r ⌝ }
+{
+    let r = rank(keys, marks, order, n, len);
+    if stands(keys, marks, order, n, len, r) {
+        let slot = word(order, r);
+        mark(marks, slot, from, till);
+        return n;
+    }
+    enter(marks, order, n, r, len, from, till);
+    n + 1
+}

@@ -1,0 +1,166 @@
+// The updates of a trip record in ascending order of sequence, and whether a record of the index has too many.
+use realtime_views::Item;
+ghost use mathlib.Core.Path.{_≡_};
+ghost use Prim.Native.Nat.{_+_, _*_, _≤_};
+ghost use mathlib.Core.Bool.{_&&_};
+ghost use lib.Dec.{ltb, eqb};
+ghost use lib.ListN.{length, take, getD};
+ghost use Rattle.formats.specs.Readers.{All};
+ghost use Rattle.decode.specs.Order.{numbers};
+ghost use Rattle.decode_slots.specs.promises.Index.{rankOf};
+ghost use Rattle.decode_updates.specs.Line.{laid};
+ghost use Rattle.decode_updates.specs.promises.Line.{three, Lined, Noted};
+ghost use Rattle.decode_updates.specs.promises.Updates.{Listed, Counted, CrowdedRead, ReadableSlot, crowdedSlot, crowdedIn};
+
+// The most updates that a trip may have.
+const LIMIT: usize = 128;
+
+// A message has 1,048,576 bytes at most: the places from here on are the old overlay's.
+const BEYOND: usize = 1048577;
+
+// How many updates stand before a sequence: sought from the end, since they arrive in order as a rule.
+fn place_of(updates: &[u32], n: usize, sequence: u32) -> usize
+    requires { ⌜ Lined (now updates) n ⌝ }
+    ensures { λ r. ⌜ r ≡ rankOf numbers sequence (laid n (now (updates .entry))) ⌝ }
+{
+    let mut r = n;
+    while r > 0 {
+        if updates[3 * (r - 1)] < sequence {
+            return r;
+        }
+        r -= 1;
+    }
+    0
+}
+
+// Whether the update at rank r has the sequence.
+fn is_at(updates: &[u32], n: usize, r: usize, sequence: u32) -> bool
+    requires { ⌜ (n ≤ 129) × (length (now updates) ≡ 387) ⌝ }
+    ensures { λ b. ⌜ b ≡ (ltb r n && eqb (getD (now (updates .entry)) (3 * r) 0) sequence) ⌝ }
+{
+    if r >= n {
+        return false;
+    }
+    updates[3 * r] == sequence
+}
+
+// Three numbers go in at rank r.
+fn line(updates: &mut [u32], n: usize, r: usize, sequence: u32, from: u32, till: u32)
+    requires { ⌜ (r ≤ n) × (n ≤ 128) × (length (now updates) ≡ 387) ⌝ }
+    ensures { λ _. ⌜ now (updates .exit) ≡ three (now (updates .entry)) r n sequence from till ⌝ }
+{
+    decode_slots::insert(updates, 3 * r, 3 * n, sequence);
+    decode_slots::insert(updates, 3 * r + 1, 3 * n + 1, from);
+    decode_slots::insert(updates, 3 * r + 2, 3 * n + 2, till);
+}
+
+// An update goes in at its sequence, over an old one: how many are in use then.
+pub fn note(updates: &mut [u32], n: usize, sequence: u32, from: u32, till: u32) -> usize
+    requires { ⌜ Lined (now updates) n ⌝ }
+    requires { ⌜ n ≤ 128 ⌝ }
+    ensures { λ r. ⌜ Noted (now (updates .entry)) n sequence from till (now (updates .exit)) r ⌝ }
+{
+    let r = place_of(updates, n, sequence);
+    if is_at(updates, n, r, sequence) {
+        decode_slots::mark(updates, r, from, till);
+        return n;
+    }
+    line(updates, n, r, sequence, from, till);
+    n + 1
+}
+
+// The places of an entity's updates by their sequences, a later one over an earlier one: how many they are. The first above 128 is the last that is noted.
+pub fn updates_of(updates: &mut [u32], s: &[u8], start: usize, len: usize) -> usize
+    requires { ⌜ length (now updates) ≡ 387 ⌝ }
+    requires { ⌜ (start + len ≤ length (now s)) × (length (now s) ≤ 1048576) ⌝ }
+    ensures { λ r. ⌜ Listed (now (s .entry)) start len (now (updates .exit)) r ⌝ }
+{
+    let end = start + len;
+    let mut walk = realtime_views::updates(start);
+    let mut n: usize = 0;
+    loop {
+        match realtime_views::next_update(wire::part(s, 0, end), walk) {
+            Item::Done => return n,
+            Item::At {
+                start: at,
+                len: size,
+                walk: rest,
+            } => {
+                let sequence = realtime_views::sequence_at(s, at, size);
+                n = note(updates, n, sequence, at as u32, (at + size) as u32);
+                if n > LIMIT {
+                    return n;
+                }
+                walk = rest;
+            }
+        }
+    }
+}
+
+// How many updates an entity has, at their sequences or not: counted up to the first above 128.
+fn count_updates(s: &[u8], start: usize, len: usize) -> usize
+    requires { ⌜ start + len ≤ length (now s) ⌝ }
+    ensures { λ r. ⌜ Counted (now (s .entry)) start len r ⌝ }
+{
+    let end = start + len;
+    let mut walk = realtime_views::updates(start);
+    let mut n: usize = 0;
+    while n <= LIMIT {
+        match realtime_views::next_update(wire::part(s, 0, end), walk) {
+            Item::Done => return n,
+            Item::At {
+                start: _,
+                len: _,
+                walk: rest,
+            } => {
+                walk = rest;
+                n += 1;
+            }
+        }
+    }
+    n
+}
+
+// Whether the record of an entity has more than 128. Few records do, and counting tells of nearly all others.
+fn is_crowded(updates: &mut [u32], s: &[u8], start: usize, len: usize) -> bool
+    requires { ⌜ length (now updates) ≡ 387 ⌝ }
+    requires { ⌜ (start + len ≤ length (now s)) × (length (now s) ≤ 1048576) ⌝ }
+    ensures { λ r. ⌜ CrowdedRead (now (s .entry)) start len r ⌝ }
+{
+    if count_updates(s, start, len) <= LIMIT {
+        return false;
+    }
+    updates_of(updates, s, start, len) > LIMIT
+}
+
+// Whether a slot's record is of the message, and has more than 128.
+fn slot_crowded(updates: &mut [u32], marks: &[u32], slot: usize, s: &[u8]) -> bool
+    requires { ⌜ (length (now updates) ≡ 387) × (length (now marks) ≡ 6147) × (length (now s) ≤ 1048576) ⌝ }
+    requires { ⌜ ReadableSlot (now s) (now marks) slot ⌝ }
+    ensures { λ r. ⌜ r ≡ crowdedSlot (now (s .entry)) (now (marks .entry)) slot ⌝ }
+{
+    let from = decode_slots::word(marks, 3 * slot + 1);
+    if from >= BEYOND {
+        return false;
+    }
+    let till = decode_slots::word(marks, 3 * slot + 2);
+    is_crowded(updates, s, from, till - from)
+}
+
+// Whether one of the first n slots has such a record: the first that is found ends the search.
+pub fn any_crowded(updates: &mut [u32], marks: &[u32], order: &[u32], n: usize, s: &[u8]) -> bool
+    requires { ⌜ (length (now updates) ≡ 387) × (length (now marks) ≡ 6147) × (length (now order) ≡ 2049) ⌝ }
+    requires { ⌜ (n ≤ 2048) × (length (now s) ≤ 1048576) ⌝ }
+    requires { ⌜ All (ReadableSlot (now s) (now marks)) (take n (now order)) ⌝ }
+    ensures { λ r. ⌜ r ≡ crowdedIn (now (s .entry)) (now (marks .entry)) (take n (now (order .entry))) ⌝ }
+{
+    let mut i: usize = 0;
+    while i < n {
+        let slot = decode_slots::word(order, i);
+        if slot_crowded(updates, marks, slot, s) {
+            return true;
+        }
+        i += 1;
+    }
+    false
+}

@@ -1,2 +1,0 @@
-pub mod Entity
-pub mod Lengths

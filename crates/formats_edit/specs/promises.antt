@@ -1,0 +1,2 @@
+pub mod Edited
+pub mod Marked

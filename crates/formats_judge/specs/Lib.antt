@@ -1,0 +1,3 @@
+pub mod Judged
+pub mod promises
+pub mod laws

@@ -1,0 +1,16 @@
+-- `optional_float` meets its contract.
+use Rattle.formats_read.proofs.Laws
+use Rattle.formats_read.proofs.optional_float.Tie as tie
+use Rattle.formats_read.proofs.optional_float.Statement.{statement}
+use borrow.Author.Needs.{needs}
+use mathlib.Core.Path.{sym, _∙_}
+
+pub optional-float-spec : {M : Type 1} → statement M
+optional-float-spec =
+    tie.close (tie.spec
+    (λ c. λ v q h. absurd (Laws.optional-out v h (c .if1 .taken)))
+    (λ c κs. search needs)
+    (λ c. search needs)
+    (λ c κs. search needs)
+    (λ c. λ v q h. Laws.optional-some v h _ (sym (c .before .before .tag .ensures) ∙ c .before .if2 .taken) (λ x y. c .float .ensures x q y))
+    (λ c. λ v q h. Laws.optional-none v h (λ t. c .if2 .left (c .before .tag .ensures ∙ t))))

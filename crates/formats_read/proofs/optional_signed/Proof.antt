@@ -1,0 +1,17 @@
+-- `optional_signed` meets its contract.
+use Rattle.formats_read.proofs.Laws
+use Rattle.formats_read.proofs.optional_signed.Tie as tie
+use Rattle.formats_read.proofs.optional_signed.Statement.{statement}
+use borrow.Author.Needs.{needs}
+use mathlib.Core.Path.{sym, _∙_}
+use mir.Facts.{toZ-ofZ}
+
+pub optional-signed-spec : {M : Type 1} → statement M
+optional-signed-spec =
+    tie.close (tie.spec
+    (λ c. λ lo hi v q h. absurd (Laws.optional-out v h (c .if1 .taken)))
+    (λ c κs. search needs)
+    (λ c. search needs)
+    (λ c κs. search needs)
+    (λ c. λ lo hi v q h. Laws.optional-some v h _ (sym (c .before .before .tag .ensures) ∙ c .before .if2 .taken) (λ x y. toZ-ofZ (record { sfits = c .signed .ok }) ∙ c .signed .ensures lo hi x q y))
+    (λ c. λ lo hi v q h. Laws.optional-none v h (λ t. c .if2 .left (c .before .tag .ensures ∙ t))))

@@ -1,0 +1,4 @@
+pub mod Fields
+pub mod Here
+pub mod Lists
+pub mod Reads

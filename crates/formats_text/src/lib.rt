@@ -1,0 +1,136 @@
+// Whether a text is of a class.
+ghost use mathlib.Core.Path.{_≡_};
+ghost use mathlib.Core.List.{[]};
+ghost use Rattle.formats.specs.Class.{all, allowed, due, rows, next, sequences, inClass};
+ghost use Rattle.formats.specs.promises.Outcome.{classOf};
+ghost use Rattle.formats_text.specs.promises.Due.{ranges, dueOf};
+
+// What is due in a text of UTF-8: so many bytes, the first of them from one to another; or what came is wrong.
+pub enum Due {
+    Bytes(u64, u8, u8),
+    Wrong,
+}
+
+// What is due after a first byte: the rest of its row in the table.
+fn lead(b: u8) -> Due
+    ensures { λ r. ⌜ dueOf r ≡ due rows b ⌝ }
+{
+    if b < 0x80 {
+        return Due::Bytes(0, 0x80, 0xBF);
+    }
+    if b < 0xC2 {
+        return Due::Wrong;
+    }
+    if b < 0xE0 {
+        return Due::Bytes(1, 0x80, 0xBF);
+    }
+    if b == 0xE0 {
+        return Due::Bytes(2, 0xA0, 0xBF);
+    }
+    if b < 0xED {
+        return Due::Bytes(2, 0x80, 0xBF);
+    }
+    if b == 0xED {
+        return Due::Bytes(2, 0x80, 0x9F);
+    }
+    if b < 0xF0 {
+        return Due::Bytes(2, 0x80, 0xBF);
+    }
+    if b == 0xF0 {
+        return Due::Bytes(3, 0x90, 0xBF);
+    }
+    if b < 0xF4 {
+        return Due::Bytes(3, 0x80, 0xBF);
+    }
+    if b == 0xF4 {
+        return Due::Bytes(3, 0x80, 0x8F);
+    }
+    Due::Wrong
+}
+
+// What is due after a byte, where `more` bytes are due, the first of them from lo to hi.
+fn step(more: u64, lo: u8, hi: u8, b: u8) -> Due
+    ensures { λ r. ⌜ dueOf r ≡ next (ranges more lo hi) b ⌝ }
+{
+    if more == 0 {
+        return lead(b);
+    }
+    if b < lo {
+        return Due::Wrong;
+    }
+    if hi < b {
+        return Due::Wrong;
+    }
+    Due::Bytes(more - 1, 0x80, 0xBF)
+}
+
+fn utf8(v: &[u8]) -> bool
+    ensures { λ r. ⌜ r ≡ sequences (now (v .entry)) [] ⌝ }
+{
+    let mut more = 0;
+    let mut lo = 0x80;
+    let mut hi = 0xBF;
+    let mut i = 0;
+    while i < v.len() {
+        let Due::Bytes(k, l, h) = step(more, lo, hi, v[i]) else {
+            return false;
+        };
+        more = k;
+        lo = l;
+        hi = h;
+        i += 1;
+    }
+    more == 0
+}
+
+fn byte_allowed(c: u64, b: u8) -> bool
+    ensures { λ r. ⌜ r ≡ allowed (classOf c) b ⌝ }
+{
+    if c == 1 {
+        if 32 <= b {
+            return b <= 126;
+        }
+        return false;
+    }
+    if c == 2 {
+        if 33 <= b {
+            if b <= 126 {
+                return b != 58;
+            }
+        }
+        return false;
+    }
+    true
+}
+
+fn all_allowed(c: u64, v: &[u8]) -> bool
+    ensures { λ r. ⌜ r ≡ all (allowed (classOf c)) (now (v .entry)) ⌝ }
+{
+    let mut i = 0;
+    while i < v.len() {
+        if !byte_allowed(c, v[i]) {
+            return false;
+        }
+        i += 1;
+    }
+    true
+}
+
+// Whether a text is of the class that a table has as c.
+pub fn in_class(c: u64, v: &[u8]) -> bool
+    ensures { λ r. ⌜ r ≡ inClass (classOf c) (now (v .entry)) ⌝ }
+{
+    if c == 0 {
+        return true;
+    }
+    if c == 1 {
+        return all_allowed(c, v);
+    }
+    if c == 2 {
+        if v.len() == 0 {
+            return false;
+        }
+        return all_allowed(c, v);
+    }
+    utf8(v)
+}

@@ -1,0 +1,4 @@
+pub mod Found
+pub mod Headers
+pub mod Finished
+pub mod Counts

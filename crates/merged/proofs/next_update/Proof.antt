@@ -1,7 +1,0 @@
--- `merged::next_update` meets its contract: a walk over the listed fields that it names. Assumes nothing.
-use Rattle.merged.proofs.Walking as walking
-use Rattle.merged.proofs.next_update.Statement.{statement}
-use Rattle.merged.proofs.next_update.Tie as tie
-
-pub next-update-spec : {M : Type 1} → statement M
-next-update-spec = tie.close (tie.spec (λ c κs. walking.update-walks (c .before .pre)) (λ c. walking.next-update (c .next-item .ensures)))

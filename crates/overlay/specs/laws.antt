@@ -1,0 +1,6 @@
+pub mod Rules
+pub mod Buffer
+pub mod Keeps
+pub mod Kept
+pub mod Shown
+pub mod Entries

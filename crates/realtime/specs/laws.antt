@@ -1,0 +1,4 @@
+pub mod Tree
+pub mod Gains
+pub mod Steps
+pub mod Examples

@@ -1,0 +1,4 @@
+pub mod Typed
+pub mod Views
+pub mod promises
+pub mod laws

@@ -1,0 +1,80 @@
+-- Promise. The messages at a repeated field k, of all the messages at field a merged, one after the other.
+use mathlib.Core.Bool.{cond}
+use Prim.Native.Nat.{ℕ, _+_, _-_, _≤_, _<_}
+use mathlib.Core.Path.{_≡_}
+use mathlib.Core.List.{List, [], _∷_}
+use mathlib.Core.Option.{Option, none, some}
+use lib.ListN.{length, take, drop}
+use lib.Dec.{eqb}
+use Rattle.wire.specs.Wire.{mapO}
+use Rattle.realtime.specs.Tree.{Kind, aNumber, aText, aMessage, Schema, Tree, bindO, tree, join, sub, rep}
+use Rattle.realtime.specs.Schema.{feed, feedMessage, feedEntity, tripUpdate, stopTimeUpdate}
+use Rattle.realtime.specs.declared.Step.{Step}
+use Rattle.realtime_views.specs.declared.Met.{Met}
+use Rattle.realtime_views.specs.declared.Walk.{Walk}
+use Rattle.realtime_views.specs.declared.Item.{Item}
+
+-- those of the message that is open, and then those of the others
+abbrev pub leftOf : ℕ → ℕ → Option Tree → Option Tree → Option (List Tree)
+leftOf a k i o = bindO i (λ m. mapO (λ t. rep k (join m (sub a t))) o)
+
+-- of a walk in s, over a message of type t; those at field a are of type u
+abbrev pub left : Schema → ℕ → ℕ → ℕ → ℕ → List ℕ → Walk → Option (List Tree)
+left σ t a u k s w = leftOf a k (tree σ u (drop (w .at) (take (w .end) s))) (tree σ t (drop (w .outer) s))
+
+-- the places of a walk
+pub record Sound (s : List ℕ) (outer end at : ℕ) : Type 0 where
+  pub ahead : at ≤ end
+  pub behind : end ≤ outer
+  pub inside : outer ≤ length s
+
+-- what a step meets, where messages at field k are sought
+abbrev pub met : ℕ → Step → Met
+met k (Step.Number f v n) = Met.Other n
+met k (Step.Text f i l n) = Met.Other n
+met k (Step.Message f u i l n) = cond (eqb f k) (Met.Sought i l n) (Met.Other n)
+met k Step.End = Met.End
+met k Step.Broken = Met.Broken
+
+-- what a walk asks: its places, and the type of the messages at field a
+pub record Walks (σ : Schema) (t a u : ℕ) (s : List ℕ) (w : Walk) : Type 0 where
+  pub sound : Sound s (w .outer) (w .end) (w .at)
+  pub opened : (v : ℕ) → σ t a ≡ some (aMessage v) → v ≡ u
+
+-- the type of a listed message
+abbrev pub typeOf : Option Kind → ℕ
+typeOf none = 0
+typeOf (some aNumber) = 0
+typeOf (some aText) = 0
+typeOf (some (aMessage u)) = u
+
+-- an item, of type v, of the list l that was left: its first, and the others are left
+abbrev pub Yield : Schema → ℕ → ℕ → ℕ → ℕ → ℕ → List ℕ → List Tree → Item → Type 0
+Yield σ t a u k v s l (Item.At i n w) =
+    (m : Tree) × (r : List Tree) × (l ≡ m ∷ r) × (tree σ v (take n (drop i s)) ≡ some m) × (left σ t a u k s w ≡ some r)
+Yield σ t a u k v s l Item.Done = l ≡ []
+
+-- the bytes behind both places of a walk: fewer with each item
+abbrev pub ahead : List ℕ → Walk → ℕ
+ahead s w = length s - w .outer + (length s - w .at)
+
+-- an item of n bytes at i, and the walk w′ behind it
+pub record Found (s : List ℕ) (w : Walk) (i n : ℕ) (w′ : Walk) : Type 0 where
+  pub inside : i + n ≤ length s
+  pub sound : Sound s (w′ .outer) (w′ .end) (w′ .at)
+  pub less : ahead s w′ < ahead s w
+
+abbrev pub Lying : List ℕ → Walk → Item → Type 0
+Lying s w (Item.At i n w′) = Found s w i n w′
+Lying s w Item.Done = Unit {0}
+
+-- THE ANSWER r of a walk: where nothing is broken, the first of those that are left, or that none is
+pub record Yields (σ : Schema) (t a u k v : ℕ) (s : List ℕ) (w : Walk) (r : Item) : Type 0 where
+  pub of : (l : List Tree) → left σ t a u k s w ≡ some l → Yield σ t a u k v s l r
+  pub lying : Lying s w r
+
+abbrev pub NextEntity : List ℕ → Walk → Item → Type 0
+NextEntity s w r = Yields feed feedMessage 0 feedMessage 2 feedEntity s w r
+
+abbrev pub NextUpdate : List ℕ → Walk → Item → Type 0
+NextUpdate s w r = Yields feed feedEntity 3 tripUpdate 2 stopTimeUpdate s w r

@@ -1,0 +1,694 @@
+// The merged messages of a feed, read after the validator: a broken message is answered with anything.
+use realtime::FEED_ENTITY;
+use realtime::FEED_MESSAGE;
+use realtime::STOP_TIME_EVENT;
+use realtime::STOP_TIME_UPDATE;
+use realtime::Step;
+use realtime::TRIP_UPDATE;
+use realtime::next;
+ghost use mathlib.Core.Path.{_≡_};
+ghost use mathlib.Core.List.{[], _∷_};
+ghost use Prim.Native.Nat.{_+_, _≤_};
+ghost use lib.Dec.{eqb};
+ghost use lib.ListN.{length};
+ghost use mathlib.Core.Bool.{cond};
+ghost use Rattle.realtime.specs.Schema.{feed};
+ghost use Rattle.realtime_views.specs.promises.Reading.{Ready, Reads};
+ghost use Rattle.realtime_views.specs.promises.Scalars.{TripReads, TripReady, UpdateReads, blank, kept, own, scalars, takesAlong};
+ghost use Rattle.realtime_views.specs.promises.Narrow.{isValue, toDelay, toDirection, toHeader, toSpan, toTimestamp, toTrip};
+ghost use Rattle.realtime_views.specs.promises.Numbers.{EventReads, NumberReads, NumberReady, StopReads, fromDelay, fromEvent, fromStop, fromTime, noNumbers};
+ghost use Rattle.realtime_views.specs.Typed as typed;
+ghost use Rattle.realtime_views.specs.promises.Walks.{NextEntity, NextUpdate, Sound, Walks, Yields, met, typeOf};
+ghost use Rattle.realtime_views.specs.promises.Starts.{atMerged, atPlain};
+ghost use Rattle.realtime_views.specs.promises.Views.{DeletedRead, HeaderRead, SequenceRead, StopRead, TripRead};
+
+// The values of the enums that count.
+const DIFFERENTIAL: u64 = 1;
+
+const CANCELED: u64 = 3;
+
+const SKIPPED: u64 = 1;
+
+// The last value of a field: of a text, where it stands.
+pub enum Scalar {
+    Number(u64),
+    Text { start: usize, len: usize },
+    Nothing,
+}
+
+// The last value of each field of a message. No listed scalar has a number above 6.
+pub struct Scalars {
+    pub f1: Scalar,
+    pub f2: Scalar,
+    pub f3: Scalar,
+    pub f4: Scalar,
+    pub f5: Scalar,
+    pub f6: Scalar,
+}
+
+fn nothing() -> Scalars
+    ensures { λ r. ⌜ r ≡ blank ⌝ }
+{
+    Scalars {
+        f1: Scalar::Nothing,
+        f2: Scalar::Nothing,
+        f3: Scalar::Nothing,
+        f4: Scalar::Nothing,
+        f5: Scalar::Nothing,
+        f6: Scalar::Nothing,
+    }
+}
+
+fn pick(field: u64, own: u64, x: Scalar, old: Scalar) -> Scalar
+    ensures { λ r. ⌜ r ≡ cond (eqb field own) x old ⌝ }
+{
+    if field == own {
+        return x;
+    }
+    old
+}
+
+fn keep(d: Scalars, field: u64, x: Scalar) -> Scalars
+    ensures { λ r. ⌜ r ≡ kept d field x ⌝ }
+{
+    let f1 = d.f1;
+    let f2 = d.f2;
+    let f3 = d.f3;
+    let f4 = d.f4;
+    let f5 = d.f5;
+    let f6 = d.f6;
+    Scalars {
+        f1: pick(field, 1, x, f1),
+        f2: pick(field, 2, x, f2),
+        f3: pick(field, 3, x, f3),
+        f4: pick(field, 4, x, f4),
+        f5: pick(field, 5, x, f5),
+        f6: pick(field, 6, x, f6),
+    }
+}
+
+// The last values of a message's own fields, from `from` to the end, over what is known already.
+fn over_message(s: &[u8], from: usize, message: u64, before: Scalars) -> Scalars
+    requires { ⌜ Ready scalars (now s) from before ⌝ }
+    ensures { λ r. ⌜ Reads scalars own feed message (now (s .entry)) from before r ⌝ }
+{
+    let mut at = from;
+    let mut d = before;
+    loop {
+        match next(s, at, message) {
+            Step::Broken => return d,
+            Step::End => return d,
+            Step::Number(field, value, after) => {
+                d = keep(d, field, Scalar::Number(value));
+                at = after;
+            }
+            Step::Text(field, start, len, after) => {
+                d = keep(d, field, Scalar::Text { start, len });
+                at = after;
+            }
+            Step::Message(_, _, _, _, after) => {
+                at = after;
+            }
+        }
+    }
+}
+
+// The same of the messages at field `a`, all merged.
+fn over_field(s: &[u8], from: usize, message: u64, a: u64, before: Scalars) -> Scalars
+    requires { ⌜ Ready scalars (now s) from before ⌝ }
+    ensures { λ r. ⌜ Reads scalars (takesAlong (a ∷ [])) feed message (now (s .entry)) from before r ⌝ }
+{
+    let mut at = from;
+    let mut d = before;
+    loop {
+        match next(s, at, message) {
+            Step::Broken => return d,
+            Step::End => return d,
+            Step::Number(_, _, after) => {
+                at = after;
+            }
+            Step::Text(_, _, _, after) => {
+                at = after;
+            }
+            Step::Message(field, inner, start, _, after) => {
+                if field == a {
+                    d = over_message(wire::part(s, 0, after), start, inner, d);
+                }
+                at = after;
+            }
+        }
+    }
+}
+
+// Of the trip_updates of an entity: the last values of their trips, and their own.
+pub struct TripScalars {
+    pub trip: Scalars,
+    pub update: Scalars,
+}
+
+// Of one trip_update, in one walk, over what is known already.
+fn over_update(s: &[u8], from: usize, before: TripScalars) -> TripScalars
+    requires { ⌜ TripReady (now s) from before ⌝ }
+    ensures { λ r. ⌜ UpdateReads (now (s .entry)) from before r ⌝ }
+{
+    let mut at = from;
+    let mut trip = before.trip;
+    let mut update = before.update;
+    loop {
+        match next(s, at, TRIP_UPDATE) {
+            Step::Broken => return TripScalars { trip, update },
+            Step::End => return TripScalars { trip, update },
+            Step::Number(field, value, after) => {
+                update = keep(update, field, Scalar::Number(value));
+                at = after;
+            }
+            Step::Text(field, start, len, after) => {
+                update = keep(update, field, Scalar::Text { start, len });
+                at = after;
+            }
+            Step::Message(field, inner, start, _, after) => {
+                if field == 1 {
+                    trip = over_message(wire::part(s, 0, after), start, inner, trip);
+                }
+                at = after;
+            }
+        }
+    }
+}
+
+// Of all those of an entity.
+fn over_updates(s: &[u8], from: usize) -> TripScalars
+    requires { ⌜ from ≤ length (now s) ⌝ }
+    ensures { λ r. ⌜ TripReads (now (s .entry)) from r ⌝ }
+{
+    let mut at = from;
+    let mut d = TripScalars {
+        trip: nothing(),
+        update: nothing(),
+    };
+    loop {
+        match next(s, at, FEED_ENTITY) {
+            Step::Broken => return d,
+            Step::End => return d,
+            Step::Number(_, _, after) => {
+                at = after;
+            }
+            Step::Text(_, _, _, after) => {
+                at = after;
+            }
+            Step::Message(field, _, start, _, after) => {
+                if field == 3 {
+                    d = over_update(wire::part(s, 0, after), start, d);
+                }
+                at = after;
+            }
+        }
+    }
+}
+
+// Where a text stands. An absent text is empty.
+pub struct Span {
+    pub start: usize,
+    pub len: usize,
+}
+
+pub enum Timestamp {
+    Given(u64),
+    Absent,
+}
+
+pub enum Direction {
+    Given(u32),
+    Absent,
+}
+
+// In seconds.
+pub enum Delay {
+    Given(i32),
+    Absent,
+}
+
+// Seconds since 1970 UTC.
+pub enum Time {
+    Given(i64),
+    Absent,
+}
+
+pub struct Header {
+    pub differential: bool,
+    pub timestamp: Timestamp,
+}
+
+pub struct Trip {
+    pub id: Span,
+    pub time: Span,
+    pub date: Span,
+    pub route: Span,
+    pub cancelled: bool,
+    pub direction: Direction,
+    pub delay: Delay,
+}
+
+pub struct Event {
+    pub delay: Delay,
+    pub time: Time,
+}
+
+pub struct StopUpdate {
+    pub sequence: u32,
+    pub stop: Span,
+    pub arrival: Event,
+    pub departure: Event,
+    pub skipped: bool,
+}
+
+fn uint32(n: u64) -> u32
+    ensures { λ r. ⌜ r ≡ typed.uint32 n ⌝ }
+{
+    (n % 4294967296) as u32
+}
+
+fn int32(n: u64) -> i32
+    ensures { λ r. ⌜ r ≡ typed.int32 n ⌝ }
+{
+    let low = n % 4294967296;
+    if low < 2147483648 {
+        return low as i32;
+    }
+    -1 - ((4294967295 - low) as i32)
+}
+
+fn int64(n: u64) -> i64
+    ensures { λ r. ⌜ r ≡ typed.int64 n ⌝ }
+{
+    if n < 9223372036854775808 {
+        return n as i64;
+    }
+    -1 - ((18446744073709551615 - n) as i64)
+}
+
+fn span_of(x: Scalar) -> Span
+    ensures { λ r. ⌜ r ≡ toSpan x ⌝ }
+{
+    match x {
+        Scalar::Text { start, len } => Span { start, len },
+        Scalar::Number(_) => Span { start: 0, len: 0 },
+        Scalar::Nothing => Span { start: 0, len: 0 },
+    }
+}
+
+fn timestamp_of(x: Scalar) -> Timestamp
+    ensures { λ r. ⌜ r ≡ toTimestamp x ⌝ }
+{
+    match x {
+        Scalar::Number(n) => Timestamp::Given(n),
+        Scalar::Text { start: _, len: _ } => Timestamp::Absent,
+        Scalar::Nothing => Timestamp::Absent,
+    }
+}
+
+fn direction_of(x: Scalar) -> Direction
+    ensures { λ r. ⌜ r ≡ toDirection x ⌝ }
+{
+    match x {
+        Scalar::Number(n) => Direction::Given(uint32(n)),
+        Scalar::Text { start: _, len: _ } => Direction::Absent,
+        Scalar::Nothing => Direction::Absent,
+    }
+}
+
+fn delay_of(x: Scalar) -> Delay
+    ensures { λ r. ⌜ r ≡ toDelay x ⌝ }
+{
+    match x {
+        Scalar::Number(n) => Delay::Given(int32(n)),
+        Scalar::Text { start: _, len: _ } => Delay::Absent,
+        Scalar::Nothing => Delay::Absent,
+    }
+}
+
+fn is_value(v: u64, x: Scalar) -> bool
+    ensures { λ r. ⌜ r ≡ isValue v x ⌝ }
+{
+    match x {
+        Scalar::Number(n) => n % 4294967296 == v,
+        Scalar::Text { start: _, len: _ } => false,
+        Scalar::Nothing => false,
+    }
+}
+
+fn header_from(h: Scalars) -> Header
+    ensures { λ r. ⌜ r ≡ toHeader h ⌝ }
+{
+    let incrementality = h.f2;
+    let timestamp = h.f3;
+    Header {
+        differential: is_value(DIFFERENTIAL, incrementality),
+        timestamp: timestamp_of(timestamp),
+    }
+}
+
+// The trip of a descriptor's scalars and of those of its trip_update.
+fn trip_from(d: Scalars, u: Scalars) -> Trip
+    ensures { λ r. ⌜ r ≡ toTrip d u ⌝ }
+{
+    let id = d.f1;
+    let time = d.f2;
+    let date = d.f3;
+    let relationship = d.f4;
+    let route = d.f5;
+    let direction = d.f6;
+    let delay = u.f5;
+    Trip {
+        id: span_of(id),
+        time: span_of(time),
+        date: span_of(date),
+        route: span_of(route),
+        cancelled: is_value(CANCELED, relationship),
+        direction: direction_of(direction),
+        delay: delay_of(delay),
+    }
+}
+
+// A number that may be absent: `given` is 0 or 1. Plain words, where an enum would be copied with the bytes between its parts,
+// which takes longer than the reading.
+pub struct Number {
+    pub given: u64,
+    pub value: u64,
+}
+
+// The last numbers of an event.
+pub struct EventNumbers {
+    pub delay: Number,
+    pub time: Number,
+}
+
+fn no_numbers() -> EventNumbers
+    ensures { λ r. ⌜ r ≡ noNumbers ⌝ }
+{
+    let delay = Number { given: 0, value: 0 };
+    let time = Number { given: 0, value: 0 };
+    EventNumbers { delay, time }
+}
+
+// From `from` to the end, over what is known already.
+fn over_event(s: &[u8], from: usize, before: EventNumbers) -> EventNumbers
+    requires { ⌜ from ≤ length (now s) ⌝ }
+    ensures { λ r. ⌜ EventReads (now (s .entry)) from before r ⌝ }
+{
+    let mut at = from;
+    let mut delay = before.delay;
+    let mut time = before.time;
+    loop {
+        match next(s, at, STOP_TIME_EVENT) {
+            Step::Broken => return EventNumbers { delay, time },
+            Step::End => return EventNumbers { delay, time },
+            Step::Number(field, value, after) => {
+                if field == 1 {
+                    delay = Number { given: 1, value };
+                } else if field == 2 {
+                    time = Number { given: 1, value };
+                }
+                at = after;
+            }
+            Step::Text(_, _, _, after) => {
+                at = after;
+            }
+            Step::Message(_, _, _, _, after) => {
+                at = after;
+            }
+        }
+    }
+}
+
+fn delay_from(n: Number) -> Delay
+    ensures { λ r. ⌜ r ≡ fromDelay n ⌝ }
+{
+    if n.given == 1 {
+        return Delay::Given(int32(n.value));
+    }
+    Delay::Absent
+}
+
+fn time_from(n: Number) -> Time
+    ensures { λ r. ⌜ r ≡ fromTime n ⌝ }
+{
+    if n.given == 1 {
+        return Time::Given(int64(n.value));
+    }
+    Time::Absent
+}
+
+fn event_from(e: EventNumbers) -> Event
+    ensures { λ r. ⌜ r ≡ fromEvent e ⌝ }
+{
+    let delay = e.delay;
+    let time = e.time;
+    Event {
+        delay: delay_from(delay),
+        time: time_from(time),
+    }
+}
+
+fn stop_from(
+    sequence: u64,
+    stop: Span,
+    relationship: u64,
+    arrival: EventNumbers,
+    departure: EventNumbers,
+) -> StopUpdate
+    ensures { λ r. ⌜ r ≡ fromStop sequence stop relationship arrival departure ⌝ }
+{
+    StopUpdate {
+        sequence: uint32(sequence),
+        stop,
+        arrival: event_from(arrival),
+        departure: event_from(departure),
+        skipped: relationship % 4294967296 == SKIPPED,
+    }
+}
+
+// A stop_time_update from `from` to the end: the last of each, in its arrivals and in its departures too.
+fn over_stop(s: &[u8], from: usize) -> StopUpdate
+    requires { ⌜ from ≤ length (now s) ⌝ }
+    ensures { λ r. ⌜ StopReads (now (s .entry)) from r ⌝ }
+{
+    let mut at = from;
+    let mut sequence: u64 = 0;
+    let mut stop = Span { start: 0, len: 0 };
+    let mut relationship: u64 = 0;
+    let mut arrival = no_numbers();
+    let mut departure = no_numbers();
+    loop {
+        match next(s, at, STOP_TIME_UPDATE) {
+            Step::Broken => return stop_from(sequence, stop, relationship, arrival, departure),
+            Step::End => return stop_from(sequence, stop, relationship, arrival, departure),
+            Step::Number(field, value, after) => {
+                if field == 1 {
+                    sequence = value;
+                } else if field == 5 {
+                    relationship = value;
+                }
+                at = after;
+            }
+            Step::Text(field, start, len, after) => {
+                if field == 4 {
+                    stop = Span { start, len };
+                }
+                at = after;
+            }
+            Step::Message(field, _, start, _, after) => {
+                if field == 2 {
+                    arrival = over_event(wire::part(s, 0, after), start, arrival);
+                } else if field == 3 {
+                    departure = over_event(wire::part(s, 0, after), start, departure);
+                }
+                at = after;
+            }
+        }
+    }
+}
+
+// The last number at field `k` of a message from `from` to the end, 0 where there is none.
+fn last_number(s: &[u8], from: usize, message: u64, k: u64) -> u64
+    requires { ⌜ NumberReady (now s) from message k ⌝ }
+    ensures { λ r. ⌜ NumberReads (now (s .entry)) from message k r ⌝ }
+{
+    let mut at = from;
+    let mut last: u64 = 0;
+    loop {
+        match next(s, at, message) {
+            Step::Broken => return last,
+            Step::End => return last,
+            Step::Number(field, value, after) => {
+                if field == k {
+                    last = value;
+                }
+                at = after;
+            }
+            Step::Text(_, _, _, after) => {
+                at = after;
+            }
+            Step::Message(_, _, _, _, after) => {
+                at = after;
+            }
+        }
+    }
+}
+
+// The merged header of a message, wherever it stands.
+pub fn header_of(s: &[u8]) -> Header
+    ensures { λ r. ⌜ HeaderRead feed (now (s .entry)) r ⌝ }
+{
+    header_from(over_field(s, 0, FEED_MESSAGE, 1, nothing()))
+}
+
+// Of an entity in `len` bytes at `start`: whether it is deleted.
+pub fn is_deleted(s: &[u8], start: usize, len: usize) -> bool
+    requires { ⌜ start + len ≤ length (now s) ⌝ }
+    ensures { λ r. ⌜ DeletedRead feed (now (s .entry)) start len r ⌝ }
+{
+    last_number(wire::part(s, 0, start + len), start, FEED_ENTITY, 2) != 0
+}
+
+// And its trip, merged from all its trip_updates.
+pub fn trip_of(s: &[u8], start: usize, len: usize) -> Trip
+    requires { ⌜ start + len ≤ length (now s) ⌝ }
+    ensures { λ r. ⌜ TripRead feed (now (s .entry)) start len r ⌝ }
+{
+    let d = over_updates(wire::part(s, 0, start + len), start);
+    let trip = d.trip;
+    let update = d.update;
+    trip_from(trip, update)
+}
+
+// A stop_time_update in `len` bytes at `start`.
+pub fn stop_of(s: &[u8], start: usize, len: usize) -> StopUpdate
+    requires { ⌜ start + len ≤ length (now s) ⌝ }
+    ensures { λ r. ⌜ StopRead feed (now (s .entry)) start len r ⌝ }
+{
+    over_stop(wire::part(s, 0, start + len), start)
+}
+
+// And its sequence alone.
+pub fn sequence_at(s: &[u8], start: usize, len: usize) -> u32
+    requires { ⌜ start + len ≤ length (now s) ⌝ }
+    ensures { λ r. ⌜ SequenceRead feed (now (s .entry)) start len r ⌝ }
+{
+    uint32(last_number(wire::part(s, 0, start + len), start, STOP_TIME_UPDATE, 1))
+}
+
+// A walk over the messages at a repeated field, of all the messages at another field merged: the next place outside, and what is left of the message that is open.
+pub struct Walk {
+    pub outer: usize,
+    pub end: usize,
+    pub at: usize,
+}
+
+pub enum Item {
+    At {
+        start: usize,
+        len: usize,
+        walk: Walk,
+    },
+    Done,
+}
+
+// What a step meets, where messages at one field are looked for.
+pub enum Met {
+    // start, length, next place
+    Sought(usize, usize, usize),
+    // next place
+    Other(usize),
+    End,
+    Broken,
+}
+
+fn meet(k: u64, step: Step) -> Met
+    ensures { λ r. ⌜ r ≡ met k step ⌝ }
+{
+    match step {
+        Step::Broken => Met::Broken,
+        Step::End => Met::End,
+        Step::Number(_, _, after) => Met::Other(after),
+        Step::Text(_, _, _, after) => Met::Other(after),
+        Step::Message(field, _, start, len, after) => {
+            if field == k {
+                return Met::Sought(start, len, after);
+            }
+            Met::Other(after)
+        }
+    }
+}
+
+// The next message at field `k` of those of type `inner` at field `a` of a message.
+fn next_item(s: &[u8], message: u64, a: u64, inner: u64, k: u64, walk: Walk) -> Item
+    requires { ⌜ Walks feed message a inner (now s) walk ⌝ }
+    ensures { λ r. ⌜ Yields feed message a inner k (typeOf (feed inner k)) (now (s .entry)) walk r ⌝ }
+{
+    let mut outer = walk.outer;
+    let mut end = walk.end;
+    let mut at = walk.at;
+    loop {
+        match meet(k, next(wire::part(s, 0, end), at, inner)) {
+            Met::Broken => return Item::Done,
+            Met::Other(after) => {
+                at = after;
+            }
+            Met::Sought(start, len, after) => {
+                at = after;
+                let walk = Walk { outer, end, at };
+                return Item::At { start, len, walk };
+            }
+            Met::End => match meet(a, next(s, outer, message)) {
+                Met::Broken => return Item::Done,
+                Met::End => return Item::Done,
+                Met::Other(after) => {
+                    outer = after;
+                }
+                Met::Sought(start, _, after) => {
+                    at = start;
+                    end = after;
+                    outer = after;
+                }
+            },
+        }
+    }
+}
+
+// The entities of a message, one after the other.
+pub fn entities(s: &[u8]) -> Walk
+    ensures { λ r. ⌜ r ≡ atPlain (now (s .entry)) ⌝ }
+{
+    let n = s.len();
+    Walk {
+        outer: n,
+        end: n,
+        at: 0,
+    }
+}
+
+pub fn next_entity(s: &[u8], walk: Walk) -> Item
+    requires { ⌜ Sound (now s) (walk .outer) (walk .end) (walk .at) ⌝ }
+    ensures { λ r. ⌜ NextEntity (now (s .entry)) walk r ⌝ }
+{
+    next_item(s, FEED_MESSAGE, 0, FEED_MESSAGE, 2, walk)
+}
+
+// The stop_time_updates of an entity that starts at `start` and ends with `s`, one after the other.
+pub fn updates(start: usize) -> Walk
+    ensures { λ r. ⌜ r ≡ atMerged start ⌝ }
+{
+    Walk {
+        outer: start,
+        end: start,
+        at: start,
+    }
+}
+
+pub fn next_update(s: &[u8], walk: Walk) -> Item
+    requires { ⌜ Sound (now s) (walk .outer) (walk .end) (walk .at) ⌝ }
+    ensures { λ r. ⌜ NextUpdate (now (s .entry)) walk r ⌝ }
+{
+    next_item(s, FEED_ENTITY, 3, TRIP_UPDATE, 2, walk)
+}

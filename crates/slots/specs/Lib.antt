@@ -1,3 +1,0 @@
-pub mod Index
-pub mod Slots
-pub mod Places

@@ -1,2 +1,0 @@
-pub mod Ticket
-pub mod Examples
