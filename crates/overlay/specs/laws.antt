@@ -4,3 +4,5 @@ pub mod Keeps
 pub mod Kept
 pub mod Shown
 pub mod Entries
+pub mod Worked
+pub mod WorkedLookup
