@@ -2,3 +2,4 @@ pub mod Found
 pub mod Headers
 pub mod Finished
 pub mod Counts
+pub mod Worked

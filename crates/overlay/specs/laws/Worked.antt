@@ -154,7 +154,6 @@ pub worked : Holds table
 unfolding table lexOf keys.entriesIn keys.incompleteKey entities.tripIn entities.updatesIn entities.updateIn
     leaves.entries leaves.leaves leaves.countOf change.feedAt change.putFeed change.afterMessage change.afterAlerts
     change.withoutStale change.afterVehicles report
-worked = (
-    refl, refl, refl, refl, refl, refl, refl, refl, refl, refl,
-    refl, refl, refl, refl, refl, refl, refl, refl, refl, refl,
-    refl, refl, refl, refl, tt)
+worked =
+    (refl, (refl, (refl, (refl, (refl, (refl, (refl, (refl, (refl, (refl, (refl, (refl, (refl, (refl,
+    (refl, (refl, (refl, (refl, (refl, (refl, (refl, (refl, (refl, (refl, tt))))))))))))))))))))))))

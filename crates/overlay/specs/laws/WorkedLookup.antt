@@ -149,9 +149,8 @@ pub worked : Holds table
 unfolding table lexOf keys.entriesIn keys.incompleteKey entities.tripIn entities.updatesIn entities.updateIn
     lookup.first lookup.feed-of lookup.trip-at lookup.get-trip lookup.route-matches lookup.find-trip-by-descriptor
     lookup.resolve-trip-rt lookup.stop-matches lookup.vehicle-for-trip lookup.get-vehicle-for-trip
-worked = (
-    refl, refl, refl, refl, refl, refl, refl, refl, refl, refl,
-    refl, refl, refl, refl, refl, refl, refl, refl, refl, refl,
-    refl, refl, refl, refl, refl, refl, refl, refl, refl, refl,
-    refl, refl, refl, refl, refl, refl, refl, refl, refl, refl,
-    refl, refl, refl, tt)
+worked =
+    (refl, (refl, (refl, (refl, (refl, (refl, (refl, (refl, (refl, (refl, (refl, (refl, (refl, (refl,
+    (refl, (refl, (refl, (refl, (refl, (refl, (refl, (refl, (refl, (refl, (refl, (refl, (refl, (refl,
+    (refl, (refl, (refl, (refl, (refl, (refl, (refl, (refl, (refl, (refl, (refl, (refl, (refl, (refl,
+    (refl, tt)))))))))))))))))))))))))))))))))))))))))))
