@@ -166,9 +166,13 @@ byDate at = enrich.enrichTransit (on (late 60) 0 []) (legOf "f:9" at (toldOf abs
 abbrev pub alert : List (List ℕ) → List (List ℕ) → Alert
 alert trips stops = (inr (text "works"), (inl tt, (inl tt, (trips, ([], stops)))))
 
-abbrev pub applied dateApart noCandidate : Alert
+abbrev pub applied : Alert
 applied = alert (text "f:1" ∷ []) []
-dateApart = alert (text "f:1@20260101" ∷ []) []
+
+abbrev pub otherDate : Alert
+otherDate = alert (text "f:1@20260101" ∷ []) []
+
+abbrev pub noCandidate : Alert
 noCandidate = alert [] (text "f:x/A" ∷ [])
 
 abbrev pub alertsOn : Maybe ℤ → ℕ → List Alert → Feeds
@@ -276,7 +280,7 @@ table =
     ∷ row (statusOf (alertsOn (late 0) 0 [])) 1
     ∷ row (statusOf (alertsOn absent 0 [])) 0
     -- "an applicable candidate alert": one that isn't applicable, and one that is no candidate
-    ∷ row (statusOf (alertsOn absent 0 (dateApart ∷ noCandidate ∷ []))) 0
+    ∷ row (statusOf (alertsOn absent 0 (otherDate ∷ noCandidate ∷ []))) 0
     -- it "would apply" to a candidate
     ∷ row (statusOf (alertsOn absent 0 (alert (text "f:1@20260101" ∷ []) (text "f:x/A" ∷ []) ∷ []))) 2
     -- "of the trip's feed": the leg's trip of feed g has no alert of f
