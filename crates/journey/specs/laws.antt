@@ -3,3 +3,4 @@ pub mod Headers
 pub mod Finished
 pub mod Counts
 pub mod Worked
+pub mod WorkedCard

@@ -99,7 +99,7 @@ table =
     ∷ row (change.afterAlerts (text "f") [] noState) (only 0 (feedWith (inl tt) 0 [] [] []))
     ∷ row (sheet [] 0 noState) (only 1 (feedWith (inl tt) 0 [] [] []))
     -- feeds stand by id, and a call for one leaves the others
-    ∷ row (change.afterAlerts (text "e") [] full .1 .1 ) (at "e" (feedWith (inl tt) 0 [] [] []) ∷ full .1 .1)
+    ∷ row (change.afterAlerts (text "e") [] full .1 .1) (at "e" (feedWith (inl tt) 0 [] [] []) ∷ full .1 .1)
     -- "the later record at a key wins", in one message
     ∷ row (change.afterMessage (text "f") (message (one 1 ∷ one 2 ∷ []) end) (trips 0 [])) (trips 1 (at "1" (late 2 "" []) ∷ []))
     -- and over old ones where it is DIFFERENTIAL, which leaves the others; else the feed's trips go first
@@ -154,6 +154,46 @@ pub worked : Holds table
 unfolding table lexOf keys.entriesIn keys.incompleteKey entities.tripIn entities.updatesIn entities.updateIn
     leaves.entries leaves.leaves leaves.countOf change.feedAt change.putFeed change.afterMessage change.afterAlerts
     change.withoutStale change.afterVehicles report
-worked =
-    (refl, (refl, (refl, (refl, (refl, (refl, (refl, (refl, (refl, (refl, (refl, (refl, (refl, (refl,
-    (refl, (refl, (refl, (refl, (refl, (refl, (refl, (refl, (refl, (refl, tt))))))))))))))))))))))))
+worked = (
+  refl,
+  (
+    refl,
+    (
+      refl,
+      (
+        refl,
+        (
+          refl,
+          (
+            refl,
+            (
+              refl,
+              (
+                refl,
+                (
+                  refl,
+                  (
+                    refl,
+                    (
+                      refl,
+                      (
+                        refl,
+                        (
+                          refl,
+                          (
+                            refl,
+                            (refl, (refl, (refl, (refl, (refl, (refl, (refl, (refl, (refl, (refl, tt)))))))))),
+                          ),
+                        ),
+                      ),
+                    ),
+                  ),
+                ),
+              ),
+            ),
+          ),
+        ),
+      ),
+    ),
+  ),
+)
