@@ -13,9 +13,11 @@ use Rattle.formats.specs.Format.{Value}
 use Rattle.slices.specs.Lists.{lexOf}
 use Rattle.calendar.specs.Civil.{leapDay, yearFrom, monthFrom}
 use Rattle.calendar.specs.Paris.{isSummer}
-use Rattle.decode.specs.Trip.{Maybe, Trip, StopUpdate}
+use Rattle.decode.specs.Trip.{Trip, StopUpdate}
+use Rattle.basics.specs.Options.{Maybe}
 use Rattle.decode.specs.Leaves.{Trips}
-use Rattle.alerts.specs.Text.{text, same}
+use Rattle.alerts.specs.Text.{text}
+use Rattle.basics.specs.Texts.{same}
 use Rattle.alerts.specs.Alert.{Alert}
 use Rattle.overlay.specs.State.{Vehicles}
 use Rattle.overlay.specs.Records.{Feeds}
@@ -289,7 +291,7 @@ table =
 
 pub worked : Holds table
 unfolding table lexOf isSummer leapDay yearFrom monthFrom
-    lookup.first lookup.feed-of lookup.trip-at lookup.get-trip lookup.route-matches lookup.find-trip-by-descriptor
+    lookup.firstThat lookup.feed-of lookup.trip-at lookup.get-trip lookup.route-matches lookup.find-trip-by-descriptor
     lookup.resolve-trip-rt lookup.stop-matches lookup.stop-update-by-stop-id lookup.find-stop-update
     lookup.vehicle-for-trip lookup.get-vehicle-for-trip
     times.apply-time enrich.trip-rt enrich.cancels enrich.departs enrich.arrives enrich.live enrich.late enrich.applies

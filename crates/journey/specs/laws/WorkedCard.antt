@@ -11,7 +11,7 @@ use Rattle.formats.specs.Format.{Value, read, write}
 use Rattle.slices.specs.Lists.{lexOf}
 use Rattle.calendar.specs.Civil.{leapDay, yearFrom, monthFrom}
 use Rattle.calendar.specs.Paris.{isSummer}
-use Rattle.decode.specs.Trip.{Maybe}
+use Rattle.basics.specs.Options.{Maybe}
 use Rattle.alerts.specs.Text.{text}
 use Rattle.alerts.specs.Alert.{Alert}
 use Rattle.overlay.specs.Records.{Feeds}
@@ -184,7 +184,7 @@ table =
 
 pub worked : Holds table
 unfolding table lexOf isSummer leapDay yearFrom monthFrom
-    lookup.first lookup.feed-of lookup.trip-at lookup.get-trip lookup.route-matches lookup.find-trip-by-descriptor
+    lookup.firstThat lookup.feed-of lookup.trip-at lookup.get-trip lookup.route-matches lookup.find-trip-by-descriptor
     lookup.resolve-trip-rt lookup.stop-matches lookup.stop-update-by-stop-id lookup.find-stop-update
     lookup.vehicle-for-trip lookup.get-vehicle-for-trip
     times.apply-time enrich.trip-rt enrich.cancels enrich.departs enrich.arrives enrich.live enrich.late enrich.applies

@@ -9,7 +9,8 @@ use lib.IntN.{ℤ, pos, negsuc}
 use Rattle.formats.specs.Rows.{Row, row, Holds}
 use Rattle.slices.specs.Lists.{lexOf}
 use Rattle.realtime.specs.Tree.{Tree, end, num, txt, msg}
-use Rattle.decode.specs.Trip.{Maybe, Trip, StopUpdate}
+use Rattle.decode.specs.Trip.{Trip, StopUpdate}
+use Rattle.basics.specs.Options.{Maybe}
 use Rattle.decode.specs.Record as entities
 use Rattle.decode.specs.Key as keys
 use Rattle.decode.specs.Leaves as leaves
@@ -152,7 +153,7 @@ table =
 
 pub worked : Holds table
 unfolding table lexOf keys.entriesIn keys.incompleteKey entities.tripIn entities.updatesIn entities.updateIn
-    leaves.entries leaves.leaves leaves.countOf change.feedAt change.putFeed change.afterMessage change.afterAlerts
+    leaves.entries leaves.leaves leaves.countWithoutAt change.feedAt change.putFeed change.afterMessage change.afterAlerts
     change.withoutStale change.afterVehicles report
 worked = (
   refl,

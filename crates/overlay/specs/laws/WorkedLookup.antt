@@ -11,7 +11,8 @@ use lib.Dec.{eqb}
 use Rattle.formats.specs.Rows.{Row, row, Holds}
 use Rattle.slices.specs.Lists.{lexOf}
 use Rattle.realtime.specs.Tree.{Tree, end, num, txt, msg}
-use Rattle.decode.specs.Trip.{Maybe, Trip, StopUpdate}
+use Rattle.decode.specs.Trip.{Trip, StopUpdate}
+use Rattle.basics.specs.Options.{Maybe}
 use Rattle.decode.specs.Record as entities
 use Rattle.decode.specs.Key as keys
 use Rattle.decode.specs.Leaves.{Trips}
@@ -147,7 +148,7 @@ table =
 
 pub worked : Holds table
 unfolding table lexOf keys.entriesIn keys.incompleteKey entities.tripIn entities.updatesIn entities.updateIn
-    lookup.first lookup.feed-of lookup.trip-at lookup.get-trip lookup.route-matches lookup.find-trip-by-descriptor
+    lookup.firstThat lookup.feed-of lookup.trip-at lookup.get-trip lookup.route-matches lookup.find-trip-by-descriptor
     lookup.resolve-trip-rt lookup.stop-matches lookup.vehicle-for-trip lookup.get-vehicle-for-trip
 worked = (
   refl,

@@ -3,7 +3,7 @@ use mathlib.Core.Path.{_≡_, refl}
 use mathlib.Core.List.{[], _∷_, _++_}
 use mathlib.Core.Option.{some}
 use lib.ListN.{replicate}
-use Rattle.wire.specs.Wire.{broken, read, digits, varint, key, bytes, text, number, eight, string, group, four, payload, until, value, field, many, fields}
+use Rattle.wire.specs.Wire.{broken, read, digits, varint, key, bytes, lengthDelimited, number, eight, string, group, four, payload, until, value, field, many, fields}
 
 -- 150 is 96 01
 varint-150 : varint (0x96 ∷ 0x01 ∷ []) ≡ read 150 []
@@ -54,12 +54,12 @@ field-150 = refl
 -- field 2, "testing": 12 07 74 65 73 74 69 6e 67
 field-testing : fields (0x12 ∷ 0x07 ∷ 0x74 ∷ 0x65 ∷ 0x73 ∷ 0x74 ∷ 0x69 ∷ 0x6e ∷ 0x67 ∷ [])
     ≡ some (record { number = 2; value = string (0x74 ∷ 0x65 ∷ 0x73 ∷ 0x74 ∷ 0x69 ∷ 0x6e ∷ 0x67 ∷ []) } ∷ [])
-unfolding fields many field value payload text bytes key varint digits
+unfolding fields many field value payload lengthDelimited bytes key varint digits
 field-testing = refl
 
 -- field 3, a message that is field 1, 150: 1a 03 08 96 01
 field-message : fields (0x1a ∷ 0x03 ∷ 0x08 ∷ 0x96 ∷ 0x01 ∷ []) ≡ some (record { number = 3; value = string (0x08 ∷ 0x96 ∷ 0x01 ∷ []) } ∷ [])
-unfolding fields many field value payload text bytes key varint digits
+unfolding fields many field value payload lengthDelimited bytes key varint digits
 field-message = refl
 
 -- eight bytes and four, as they stand; one fewer, and a length beyond the last byte, are broken
@@ -78,7 +78,7 @@ unfolding field value payload bytes key varint digits
 four-cut = refl
 
 string-cut : field 16 (0x12 ∷ 0x03 ∷ 0x61 ∷ 0x62 ∷ []) ≡ broken
-unfolding field value payload text bytes key varint digits
+unfolding field value payload lengthDelimited bytes key varint digits
 string-cut = refl
 
 -- wire types 6 and 7
@@ -93,7 +93,7 @@ type-7 = refl
 -- a group holds fields of every wire type, one of them a group again, and is closed by its own number
 group-mixed : field 16 (0x0b ∷ 0x08 ∷ 0x05 ∷ 0x11 ∷ 1 ∷ 2 ∷ 3 ∷ 4 ∷ 5 ∷ 6 ∷ 7 ∷ 8 ∷ 0x1a ∷ 0x01 ∷ 0x0c
     ∷ 0x23 ∷ 0x24 ∷ 0x2d ∷ 1 ∷ 2 ∷ 3 ∷ 4 ∷ 0x0c ∷ 9 ∷ []) ≡ read (record { number = 1; value = group }) (9 ∷ [])
-unfolding field value until payload text bytes key varint digits
+unfolding field value until payload lengthDelimited bytes key varint digits
 group-mixed = refl
 
 -- by another's number, or not at all
