@@ -1,5 +1,5 @@
--- Law. Document 01, "Times and status", worked on one leg: a row for each sentence and each likely slip. What is due was
--- written by hand.
+-- Law. Document 01, "Times and status", worked on one leg: a row for each sentence and each likely slip. What is due
+-- was written by hand.
 use Prim.Native.Nat.{ℕ, _+_}
 use Prim.Native.String.{String}
 use mathlib.Core.Path.{refl}
@@ -8,7 +8,7 @@ use mathlib.Core.List.{List, [], _∷_}
 use mathlib.Core.Logic.{inl, inr}
 use mathlib.Core.Option.{Option, none, some}
 use lib.IntN.{ℤ, pos, negsuc}
-use Rattle.formats.specs.Rows.{Row, row, Holds}
+use Rattle.basics.specs.Rows.{Row, row, Holds, _also_}
 use Rattle.formats.specs.Format.{Value}
 use Rattle.slices.specs.Lists.{lexOf}
 use Rattle.calendar.specs.Civil.{leapDay, yearFrom, monthFrom}
@@ -63,7 +63,7 @@ feedF trips vehicles alerts f =
 abbrev pub on : Maybe ℤ → ℕ → List (ℕ × StopUpdate) → Feeds
 on delay cancelled updates = feedF ((text "1", trip delay cancelled updates) ∷ []) [] []
 
--- what a leg has besides its schedule: realtime departure, arrival; their delays; cancelled; place and time; middle stops
+-- what a leg has besides its schedule: realtime departure, arrival; delays; cancelled; place and time; middle stops
 pub record Told : Type 0 where
   pub departure : Maybe ℤ
   pub arrival : Maybe ℤ
@@ -162,7 +162,8 @@ apart t =
 
 -- the delay of a trip f:9 that only its descriptor finds
 abbrev pub byDate : ℕ → Maybe ℤ
-byDate at = enrich.enrichTransit (on (late 60) 0 []) (legOf "f:9" at (toldOf absent absent absent absent 0)) .departureDelay
+byDate at =
+    enrich.enrichTransit (on (late 60) 0 []) (legOf "f:9" at (toldOf absent absent absent absent 0)) .departureDelay
 
 -- alerts: of the leg's trip; of another date of it, a candidate; one that would apply and is no candidate
 abbrev pub alert : List (List ℕ) → List (List ℕ) → Alert
@@ -188,38 +189,53 @@ statusOf B = seen B .0
 unfoldable pub table : List Row
 table =
     -- "Stop update: by sequence": each endpoint by its own
-    row (seen (on absent 0 ((1, update "" absent absent (late 11) absent) ∷ (5, update "" (late 55) absent absent absent) ∷ [])))
+    row (seen (on absent 0 ((1, update "" absent absent (late 11) absent)
+    ∷ (5, update "" (late 55) absent absent absent) ∷ [])))
     (due 3 (noon 11) (end 55) (late 11) (late 55) 0)
     -- "else by stop id", of several the smallest sequence
-    ∷ row (seen (on absent 0 ((2, update "A" absent absent (late 20) absent) ∷ (3, update "A" absent absent (late 30) absent)
+    ∷ row (seen (on absent 0 ((2, update "A" absent absent (late 20) absent)
+    ∷ (3, update "A" absent absent (late 30) absent)
     ∷ (4, update "B" (late 40) absent absent absent) ∷ [])))
     (due 3 (noon 20) (end 40) (late 20) (late 40) 0)
     -- likely slip: stop id before sequence
-    ∷ row (seen (on absent 0 ((1, update "Z" absent absent (late 10) absent) ∷ (2, update "A" absent absent (late 20) absent) ∷ [])))
+    ∷ row (seen (on absent 0 ((1, update "Z" absent absent (late 10) absent)
+    ∷ (2, update "A" absent absent (late 20) absent) ∷ [])))
     (due 3 (noon 10) (end 0) (late 10) (late 0) 0)
     -- "own absolute time, else the other event's, beats delay; the delay is the difference": of the departure
-    ∷ row (seen (on absent 0 ((1, update "" absent (noon 10) (late 50) (noon 20)) ∷ []))) (due 3 (noon 20) (end 0) (late 20) (late 0) 0)
-    ∷ row (seen (on absent 0 ((1, update "" (late 60) (noon 10) (late 50) absent) ∷ []))) (due 3 (noon 10) (end 0) (late 10) (late 0) 0)
+    ∷ row (seen (on absent 0 ((1, update "" absent (noon 10) (late 50) (noon 20)) ∷ [])))
+    (due 3 (noon 20) (end 0) (late 20) (late 0) 0)
+    ∷ row (seen (on absent 0 ((1, update "" (late 60) (noon 10) (late 50) absent) ∷ [])))
+    (due 3 (noon 10) (end 0) (late 10) (late 0) 0)
     -- and of the arrival
-    ∷ row (seen (on absent 0 ((5, update "" (late 50) (end 10) absent (end 20)) ∷ []))) (due 3 (noon 0) (end 10) (late 0) (late 10) 0)
-    ∷ row (seen (on absent 0 ((5, update "" (late 50) absent (late 60) (end 20)) ∷ []))) (due 3 (noon 0) (end 20) (late 0) (late 20) 0)
+    ∷ row (seen (on absent 0 ((5, update "" (late 50) (end 10) absent (end 20)) ∷ [])))
+    (due 3 (noon 0) (end 10) (late 0) (late 10) 0)
+    ∷ row (seen (on absent 0 ((5, update "" (late 50) absent (late 60) (end 20)) ∷ [])))
+    (due 3 (noon 0) (end 20) (late 0) (late 20) 0)
     -- a time as scheduled is no delay, an earlier one is
-    ∷ row (seen (on (late 60) 0 ((1, update "" absent absent absent (noon 0)) ∷ (5, update "" absent (end 0) absent absent) ∷ [])))
+    ∷ row (seen (on (late 60) 0 ((1, update "" absent absent absent (noon 0))
+    ∷ (5, update "" absent (end 0) absent absent) ∷ [])))
     (due 1 (noon 0) (end 0) (late 0) (late 0) 0)
     ∷ row (seen (on absent 0 ((1, update "" absent absent absent (inr (pos 1767265190))) ∷ [])))
     (due 3 (inr (pos 1767265190)) (end 0) (early 9) (late 0) 0)
     -- "its low 32 bits read as a signed number"
-    ∷ row (apart 3094168447 ∷ apart 3094168448 ∷ apart 0 ∷ []) (pos 2147483647 ∷ negsuc 2147483647 ∷ negsuc 946684799 ∷ [])
+    ∷ row (apart 3094168447 ∷ apart 3094168448 ∷ apart 0 ∷ [])
+    (pos 2147483647 ∷ negsuc 2147483647 ∷ negsuc 946684799 ∷ [])
     -- "Otherwise own delay": of the departure, of the arrival
-    ∷ row (seen (on (late 60) 0 ((1, update "" (late 45) absent (late 7) absent) ∷ []))) (due 3 (noon 7) (end 60) (late 7) (late 60) 0)
-    ∷ row (seen (on (late 60) 0 ((5, update "" (late 45) absent (late 7) absent) ∷ []))) (due 3 (noon 60) (end 45) (late 60) (late 45) 0)
+    ∷ row (seen (on (late 60) 0 ((1, update "" (late 45) absent (late 7) absent) ∷ [])))
+    (due 3 (noon 7) (end 60) (late 7) (late 60) 0)
+    ∷ row (seen (on (late 60) 0 ((5, update "" (late 45) absent (late 7) absent) ∷ [])))
+    (due 3 (noon 60) (end 45) (late 60) (late 45) 0)
     -- "else the other event's, else the trip's"; likely slip: the trip's delay before the other event's
-    ∷ row (seen (on (late 60) 0 ((1, update "" (late 45) absent absent absent) ∷ []))) (due 3 (noon 45) (end 60) (late 45) (late 60) 0)
-    ∷ row (seen (on (late 60) 0 ((5, update "" absent absent (late 7) absent) ∷ []))) (due 3 (noon 60) (end 7) (late 60) (late 7) 0)
+    ∷ row (seen (on (late 60) 0 ((1, update "" (late 45) absent absent absent) ∷ [])))
+    (due 3 (noon 45) (end 60) (late 45) (late 60) 0)
+    ∷ row (seen (on (late 60) 0 ((5, update "" absent absent (late 7) absent) ∷ [])))
+    (due 3 (noon 60) (end 7) (late 60) (late 7) 0)
     ∷ row (seen (on (late 60) 0 ((1, skipped) ∷ []))) (due 3 (noon 60) (end 60) (late 60) (late 60) 0)
     -- a delay of 0 is given, too
-    ∷ row (seen (on (late 60) 0 ((1, update "" absent absent (late 0) absent) ∷ []))) (due 3 (noon 0) (end 60) (late 0) (late 60) 0)
-    -- "else 0"; "An event has realtime where an update is found": at one endpoint, "the leg takes times and delays of both"
+    ∷ row (seen (on (late 60) 0 ((1, update "" absent absent (late 0) absent) ∷ [])))
+    (due 3 (noon 0) (end 60) (late 0) (late 60) 0)
+    -- "else 0"; "An event has realtime where an update is found": at one endpoint,
+    -- "the leg takes times and delays of both"
     ∷ row (seen (on absent 0 ((1, skipped) ∷ []))) (due 1 (noon 0) (end 0) (late 0) (late 0) 0)
     ∷ row (seen (on absent 0 ((5, skipped) ∷ []))) (due 1 (noon 0) (end 0) (late 0) (late 0) 0)
     -- "a delay applies": the trip's, also 0
@@ -286,7 +302,8 @@ table =
     -- it "would apply" to a candidate
     ∷ row (statusOf (alertsOn absent 0 (alert (text "f:1@20260101" ∷ []) (text "f:x/A" ∷ []) ∷ []))) 2
     -- "of the trip's feed": the leg's trip of feed g has no alert of f
-    ∷ row (seenOf (alertsOn absent 0 (applied ∷ alert [] (text "f:A" ∷ []) ∷ [])) "g:1" 1767308400 (toldOf absent absent absent absent 0) .0) 0
+    ∷ row (seenOf (alertsOn absent 0 (applied ∷ alert [] (text "f:A" ∷ []) ∷ []))
+    "g:1" 1767308400 (toldOf absent absent absent absent 0) .0) 0
     ∷ []
 
 pub worked : Holds table
@@ -296,88 +313,9 @@ unfolding table lexOf isSummer leapDay yearFrom monthFrom
     lookup.vehicle-for-trip lookup.get-vehicle-for-trip
     times.apply-time enrich.trip-rt enrich.cancels enrich.departs enrich.arrives enrich.live enrich.late enrich.applies
     enrich.alerts-of enrich.disrupted enrich.enrichMiddle enrich.enrichTransit enrich.status-of
-worked = (
-  refl,
-  (
-    refl,
-    (
-      refl,
-      (
-        refl,
-        (
-          refl,
-          (
-            refl,
-            (
-              refl,
-              (
-                refl,
-                (
-                  refl,
-                  (
-                    refl,
-                    (
-                      refl,
-                      (
-                        refl,
-                        (
-                          refl,
-                          (
-                            refl,
-                            (
-                              refl,
-                              (
-                                refl,
-                                (
-                                  refl,
-                                  (
-                                    refl,
-                                    (
-                                      refl,
-                                      (
-                                        refl,
-                                        (
-                                          refl,
-                                          (
-                                            refl,
-                                            (
-                                              refl,
-                                              (
-                                                refl,
-                                                (
-                                                  refl,
-                                                  (
-                                                    refl,
-                                                    (
-                                                      refl,
-                                                      (
-                                                        refl,
-                                                        (refl, (refl, (refl, (refl, (refl, (refl, (refl, (refl, (refl, (refl, (refl, tt))))))))))),
-                                                      ),
-                                                    ),
-                                                  ),
-                                                ),
-                                              ),
-                                            ),
-                                          ),
-                                        ),
-                                      ),
-                                    ),
-                                  ),
-                                ),
-                              ),
-                            ),
-                          ),
-                        ),
-                      ),
-                    ),
-                  ),
-                ),
-              ),
-            ),
-          ),
-        ),
-      ),
-    ),
-  ),
-)
+worked =
+    refl also refl also refl also refl also refl also refl also refl also refl also refl
+    also refl also refl also refl also refl also refl also refl also refl also refl also refl
+    also refl also refl also refl also refl also refl also refl also refl also refl also refl
+    also refl also refl also refl also refl also refl also refl also refl also refl also refl
+    also refl also refl also refl also tt

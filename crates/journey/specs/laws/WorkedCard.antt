@@ -1,12 +1,12 @@
 -- Law. Document 01, "Times and status" of a whole card, and the card's form, worked. What is due was written by hand.
-use Prim.Native.Nat.{ℕ}
+use Prim.Native.Nat.{ℕ, zero, suc}
 use Prim.Native.String.{String}
 use mathlib.Core.Path.{refl}
 use mathlib.Core.List.{List, [], _∷_, map}
 use mathlib.Core.Logic.{inl, inr}
 use mathlib.Core.Option.{Option, none, some, Option·map}
 use lib.IntN.{ℤ, pos, negsuc}
-use Rattle.formats.specs.Rows.{Row, row, Holds}
+use Rattle.basics.specs.Rows.{Row, row, Holds, _also_}
 use Rattle.formats.specs.Format.{Value, read, write}
 use Rattle.slices.specs.Lists.{lexOf}
 use Rattle.calendar.specs.Civil.{leapDay, yearFrom, monthFrom}
@@ -52,7 +52,8 @@ cardWith departure arrival duration status headers legs = record {
 
 -- a card that arrives at 100 to 400, with a duration, a status and a header that are dropped
 abbrev pub finished : List Alert → List (Value leg) → Card
-finished alerts legs = enrich.enrich-with-realtime (feeds alerts) (cardWith (pos 100) (pos 400) (pos 7) 3 ("old" ∷ []) legs)
+finished alerts legs =
+    enrich.enrich-with-realtime (feeds alerts) (cardWith (pos 100) (pos 400) (pos 7) 3 ("old" ∷ []) legs)
 
 -- alerts of a trip, with a header or a description
 abbrev pub alert : Maybe (List ℕ) → Maybe (List ℕ) → String → Alert
@@ -60,6 +61,11 @@ alert header description trip = (header, (description, (inl tt, (text trip ∷ [
 
 abbrev pub headed : String → String → Alert
 headed h trip = alert (inr (text h)) absent trip
+
+-- n letters of two bytes each
+abbrev pub accented : ℕ → List ℕ
+accented zero = []
+accented (suc n) = 0xc3 ∷ 0xa9 ∷ accented n
 
 abbrev pub labels : List Alert → List String → List (List ℕ)
 labels alerts trips = finished alerts (map plain trips) .headers
@@ -146,8 +152,8 @@ bytes =
 
 unfoldable pub table : List Row
 table =
-    -- "The first transit leg's realtime departure and the last one's realtime arrival .. become the card's; the duration
-    -- is always the card's arrival minus departure. Walk legs don't change."
+    -- "The first transit leg's realtime departure and the last one's realtime arrival .. become the card's; the
+    -- duration is always the card's arrival minus departure. Walk legs don't change."
     row (finished [] (walk "a" ∷ plain "f:1" ∷ walk "b" ∷ plain "f:3" ∷ plain "f:2" ∷ walk "c" ∷ []))
     (cardWith (pos 1767265260) (pos 1767266640) (pos 1380) 3 []
     (walk "a" ∷ ride "f:1" (noon 60) (end 60) (late 60) (late 60) 0 ∷ walk "b" ∷ plain "f:3"
@@ -169,12 +175,17 @@ table =
     ∷ row (finished (headed "a" "f:3" ∷ []) (plain "f:3" ∷ plain "f:1" ∷ []) .status) 3
     ∷ row (finished (headed "a" "f:3" ∷ []) (plain "f:3" ∷ plain "f:3" ∷ []) .status) 2
     -- "Headers are strictly ascending by bytes": of every leg, each once, in every status
-    ∷ row (labels (headed "b" "f:1" ∷ headed "B" "f:4" ∷ headed "a" "f:1" ∷ headed "ab" "f:1" ∷ headed "b" "f:4" ∷ []) ("f:1" ∷ "f:4" ∷ []))
+    ∷ row (labels (headed "b" "f:1" ∷ headed "B" "f:4" ∷ headed "a" "f:1" ∷ headed "ab" "f:1"
+    ∷ headed "b" "f:4" ∷ []) ("f:1" ∷ "f:4" ∷ []))
     (text "B" ∷ text "a" ∷ text "ab" ∷ text "b" ∷ [])
     -- "the label is the header itself, or else the description"; "an empty text gives no label"
     ∷ row (labels (alert absent (inr (text "d")) "f:1" ∷ alert (inr (text "h")) (inr (text "e")) "f:1"
-    ∷ alert (inr []) (inr (text "x")) "f:1" ∷ alert absent (inr []) "f:1" ∷ alert absent absent "f:1" ∷ []) ("f:1" ∷ []))
+    ∷ alert (inr []) (inr (text "x")) "f:1" ∷ alert absent (inr []) "f:1"
+    ∷ alert absent absent "f:1" ∷ []) ("f:1" ∷ []))
     (text "d" ∷ text "h" ∷ [])
+    -- "or else the description's first 120 characters"; likely slip: cutting at 120 bytes. A header isn't cut
+    ∷ row (labels (alert absent (inr (accented 121)) "f:1" ∷ []) ("f:1" ∷ [])) (accented 120 ∷ [])
+    ∷ row (labels (alert (inr (accented 121)) absent "f:1" ∷ []) ("f:1" ∷ [])) (accented 121 ∷ [])
     -- one of another trip gives none
     ∷ row (labels (headed "a" "f:2" ∷ []) ("f:1" ∷ [])) []
     -- the card's form, byte for byte, written and read
@@ -191,4 +202,5 @@ unfolding table lexOf isSummer leapDay yearFrom monthFrom
     enrich.alerts-of enrich.disrupted enrich.enrichMiddle enrich.enrichTransit enrich.status-of enrich.labels-of
     enrich.headers-of enrich.enrich-with-realtime
 worked =
-    (refl, (refl, (refl, (refl, (refl, (refl, (refl, (refl, (refl, (refl, (refl, (refl, (refl, (refl, tt))))))))))))))
+    refl also refl also refl also refl also refl also refl also refl also refl also refl
+    also refl also refl also refl also refl also refl also refl also refl also tt

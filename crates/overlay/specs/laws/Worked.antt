@@ -6,7 +6,7 @@ use mathlib.Core.Path.{refl}
 use mathlib.Core.List.{List, [], _∷_, _++_}
 use mathlib.Core.Logic.{inl, inr}
 use lib.IntN.{ℤ, pos, negsuc}
-use Rattle.formats.specs.Rows.{Row, row, Holds}
+use Rattle.basics.specs.Rows.{Row, row, Holds, _also_}
 use Rattle.slices.specs.Lists.{lexOf}
 use Rattle.realtime.specs.Tree.{Tree, end, num, txt, msg}
 use Rattle.decode.specs.Trip.{Trip, StopUpdate}
@@ -15,8 +15,9 @@ use Rattle.decode.specs.Record as entities
 use Rattle.decode.specs.Key as keys
 use Rattle.decode.specs.Leaves as leaves
 use Rattle.alerts.specs.Text.{text}
-use Rattle.alerts.specs.Alert.{Alert}
-use Rattle.overlay.specs.State.{Vehicle, Vehicles, Feed, State, feedWith, stateWith, noState}
+use Rattle.formats.specs.Format.{write}
+use Rattle.alerts.specs.Alert.{Alert, alertSheet}
+use Rattle.overlay.specs.State.{Vehicle, Vehicles, Feed, State, vehicleSheet, feedWith, stateWith, noState}
 use Rattle.overlay.specs.Change as change
 use Rattle.overlay.specs.Report.{report}
 
@@ -46,12 +47,17 @@ deleted n = msg 3 3 (msg 1 4 (txt 1 (text "1") end) (num 5 n end)) (num 2 1 end)
 abbrev pub two : ℕ → Tree
 two n =
     msg 3 3 (msg 1 4 (txt 1 (text "2") end) (num 5 n
-    (msg 2 5 (txt 4 (text "A") end) (msg 2 5 (num 1 3 (txt 4 (text "B") end)) (msg 2 5 (txt 4 (text "C") end) end))))) end
+    (msg 2 5 (txt 4 (text "A") end) (msg 2 5 (num 1 3 (txt 4 (text "B") end))
+    (msg 2 5 (txt 4 (text "C") end) end))))) end
 
 -- a message: its entities, and its header
 abbrev pub message : List Tree → Tree → Tree
 message [] header = msg 1 1 header end
 message (e ∷ l) header = msg 2 2 e (message l header)
+
+-- what a message for feed f makes of a state
+abbrev pub after : List Tree → Tree → State → State
+after entities header s = change.afterMessage (text "f") (message entities header) s
 
 abbrev pub differential : Tree
 differential = num 2 1 end
@@ -102,19 +108,19 @@ table =
     -- feeds stand by id, and a call for one leaves the others
     ∷ row (change.afterAlerts (text "e") [] full .1 .1) (at "e" (feedWith (inl tt) 0 [] [] []) ∷ full .1 .1)
     -- "the later record at a key wins", in one message
-    ∷ row (change.afterMessage (text "f") (message (one 1 ∷ one 2 ∷ []) end) (trips 0 [])) (trips 1 (at "1" (late 2 "" []) ∷ []))
+    ∷ row (after (one 1 ∷ one 2 ∷ []) end (trips 0 [])) (trips 1 (at "1" (late 2 "" []) ∷ []))
     -- and over old ones where it is DIFFERENTIAL, which leaves the others; else the feed's trips go first
-    ∷ row (change.afterMessage (text "f") (message (one 2 ∷ []) differential) (trips 2 (at "1" (late 1 "" []) ∷ at "3" (late 3 "" []) ∷ [])))
+    ∷ row (after (one 2 ∷ []) differential (trips 2 (at "1" (late 1 "" []) ∷ at "3" (late 3 "" []) ∷ [])))
     (trips 2 (at "1" (late 2 "" []) ∷ at "3" (late 3 "" []) ∷ []))
-    ∷ row (change.afterMessage (text "f") (message (one 2 ∷ []) end) (trips 2 (at "1" (late 1 "" []) ∷ at "3" (late 3 "" []) ∷ [])))
+    ∷ row (after (one 2 ∷ []) end (trips 2 (at "1" (late 1 "" []) ∷ at "3" (late 3 "" []) ∷ [])))
     (trips 1 (at "1" (late 2 "" []) ∷ []))
     -- "deleted entities are passed over": the record before stays
-    ∷ row (change.afterMessage (text "f") (message (one 1 ∷ deleted 2 ∷ []) end) (trips 0 [])) (trips 1 (at "1" (late 1 "" []) ∷ []))
+    ∷ row (after (one 1 ∷ deleted 2 ∷ []) end (trips 0 [])) (trips 1 (at "1" (late 1 "" []) ∷ []))
     -- "an absent sequence is 0", and the later update at a sequence wins too
-    ∷ row (change.afterMessage (text "f") (message (two 4 ∷ []) end) (trips 0 []))
+    ∷ row (after (two 4 ∷ []) end (trips 0 []))
     (trips 1 (at "2" (late 4 "" ((0, calling "C") ∷ (3, calling "B") ∷ [])) ∷ []))
     -- "`trip_update_count` counts keys without '@' after a message"; vehicles and alerts stay, and so does the version
-    ∷ row (change.afterMessage (text "f") (message (dated 60 ∷ []) (stamped 9)) full)
+    ∷ row (after (dated 60 ∷ []) (stamped 9) full)
     (only 5 (feedWith (inr (pos 9)) 1 (at "1" (late 60 "20260101" []) ∷ at "1@20260101" (late 60 "20260101" []) ∷ [])
     (at "v" (vehicle 1 1000) ∷ []) (saying "a" ∷ [])))
     -- also where the feed's id has one
@@ -127,10 +133,12 @@ table =
     -- "wrapping at 2^64"
     ∷ row (sheet [] 0 (driving 18446744073709551615 [])) (driving 0 [])
     -- "A vehicle sheet inserts over old entries"
-    ∷ row (sheet (at "b" (vehicle 2 1000) ∷ at "c" (vehicle 3 1000) ∷ []) 1000 (driving 5 (at "a" (vehicle 4 1000) ∷ at "b" (vehicle 5 1000) ∷ [])))
+    ∷ row (sheet (at "b" (vehicle 2 1000) ∷ at "c" (vehicle 3 1000) ∷ []) 1000
+    (driving 5 (at "a" (vehicle 4 1000) ∷ at "b" (vehicle 5 1000) ∷ [])))
     (driving 6 (at "a" (vehicle 4 1000) ∷ at "b" (vehicle 2 1000) ∷ at "c" (vehicle 3 1000) ∷ []))
     -- "drops those updated before clock − 900": old and new ones, 900 seconds stay; the clock may be below 900
-    ∷ row (sheet (at "c" (vehicle 3 1000) ∷ at "d" (vehicle 4 999) ∷ []) 1900 (driving 5 (at "a" (vehicle 1 1000) ∷ at "b" (vehicle 2 999) ∷ [])))
+    ∷ row (sheet (at "c" (vehicle 3 1000) ∷ at "d" (vehicle 4 999) ∷ []) 1900
+    (driving 5 (at "a" (vehicle 1 1000) ∷ at "b" (vehicle 2 999) ∷ [])))
     (driving 6 (at "a" (vehicle 1 1000) ∷ at "c" (vehicle 3 1000) ∷ []))
     ∷ row (sheet (at "a" (vehicle 1 999) ∷ []) 1900 (driving 5 (at "a" (vehicle 2 1900) ∷ []))) (driving 6 [])
     ∷ row (sheet [] 899 (driving 5 (at "a" (vehicle 1 0) ∷ []))) (driving 6 (at "a" (vehicle 1 0) ∷ []))
@@ -139,62 +147,34 @@ table =
     (only 5 (feedWith (inr (pos 7)) 1 (at "1" (late 60 "" []) ∷ at "1@20260101" (late 60 "20260101" []) ∷ [])
     (at "v" (vehicle 1 1000) ∷ []) (saying "b" ∷ saying "c" ∷ [])))
     -- the header timestamp, "kept when a message has none"
-    ∷ row (change.afterMessage (text "f") (message [] differential) (only 5 (feedWith (inr (pos 7)) 0 [] [] []))) (only 5 (feedWith (inr (pos 7)) 0 [] [] []))
+    ∷ row (after [] differential (only 5 (feedWith (inr (pos 7)) 0 [] [] [])))
+    (only 5 (feedWith (inr (pos 7)) 0 [] [] []))
     -- "(64 bits read as signed ..)"
-    ∷ row (change.afterMessage (text "f") (message [] (stamped 18446744073709551615)) noState) (only 0 (feedWith (inr (negsuc 0)) 0 [] [] []))
+    ∷ row (after [] (stamped 18446744073709551615) noState) (only 0 (feedWith (inr (negsuc 0)) 0 [] [] []))
     -- "A report call gives the version and, for a feed id, `trip_update_count` and the header timestamp"
     ∷ row (report (text "f") (only 5 (feedWith (inr (pos 7)) 2 [] [] []))) (eight 5 ++ (eight 2 ++ 1 ∷ eight 7))
     ∷ row (report (text "f") (only 5 (feedWith (inl tt) 2 [] [] []))) (eight 5 ++ (eight 2 ++ 0 ∷ eight 0))
     ∷ row (report (text "f") (only 258 (feedWith (inr (negsuc 1)) 772 [] [] [])))
-    (2 ∷ 1 ∷ 0 ∷ 0 ∷ 0 ∷ 0 ∷ 0 ∷ 0 ∷ 4 ∷ 3 ∷ 0 ∷ 0 ∷ 0 ∷ 0 ∷ 0 ∷ 0 ∷ 1 ∷ 254 ∷ 255 ∷ 255 ∷ 255 ∷ 255 ∷ 255 ∷ 255 ∷ 255 ∷ [])
+    (2 ∷ 1 ∷ 0 ∷ 0 ∷ 0 ∷ 0 ∷ 0 ∷ 0 ∷ 4 ∷ 3 ∷ 0 ∷ 0 ∷ 0 ∷ 0 ∷ 0 ∷ 0
+    ∷ 1 ∷ 254 ∷ 255 ∷ 255 ∷ 255 ∷ 255 ∷ 255 ∷ 255 ∷ 255 ∷ [])
+    -- the forms of the sheets: an alert's header, description, cause; trip, route, stop lists
+    ∷ row (write alertSheet (tt,
+    (inr (1 ∷ []), (inl tt, (inr (2 ∷ []), ((3 ∷ []) ∷ [], ([], (4 ∷ []) ∷ (5 ∷ []) ∷ []))))) ∷ []))
+    (1 ∷ 1 ∷ 1 ∷ 1 ∷ 1 ∷ 0 ∷ 1 ∷ 1 ∷ 2 ∷ 1 ∷ 1 ∷ 3 ∷ 0 ∷ 2 ∷ 1 ∷ 4 ∷ 1 ∷ 5 ∷ [])
+    -- a vehicle's key, trip, latitude, longitude, updated
+    ∷ row (write vehicleSheet (tt,
+    (7 ∷ [], (inr (8 ∷ []), (258, (9, pos 10)))) ∷ (8 ∷ [], (inl tt, (0, (1, pos 2)))) ∷ []))
+    (1 ∷ 2 ∷ 1 ∷ 7 ∷ 1 ∷ 1 ∷ 8 ∷ 2 ∷ 1 ∷ 0 ∷ 0 ∷ 0 ∷ 0 ∷ 0 ∷ 0 
+    ∷ eight 9 ++ 20 ∷ 1 ∷ 8 ∷ 0 ∷ eight 0 ++ (eight 1 ++ 4 ∷ []))
     -- "an unknown feed gives 0 and absent"
     ∷ row (report (text "g") (only 5 (feedWith (inr (pos 7)) 2 [] [] []))) (eight 5 ++ (eight 0 ++ 0 ∷ eight 0))
     ∷ []
 
 pub worked : Holds table
 unfolding table lexOf keys.entriesIn keys.incompleteKey entities.tripIn entities.updatesIn entities.updateIn
-    leaves.entries leaves.leaves leaves.countWithoutAt change.feedAt change.putFeed change.afterMessage change.afterAlerts
-    change.withoutStale change.afterVehicles report
-worked = (
-  refl,
-  (
-    refl,
-    (
-      refl,
-      (
-        refl,
-        (
-          refl,
-          (
-            refl,
-            (
-              refl,
-              (
-                refl,
-                (
-                  refl,
-                  (
-                    refl,
-                    (
-                      refl,
-                      (
-                        refl,
-                        (
-                          refl,
-                          (
-                            refl,
-                            (refl, (refl, (refl, (refl, (refl, (refl, (refl, (refl, (refl, (refl, tt)))))))))),
-                          ),
-                        ),
-                      ),
-                    ),
-                  ),
-                ),
-              ),
-            ),
-          ),
-        ),
-      ),
-    ),
-  ),
-)
+    leaves.entries leaves.leaves leaves.countWithoutAt change.feedAt change.putFeed
+    change.afterMessage change.afterAlerts change.withoutStale change.afterVehicles report
+worked =
+    refl also refl also refl also refl also refl also refl also refl also refl also refl
+    also refl also refl also refl also refl also refl also refl also refl also refl also refl
+    also refl also refl also refl also refl also refl also refl also refl also refl also tt

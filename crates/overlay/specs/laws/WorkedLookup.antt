@@ -5,10 +5,10 @@ use mathlib.Core.Path.{refl}
 use mathlib.Core.Bool.{Bool, true, false, cond}
 use mathlib.Core.List.{List, [], _∷_, map}
 use mathlib.Core.Logic.{inl, inr}
-use mathlib.Core.Option.{Option, none, some}
-use lib.IntN.{pos}
+use mathlib.Core.Option.{Option, none, some, Option·map}
+use lib.IntN.{ℤ, pos}
 use lib.Dec.{eqb}
-use Rattle.formats.specs.Rows.{Row, row, Holds}
+use Rattle.basics.specs.Rows.{Row, row, Holds, _also_}
 use Rattle.slices.specs.Lists.{lexOf}
 use Rattle.realtime.specs.Tree.{Tree, end, num, txt, msg}
 use Rattle.decode.specs.Trip.{Trip, StopUpdate}
@@ -60,8 +60,9 @@ vehicle n trip = (trip, (n, (0, pos 0)))
 
 abbrev pub running : List (List ℕ × Vehicle)
 running =
-    at "a" (vehicle 1 (inr (text "f:2"))) ∷ at "b" (vehicle 2 (inr (text "f:1"))) ∷ at "c" (vehicle 3 (inr (text "f:1")))
-    ∷ at "f:1" (vehicle 4 (inl tt)) ∷ at "f:3" (vehicle 5 (inl tt)) ∷ at "f:4" (vehicle 6 (inr (text "f:5"))) ∷ []
+    at "a" (vehicle 1 (inr (text "f:2"))) ∷ at "b" (vehicle 2 (inr (text "f:1")))
+    ∷ at "c" (vehicle 3 (inr (text "f:1"))) ∷ at "f:1" (vehicle 4 (inl tt)) ∷ at "f:3" (vehicle 5 (inl tt))
+    ∷ at "f:4" (vehicle 6 (inr (text "f:5"))) ∷ []
 
 -- any other feed has g's trips, the one without a name too
 abbrev pub feeds : Feeds
@@ -79,6 +80,16 @@ routes r q = lookup.route-matches (text r) (text q)
 -- feed f's update for a stop, and a card's stop
 abbrev pub stops : String → String → Bool
 stops i stop = lookup.stop-matches (text "f") (text stop) (text i, (inl tt, (inl tt, (inl tt, (inl tt, 0)))))
+
+-- an update's stop and arrival delay; the delay of the update that is found, by sequence and stop
+abbrev pub calling : String → ℕ → StopUpdate
+calling i n = (text i, (inr (pos n), (inl tt, (inl tt, (inl tt, 0)))))
+
+abbrev pub three : Trip
+three = (inl tt, (0, ([], ([], (inl tt, ([], (1, calling "Z" 10) ∷ (2, calling "A" 20) ∷ (3, calling "A" 30) ∷ []))))))
+
+abbrev pub delayAt : Maybe ℕ → String → Option (Maybe ℤ)
+delayAt sequence stop = Option·map (λ u. u .1 .0) (lookup.find-stop-update (text "f") sequence (text stop) three)
 
 abbrev pub seen : String → Option Vehicle
 seen trip = lookup.get-vehicle-for-trip feeds (text trip)
@@ -137,6 +148,12 @@ table =
     ∷ row (stops "xA" "A") false
     ∷ row (stops "A:" "") true
     ∷ row (stops "" "") false
+    -- "Stop update: by sequence .., else by stop id", the smallest sequence's
+    ∷ row (delayAt (inr 1) "f:A") (some (inr (pos 10)))
+    ∷ row (delayAt (inr 3) "f:A") (some (inr (pos 30)))
+    ∷ row (delayAt (inr 5) "f:A") (some (inr (pos 20)))
+    ∷ row (delayAt (inl tt) "f:A") (some (inr (pos 20)))
+    ∷ row (delayAt (inr 5) "f:B") none
     -- "The first vehicle with the leg's trip id, else the one keyed by it, in the trip's feed"
     ∷ row (seen "f:1") (some (vehicle 2 (inr (text "f:1"))))
     ∷ row (seen "f:3") (some (vehicle 5 (inl tt)))
@@ -149,131 +166,12 @@ table =
 pub worked : Holds table
 unfolding table lexOf keys.entriesIn keys.incompleteKey entities.tripIn entities.updatesIn entities.updateIn
     lookup.firstThat lookup.feed-of lookup.trip-at lookup.get-trip lookup.route-matches lookup.find-trip-by-descriptor
-    lookup.resolve-trip-rt lookup.stop-matches lookup.vehicle-for-trip lookup.get-vehicle-for-trip
-worked = (
-  refl,
-  (
-    refl,
-    (
-      refl,
-      (
-        refl,
-        (
-          refl,
-          (
-            refl,
-            (
-              refl,
-              (
-                refl,
-                (
-                  refl,
-                  (
-                    refl,
-                    (
-                      refl,
-                      (
-                        refl,
-                        (
-                          refl,
-                          (
-                            refl,
-                            (
-                              refl,
-                              (
-                                refl,
-                                (
-                                  refl,
-                                  (
-                                    refl,
-                                    (
-                                      refl,
-                                      (
-                                        refl,
-                                        (
-                                          refl,
-                                          (
-                                            refl,
-                                            (
-                                              refl,
-                                              (
-                                                refl,
-                                                (
-                                                  refl,
-                                                  (
-                                                    refl,
-                                                    (
-                                                      refl,
-                                                      (
-                                                        refl,
-                                                        (
-                                                          refl,
-                                                          (
-                                                            refl,
-                                                            (
-                                                              refl,
-                                                              (
-                                                                refl,
-                                                                (
-                                                                  refl,
-                                                                  (
-                                                                    refl,
-                                                                    (
-                                                                      refl,
-                                                                      (
-                                                                        refl,
-                                                                        (
-                                                                          refl,
-                                                                          (
-                                                                            refl,
-                                                                            (
-                                                                              refl,
-                                                                              (
-                                                                                refl,
-                                                                                (
-                                                                                  refl,
-                                                                                  (
-                                                                                    refl,
-                                                                                    (refl, tt),
-                                                                                  ),
-                                                                                ),
-                                                                              ),
-                                                                            ),
-                                                                          ),
-                                                                        ),
-                                                                      ),
-                                                                    ),
-                                                                  ),
-                                                                ),
-                                                              ),
-                                                            ),
-                                                          ),
-                                                        ),
-                                                      ),
-                                                    ),
-                                                  ),
-                                                ),
-                                              ),
-                                            ),
-                                          ),
-                                        ),
-                                      ),
-                                    ),
-                                  ),
-                                ),
-                              ),
-                            ),
-                          ),
-                        ),
-                      ),
-                    ),
-                  ),
-                ),
-              ),
-            ),
-          ),
-        ),
-      ),
-    ),
-  ),
-)
+    lookup.resolve-trip-rt lookup.stop-matches lookup.stop-update-by-stop-id
+    lookup.find-stop-update lookup.vehicle-for-trip lookup.get-vehicle-for-trip
+worked =
+    refl also refl also refl also refl also refl also refl also refl also refl also refl
+    also refl also refl also refl also refl also refl also refl also refl also refl also refl
+    also refl also refl also refl also refl also refl also refl also refl also refl also refl
+    also refl also refl also refl also refl also refl also refl also refl also refl also refl
+    also refl also refl also refl also refl also refl also refl also refl also refl also refl
+    also refl also refl also refl also tt
