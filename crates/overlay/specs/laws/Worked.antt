@@ -158,13 +158,17 @@ table =
     (2 ∷ 1 ∷ 0 ∷ 0 ∷ 0 ∷ 0 ∷ 0 ∷ 0 ∷ 4 ∷ 3 ∷ 0 ∷ 0 ∷ 0 ∷ 0 ∷ 0 ∷ 0
     ∷ 1 ∷ 254 ∷ 255 ∷ 255 ∷ 255 ∷ 255 ∷ 255 ∷ 255 ∷ 255 ∷ [])
     -- the forms of the sheets: an alert's header, description, cause; trip, route, stop lists
-    ∷ row (write alertSheet (tt,
-    (inr (1 ∷ []), (inl tt, (inr (2 ∷ []), ((3 ∷ []) ∷ [], ([], (4 ∷ []) ∷ (5 ∷ []) ∷ []))))) ∷ []))
+    ∷ row (write alertSheet (
+      tt,
+      (inr (1 ∷ []), (inl tt, (inr (2 ∷ []), ((3 ∷ []) ∷ [], ([], (4 ∷ []) ∷ (5 ∷ []) ∷ []))))) ∷ [],
+    ))
     (1 ∷ 1 ∷ 1 ∷ 1 ∷ 1 ∷ 0 ∷ 1 ∷ 1 ∷ 2 ∷ 1 ∷ 1 ∷ 3 ∷ 0 ∷ 2 ∷ 1 ∷ 4 ∷ 1 ∷ 5 ∷ [])
     -- a vehicle's key, trip, latitude, longitude, updated
-    ∷ row (write vehicleSheet (tt,
-    (7 ∷ [], (inr (8 ∷ []), (258, (9, pos 10)))) ∷ (8 ∷ [], (inl tt, (0, (1, pos 2)))) ∷ []))
-    (1 ∷ 2 ∷ 1 ∷ 7 ∷ 1 ∷ 1 ∷ 8 ∷ 2 ∷ 1 ∷ 0 ∷ 0 ∷ 0 ∷ 0 ∷ 0 ∷ 0 
+    ∷ row (write vehicleSheet (
+      tt,
+      (7 ∷ [], (inr (8 ∷ []), (258, (9, pos 10)))) ∷ (8 ∷ [], (inl tt, (0, (1, pos 2)))) ∷ [],
+    ))
+    (1 ∷ 2 ∷ 1 ∷ 7 ∷ 1 ∷ 1 ∷ 8 ∷ 2 ∷ 1 ∷ 0 ∷ 0 ∷ 0 ∷ 0 ∷ 0 ∷ 0
     ∷ eight 9 ++ 20 ∷ 1 ∷ 8 ∷ 0 ∷ eight 0 ++ (eight 1 ++ 4 ∷ []))
     -- "an unknown feed gives 0 and absent"
     ∷ row (report (text "g") (only 5 (feedWith (inr (pos 7)) 2 [] [] []))) (eight 5 ++ (eight 0 ++ 0 ∷ eight 0))

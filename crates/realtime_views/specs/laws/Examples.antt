@@ -16,7 +16,8 @@ every-header : header (msg 1 1 (num 2 1 (num 3 7 end)) end) ≡ record { differe
 every-header = refl
 
 every-trip :
-    trip (msg 3 3 (msg 1 4 (txt 1 (1 ∷ []) (txt 2 (2 ∷ []) (txt 3 (3 ∷ []) (num 4 3 (txt 5 (5 ∷ []) (num 6 6 end)))))) (num 5 9 end)) end)
+    trip (msg 3 3 (msg 1 4 (txt 1 (1 ∷ []) (txt 2 (2 ∷ []) (txt 3 (3 ∷ [])
+    (num 4 3 (txt 5 (5 ∷ []) (num 6 6 end)))))) (num 5 9 end)) end)
     ≡ record {
       id = 1 ∷ [];
       time = 2 ∷ [];
@@ -29,7 +30,8 @@ every-trip :
 every-trip = refl
 
 every-stop :
-    stopUpdate (num 1 1 (msg 2 6 (num 1 2 (num 2 3 end)) (msg 3 6 (num 1 4 (num 2 5 end)) (txt 4 (6 ∷ []) (num 5 1 end)))))
+    stopUpdate (num 1 1 (msg 2 6 (num 1 2 (num 2 3 end))
+    (msg 3 6 (num 1 4 (num 2 5 end)) (txt 4 (6 ∷ []) (num 5 1 end)))))
     ≡ record {
       sequence = 1;
       stop = 6 ∷ [];
@@ -40,7 +42,8 @@ every-stop :
 every-stop = refl
 
 -- what is missing reads as absent
-no-trip : trip end ≡ record { id = []; time = []; date = []; route = []; cancelled = false; direction = none; delay = none }
+no-trip : trip end
+    ≡ record { id = []; time = []; date = []; route = []; cancelled = false; direction = none; delay = none }
 no-trip = refl
 
 no-header : header end ≡ record { differential = false; timestamp = none }
@@ -66,11 +69,13 @@ whole-time : stopUpdate (msg 2 6 (num 2 18446744073709551615 end) end) .arrival 
 whole-time = refl
 
 -- the last scalar wins; two trips in two trip_updates, and two arrivals, are one
-merged-trip : trip (msg 3 3 (msg 1 4 (txt 1 (1 ∷ []) (txt 3 (3 ∷ []) end)) end) (msg 3 3 (msg 1 4 (txt 1 (7 ∷ []) end) end) end))
+merged-trip : trip (msg 3 3 (msg 1 4 (txt 1 (1 ∷ []) (txt 3 (3 ∷ []) end)) end)
+    (msg 3 3 (msg 1 4 (txt 1 (7 ∷ []) end) end) end))
     ≡ record { id = 7 ∷ []; time = []; date = 3 ∷ []; route = []; cancelled = false; direction = none; delay = none }
 merged-trip = refl
 
-merged-arrival : stopUpdate (msg 2 6 (num 1 2 end) (msg 2 6 (num 2 3 (num 2 4 end)) end)) .arrival ≡ record { delay = some (pos 2); time = some (pos 4) }
+merged-arrival : stopUpdate (msg 2 6 (num 1 2 end) (msg 2 6 (num 2 3 (num 2 4 end)) end)) .arrival
+    ≡ record { delay = some (pos 2); time = some (pos 4) }
 merged-arrival = refl
 
 -- an enum counts by its low 32 bits, and its last value counts, known or not
