@@ -1,7 +1,7 @@
 pub mod Buffer
 pub mod Shown
-pub mod Worked
 pub mod WorkedLookup
+pub mod Worked
 pub mod Within
 pub mod EveryEntry
 pub mod StaysValid

@@ -4,7 +4,7 @@ use Prim.Native.String.{String}
 use mathlib.Core.Path.{refl}
 use mathlib.Core.List.{List, [], _∷_, map}
 use mathlib.Core.Logic.{inl, inr}
-use mathlib.Core.Option.{Option, none, some, Option·map}
+use mathlib.Core.Option.{some, Option·map}
 use lib.IntN.{ℤ, pos, negsuc}
 use Rattle.basics.specs.Rows.{Row, row, Holds, _also_}
 use Rattle.formats.specs.Format.{Value, read, write}
@@ -16,7 +16,7 @@ use Rattle.alerts.specs.Text.{text}
 use Rattle.alerts.specs.Alert.{Alert}
 use Rattle.overlay.specs.Records.{Feeds}
 use Rattle.overlay.specs.Lookup as lookup
-use Rattle.journey.specs.Card.{Transit, Card, middle, leg, card, transitValue, cardOf, cardValue}
+use Rattle.journey.specs.Card.{Transit, Card, leg, card, transitValue, cardOf, cardValue}
 use Rattle.journey.specs.Times as times
 use Rattle.journey.specs.Enrich as enrich
 use Rattle.journey.specs.laws.Worked.{absent, late, noon, end, trip, feedF, legOf, toldOf}

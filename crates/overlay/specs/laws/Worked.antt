@@ -5,12 +5,11 @@ use Prim.Native.String.{String}
 use mathlib.Core.Path.{refl}
 use mathlib.Core.List.{List, [], _∷_, _++_}
 use mathlib.Core.Logic.{inl, inr}
-use lib.IntN.{ℤ, pos, negsuc}
+use lib.IntN.{pos, negsuc}
 use Rattle.basics.specs.Rows.{Row, row, Holds, _also_}
 use Rattle.slices.specs.Lists.{lexOf}
 use Rattle.realtime.specs.Tree.{Tree, end, num, txt, msg}
 use Rattle.decode.specs.Trip.{Trip, StopUpdate}
-use Rattle.basics.specs.Options.{Maybe}
 use Rattle.decode.specs.Record as entities
 use Rattle.decode.specs.Key as keys
 use Rattle.decode.specs.Leaves as leaves
@@ -20,11 +19,9 @@ use Rattle.alerts.specs.Alert.{Alert, alertSheet}
 use Rattle.overlay.specs.State.{Vehicle, Vehicles, Feed, State, vehicleSheet, feedWith, stateWith, noState}
 use Rattle.overlay.specs.Change as change
 use Rattle.overlay.specs.Report.{report}
+use Rattle.overlay.specs.laws.WorkedLookup.{at}
 
 -- ---- what the rows speak of
-
-abbrev pub at : {A : Type 0} → String → A → List ℕ × A
-at k a = (text k, a)
 
 -- records that a delay tells apart
 abbrev pub late : ℕ → String → List (ℕ × StopUpdate) → Trip
@@ -157,6 +154,8 @@ table =
     ∷ row (report (text "f") (only 258 (feedWith (inr (negsuc 1)) 772 [] [] [])))
     (2 ∷ 1 ∷ 0 ∷ 0 ∷ 0 ∷ 0 ∷ 0 ∷ 0 ∷ 4 ∷ 3 ∷ 0 ∷ 0 ∷ 0 ∷ 0 ∷ 0 ∷ 0
     ∷ 1 ∷ 254 ∷ 255 ∷ 255 ∷ 255 ∷ 255 ∷ 255 ∷ 255 ∷ 255 ∷ [])
+    -- "an unknown feed gives 0 and absent"
+    ∷ row (report (text "g") (only 5 (feedWith (inr (pos 7)) 2 [] [] []))) (eight 5 ++ (eight 0 ++ 0 ∷ eight 0))
     -- the forms of the sheets: an alert's header, description, cause; trip, route, stop lists
     ∷ row (write alertSheet (
       tt,
@@ -170,8 +169,6 @@ table =
     ))
     (1 ∷ 2 ∷ 1 ∷ 7 ∷ 1 ∷ 1 ∷ 8 ∷ 2 ∷ 1 ∷ 0 ∷ 0 ∷ 0 ∷ 0 ∷ 0 ∷ 0
     ∷ eight 9 ++ 20 ∷ 1 ∷ 8 ∷ 0 ∷ eight 0 ++ (eight 1 ++ 4 ∷ []))
-    -- "an unknown feed gives 0 and absent"
-    ∷ row (report (text "g") (only 5 (feedWith (inr (pos 7)) 2 [] [] []))) (eight 5 ++ (eight 0 ++ 0 ∷ eight 0))
     ∷ []
 
 pub worked : Holds table
