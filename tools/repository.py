@@ -1,5 +1,5 @@
-"""What the repository's tools share: its files and crates, the imports and declarations of specs/ and src/, and how a tool
-says what it found. A tool looks at the repository that it stands in."""
+"""What the repository's tools share: its files and crates, the imports and declarations of specs/ and src/, and how a
+tool says what it found. A tool looks at the repository that it stands in."""
 import collections
 import hashlib
 import os
@@ -100,8 +100,8 @@ SIGNATURE = re.compile(r"(pub\s+)?([^\s:(){}]+)\s*(?:\{[^}]*\}\s*|\([^)]*\)\s*)*
 
 
 class Item:
-    """A declaration: its signature (`says`), and its clauses (`body`). One with a mark (abbrev, unfoldable), a datatype or
-    a record is a definition, any other a theorem."""
+    """A declaration: its signature (`says`), and its clauses (`body`). One with a mark (abbrev, unfoldable), a datatype
+    or a record is a definition, any other a theorem."""
 
     def __init__(self, home, name, is_definition, shape, module):
         self.home, self.name, self.is_definition, self.shape, self.module = home, name, is_definition, shape, module
@@ -237,6 +237,11 @@ def wrapped(words, first="", later="  "):
     return lines + [line]
 
 
+def listed(names, first):
+    """Names in backquotes, with commas, in lines of at most WIDTH columns."""
+    return wrapped([f"`{name}`," for name in names[:-1]] + [f"`{names[-1]}`"], first)
+
+
 def finish(tool, faults, fine):
     """Ends a tool: each fault in a line and status 1, or one line that says what was seen."""
     for fault in faults:
@@ -258,5 +263,6 @@ def flags(*known):
     """The flags given; any other word ends the tool."""
     for word in sys.argv[1:]:
         if word not in known:
-            raise SystemExit(f"{os.path.basename(sys.argv[0])}: no such word: {word} (known: {' '.join(known) or 'none'})")
+            tool = os.path.basename(sys.argv[0])
+            raise SystemExit(f"{tool}: no such word: {word} (known: {' '.join(known) or 'none'})")
     return set(sys.argv[1:])
