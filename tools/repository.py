@@ -107,6 +107,12 @@ class Item:
         self.home, self.name, self.is_definition, self.shape, self.module = home, name, is_definition, shape, module
         self.says, self.body, self.other, self.members, self.phase = [], [], [], [], "says"
 
+    def add(self, line, may_be_member):
+        """A line more of it; in a datatype or record one that names constructors or fields."""
+        getattr(self, self.phase).append(line)
+        m = re.match(r"(?:pub\s+)?([^:]+?)\s*:\s", line.strip() + " ") if self.shape and may_be_member else None
+        self.members += m.group(1).split() if m else []
+
     def meaning(self):
         """What one reads to know what it says: of a theorem not the proof."""
         return "\n".join(self.module + self.says + (self.body if self.is_definition else []))
@@ -127,7 +133,7 @@ class Spec:
         self.parse(self.text.rstrip("\n").split("\n"))
 
     def parse(self, lines):
-        module, nested, current, known, at = [], 0, None, {}, 0
+        module, nested, current, known, at = [], 0, None, {}, 0  # nested: the column of declarations in a module
         while at < len(lines):
             line, at = lines[at], at + 1
             stripped, indent = line.strip(), len(line) - len(line.lstrip())
@@ -142,29 +148,22 @@ class Spec:
                 header = [line]
                 while not lines[at - 1].rstrip().endswith("where"):
                     header, at = header + [lines[at]], at + 1
-                module = header if indent == 0 else module + header
-                nested, current = indent + 2, None
+                module, nested, current = (module if indent else []) + header, indent + 2, None
                 continue
             if indent == 0:
                 module, nested = [], 0
-            level = min(indent, nested) if nested else 0
+            level = min(indent, nested)
             item = self.begins(stripped, module, known) if indent == level else None
             if item:
                 known[item.name] = current = item
                 self.items.append(item)
-            elif indent == level and current:
-                if stripped.startswith("unfolding "):
-                    current.phase = "other"
-                else:
-                    current = known.get(stripped.split()[0], current)
-                    current.phase = "body"
-            if current is None:
+            elif current is None:
                 raise SystemExit(f"{self.path}:{at}: not understood: {line}")
-            getattr(current, current.phase).append(line)
-            if current.shape and not item and indent == level + 2:
-                m = re.match(r"(?:pub\s+)?([^:]+?)\s*:\s", stripped + " ")
-                if m:
-                    current.members += m.group(1).split()
+            elif indent == level:
+                is_clause = not stripped.startswith("unfolding ")
+                current = known.get(stripped.split()[0], current) if is_clause else current
+                current.phase = "body" if is_clause else "other"
+            current.add(line, indent == level + 2 and not item)
 
     def begins(self, stripped, module, known):
         """The declaration that a line begins, if it does."""
