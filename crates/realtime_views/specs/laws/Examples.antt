@@ -62,7 +62,15 @@ not-skipped = refl
 
 -- direction and delay keep the low 32 bits, a time all 64
 low-bits : trip (msg 3 3 (msg 1 4 (num 6 4294967298 end) (num 5 4294967295 end)) end)
-    ≡ record { id = []; time = []; date = []; route = []; cancelled = false; direction = some 2; delay = some (negsuc 0) }
+    ≡ record {
+      id = [];
+      time = [];
+      date = [];
+      route = [];
+      cancelled = false;
+      direction = some 2;
+      delay = some (negsuc 0);
+    }
 low-bits = refl
 
 whole-time : stopUpdate (msg 2 6 (num 2 18446744073709551615 end) end) .arrival .time ≡ some (negsuc 0)
