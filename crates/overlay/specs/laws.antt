@@ -1,5 +1,7 @@
 pub mod Buffer
 pub mod Shown
+pub mod Keys
+pub mod Counts
 pub mod Within
 pub mod EveryEntry
 pub mod StaysValid
