@@ -1,6 +1,7 @@
 pub mod Outcome
 pub mod Questions
 pub mod Calls
+pub mod Answers
 pub mod Book
 pub mod Gained
 pub mod Rides

@@ -1,6 +1,8 @@
 pub mod Gained
 pub mod Accepts
-pub mod Asked
+pub mod Answers
+pub mod Sizes
+pub mod Left
 pub mod Seven
 pub mod History
 pub mod Rides

@@ -1,5 +1,7 @@
 -- Law. THE RIDE CHECKS of document 01 that are marked P.
-use mathlib.Core.Path.{refl}
+use mathlib.Core.Path.{_≡_, refl}
+use mathlib.Core.Bool.{true}
+use Rattle.decode.specs.Key as keys
 use Rattle.wire.specs.Wire as wire
 use Rattle.slices.specs.Lists.{lexOf}
 use Rattle.realtime.specs.Tree.{tree, nest}
@@ -17,10 +19,10 @@ use Rattle.journey.specs.Times as times
 use Rattle.journey.specs.Enrich as enrich
 use Rattle.panel.specs.Questions as questions
 use Rattle.panel.specs.Calls.{run}
-use Rattle.panel.specs.Rides.{AllHold, table}
+use Rattle.panel.specs.Rides.{AllHold, keyed, tripsFrom, table}
 
 pub rides : AllHold table
-unfolding table run questions.freshOf questions.messageOf questions.treeOutcome questions.cardCallOf questions.arrivingOutcome questions.finished questions.whole
+unfolding table tripsFrom run questions.freshOf questions.messageOf questions.treeOutcome questions.cardCallOf questions.arrivingOutcome questions.finished questions.whole
     image.stateOf image.filled image.room valid.valid valid.within valid.feedValid shown change.afterMessage change.feedAt change.putFeed
     leaves.leaves leaves.entries leaves.countWithoutAt
     tree nest feed fieldRows wire.fields wire.many wire.field wire.value wire.payload wire.until wire.lengthDelimited wire.bytes wire.key wire.varint wire.digits lexOf
@@ -29,3 +31,7 @@ unfolding table run questions.freshOf questions.messageOf questions.treeOutcome 
     enrich.enrichMiddle enrich.enrichTransit enrich.status-of enrich.labels-of enrich.headers-of enrich.enrich-with-realtime
     isSummer leapDay yearFrom monthFrom
 rides = (refl, (refl, (refl, (refl, (refl, (refl, (refl, (refl, (refl, (refl, tt))))))))))
+
+kv : valid.valid (keyed 2048) ≡ true
+unfolding tripsFrom valid.valid valid.within valid.feedValid keys.keyOk keys.incompleteKey leaves.countWithoutAt lexOf
+kv = refl
