@@ -2,3 +2,5 @@ pub mod Found
 pub mod Headers
 pub mod Finished
 pub mod Counts
+pub mod Labels
+pub mod ByIndex

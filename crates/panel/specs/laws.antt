@@ -1,7 +1,11 @@
 pub mod Gained
+pub mod AddedFields
 pub mod Accepts
 pub mod Asked
 pub mod Seven
 pub mod History
+pub mod Demand3
 pub mod Rides
 pub mod Again
+pub mod RoundTrips
+pub mod Headers
