@@ -4,3 +4,5 @@ pub mod Finished
 pub mod Counts
 pub mod Worked
 pub mod WorkedCard
+pub mod Labels
+pub mod ByIndex

@@ -4,5 +4,6 @@ pub mod Calls
 pub mod Answers
 pub mod Book
 pub mod Gained
+pub mod Demand3
 pub mod Rides
 pub mod laws

@@ -15,7 +15,7 @@ varint-long : varint (0x81 ∷ 0x80 ∷ 0x00 ∷ 7 ∷ []) ≡ read 1 (7 ∷ [])
 unfolding varint digits
 varint-long = refl
 
--- the largest, ten bytes; one more, and an eleventh byte, are broken
+-- the largest has ten bytes; a tenth byte of 2, and an eleventh byte, are broken
 varint-top : varint (replicate 9 0xff ++ 0x01 ∷ []) ≡ read 18446744073709551615 []
 unfolding varint digits
 varint-top = refl
