@@ -556,7 +556,13 @@ pub fn is_deleted(s: &[u8], start: usize, len: usize) -> bool
     requires { ⌜ start + len ≤ length (now s) ⌝ }
     ensures { λ r. ⌜ DeletedRead feed (now (s .entry)) start len r ⌝ }
 {
-    last_number(wire::part(s, 0, start + len), start, FEED_ENTITY, feed_entity::IS_DELETED) != 0
+    last_number(
+        wire::part(s, 0, start + len),
+        start,
+        FEED_ENTITY,
+        feed_entity::IS_DELETED,
+    )
+        != 0
 }
 
 // And its trip, merged from all its trip_updates.
@@ -584,7 +590,12 @@ pub fn sequence_at(s: &[u8], start: usize, len: usize) -> u32
     ensures { λ r. ⌜ SequenceRead feed (now (s .entry)) start len r ⌝ }
 {
     let message = wire::part(s, 0, start + len);
-    uint32(last_number(message, start, STOP_TIME_UPDATE, stop_time_update::STOP_SEQUENCE))
+    uint32(last_number(
+        message,
+        start,
+        STOP_TIME_UPDATE,
+        stop_time_update::STOP_SEQUENCE,
+    ))
 }
 
 // A walk over the messages at a repeated field, of all the messages at another field merged: the next place outside, and what is left of the message that is open.
@@ -681,7 +692,14 @@ pub fn next_entity(s: &[u8], walk: Walk) -> Item
     requires { ⌜ Sound (now s) (walk .outer) (walk .end) (walk .at) ⌝ }
     ensures { λ r. ⌜ NextEntity (now (s .entry)) walk r ⌝ }
 {
-    next_item(s, FEED_MESSAGE, NO_FIELD, FEED_MESSAGE, feed_message::ENTITY, walk)
+    next_item(
+        s,
+        FEED_MESSAGE,
+        NO_FIELD,
+        FEED_MESSAGE,
+        feed_message::ENTITY,
+        walk,
+    )
 }
 
 // The stop_time_updates of an entity that starts at `start` and ends with `s`, one after the other.
@@ -699,5 +717,12 @@ pub fn next_update(s: &[u8], walk: Walk) -> Item
     requires { ⌜ Sound (now s) (walk .outer) (walk .end) (walk .at) ⌝ }
     ensures { λ r. ⌜ NextUpdate (now (s .entry)) walk r ⌝ }
 {
-    next_item(s, FEED_ENTITY, feed_entity::TRIP_UPDATE, TRIP_UPDATE, trip_update::STOP_TIME_UPDATE, walk)
+    next_item(
+        s,
+        FEED_ENTITY,
+        feed_entity::TRIP_UPDATE,
+        TRIP_UPDATE,
+        trip_update::STOP_TIME_UPDATE,
+        walk,
+    )
 }
