@@ -43,11 +43,11 @@ informed-route-ids a = a .1 .1 .1 .1 .0
 abbrev pub informed-stop-ids : Alert → List (List ℕ)
 informed-stop-ids a = a .1 .1 .1 .1 .1
 
-abbrev pub present : Optional → Bool
-present (inl u) = false
-present (inr t) = true
+abbrev pub isGiven : Optional → Bool
+isGiven (inl u) = false
+isGiven (inr t) = true
 
 -- an absent text is searched as an empty one
-abbrev pub given : Optional → List ℕ
-given (inl u) = []
-given (inr t) = t
+abbrev pub orEmptyText : Optional → List ℕ
+orEmptyText (inl u) = []
+orEmptyText (inr t) = t

@@ -10,10 +10,10 @@ use Prim.Native.String as String
 use Prim.Native.Char.{code}
 use lib.Dec.{leb, eqb}
 use lib.ListN.{length, take, drop}
-use Rattle.formats.specs.Class.{all}
-use Rattle.alerts.specs.Lists.{any, member, filter, isEmpty}
-use Rattle.alerts.specs.Text.{text, same, begins, ends, contains, find, upperByte, upper, alike, digit, alphanumeric, trim, split}
-use Rattle.alerts.specs.Alert.{Alert, header, description, cause, informed-trip-ids, informed-route-ids, informed-stop-ids, given}
+use Rattle.basics.specs.Lists.{all, any, member, filter, isEmpty}
+use Rattle.alerts.specs.Text.{text, begins, ends, contains, find, upperByte, upper, sameIgnoringCase, digit, alphanumeric, trim, split}
+use Rattle.basics.specs.Texts.{same}
+use Rattle.alerts.specs.Alert.{Alert, header, description, cause, informed-trip-ids, informed-route-ids, informed-stop-ids, orEmptyText}
 use Rattle.alerts.specs.Index.{undated, tail}
 
 -- the product code in an id: the first run of letters and digits that is C and 4 to 7 digits
@@ -49,7 +49,7 @@ decided (some a) none other = other
 decided (some a) (some b) other = same a b
 
 abbrev pub tails-match : List ℕ → List ℕ → Bool
-tails-match leg informed = not (isEmpty leg) && leb 3 (length leg) && alike leg informed
+tails-match leg informed = not (isEmpty leg) && leb 3 (length leg) && sameIgnoringCase leg informed
 
 abbrev pub route-refs-match : List ℕ → List ℕ → Bool
 route-refs-match leg informed =
@@ -58,20 +58,20 @@ route-refs-match leg informed =
     (decided (product-code-token leg) (product-code-token informed) (tails-match (segment leg) (segment informed))))
 
 abbrev pub short-names-equal : List ℕ → List ℕ → Bool
-short-names-equal leg other = cond (isEmpty (trim leg) || isEmpty (trim other)) false (alike (trim leg) (trim other))
+short-names-equal leg other = cond (isEmpty (trim leg) || isEmpty (trim other)) false (sameIgnoringCase (trim leg) (trim other))
 
 -- road traffic
-abbrev pub has : List ℕ → String → Bool
-has blob s = contains (text s) blob
+abbrev pub hasText : List ℕ → String → Bool
+hasText blob s = contains (text s) blob
 
 abbrev pub roadBlob : Alert → List ℕ
-roadBlob a = upper (given (header a) ++ text " " ++ given (description a) ++ text " " ++ given (cause a))
+roadBlob a = upper (orEmptyText (header a) ++ text " " ++ orEmptyText (description a) ++ text " " ++ orEmptyText (cause a))
 
 abbrev pub road-traffic : List ℕ → Bool
 road-traffic blob =
-    has blob "TRAFIC ROUTIER" || has blob "INFO TRAFIC ROUTIER"
-    || (has blob "ARRET" && (has blob "DEPLACE" || has blob "DÉPLACÉ" || has blob "DEPLAC"))
-    && (has blob "CIRCULATION" || has blob "SENS DE CIRCULATION")
+    hasText blob "TRAFIC ROUTIER" || hasText blob "INFO TRAFIC ROUTIER"
+    || (hasText blob "ARRET" && (hasText blob "DEPLACE" || hasText blob "DÉPLACÉ" || hasText blob "DEPLAC"))
+    && (hasText blob "CIRCULATION" || hasText blob "SENS DE CIRCULATION")
 
 abbrev pub is-road-traffic-alert : Alert → Bool
 is-road-traffic-alert a = road-traffic (roadBlob a)
@@ -93,12 +93,12 @@ accents =
     (65, codes "àâäáÀÂÄÁ") ∷ (69, codes "éèêëÉÈÊË") ∷ (73, codes "îïíÎÏÍ") ∷ (79, codes "ôöóÔÖÓ")
     ∷ (85, codes "ùûüúÙÛÜÚ") ∷ (67, codes "çÇ") ∷ []
 
-abbrev pub plain : ℕ → List (ℕ × List ℕ) → Option ℕ
-plain c [] = none
-plain c (row ∷ l) = let r = plain c l in cond (member c (row .1)) (some (row .0)) r
+abbrev pub plainLetter : ℕ → List (ℕ × List ℕ) → Option ℕ
+plainLetter c [] = none
+plainLetter c (row ∷ l) = let r = plainLetter c l in cond (member c (row .1)) (some (row .0)) r
 
 abbrev pub unaccented : ℕ → ℕ → Option ℕ
-unaccented a b = cond (eqb a 0xc3) (plain (b + 64) accents) none
+unaccented a b = cond (eqb a 0xc3) (plainLetter (b + 64) accents) none
 
 abbrev pub folded : Option ℕ → ℕ → List ℕ → List ℕ → List ℕ
 folded (some letter) a past next = letter ∷ past
@@ -145,10 +145,10 @@ bareRows = (" ", " ") ∷ (" ", ".") ∷ (" ", ",") ∷ ("ET ", "") ∷ []
 abbrev pub names-number : List ℕ → List ℕ → Bool
 names-number blob n =
     names numberRows blob n
-    || (names bareRows blob n || ends (around " " n "") blob) && (has blob "LIGNE" || has blob "METRO")
+    || (names bareRows blob n || ends (around " " n "") blob) && (hasText blob "LIGNE" || hasText blob "METRO")
 
 abbrev pub names-tram : List ℕ → List ℕ → Bool
-names-tram blob t = contains t blob && (has blob "TRAM" || contains (around " " t "") blob)
+names-tram blob t = contains t blob && (hasText blob "TRAM" || contains (around " " t "") blob)
 
 abbrev pub commercial-lines-in-text : List ℕ → List (List ℕ)
 commercial-lines-in-text blob =
@@ -160,8 +160,8 @@ markers =
     text "PRIVILEGIE" ∷ text "PRIVILEGIEZ" ∷ text "SATURATION" ∷ text "REPORTEZ" ∷ text "REPORTER" ∷ text "UTILISEZ"
     ∷ text "EMPRUNTEZ" ∷ text "EN DIRECTION DE LA LIGNE" ∷ text "VERS LA LIGNE" ∷ text "CORRESPONDANCE AVEC" ∷ []
 
-abbrev pub marked : List (List ℕ) → List ℕ → Bool
-marked l s = any (λ m. contains m s) l
+abbrev pub anyMarker : List (List ℕ) → List ℕ → Bool
+anyMarker l s = any (λ m. contains m s) l
 
 abbrev pub needleRows : List (String × String)
 needleRows = ("LIGNE ", "") ∷ ("LIGNES ", "") ∷ ("METRO ", "") ∷ (" ET ", "") ∷ (" ", " ") ∷ (" ", ".") ∷ []
@@ -170,20 +170,20 @@ needleRows = ("LIGNE ", "") ∷ ("LIGNES ", "") ∷ ("METRO ", "") ∷ (" ET ", 
 abbrev pub window : List ℕ → ℕ → ℕ → List ℕ
 window blob i n = take (i + n + 24 - (i - 48)) (drop (i - 48) blob)
 
-abbrev pub near : List (List ℕ) → List ℕ → List ℕ → Option ℕ → Bool
-near l blob needle none = false
-near l blob needle (some i) = marked l (window blob i (length needle))
+abbrev pub markerNear : List (List ℕ) → List ℕ → List ℕ → Option ℕ → Bool
+markerNear l blob needle none = false
+markerNear l blob needle (some i) = anyMarker l (window blob i (length needle))
 
 abbrev pub advised : List (List ℕ) → List ℕ → List ℕ → Bool
 advised l blob short =
     any
-    (λ r. let n = around (r .0) short (r .1) in near l blob n (find n blob))
+    (λ r. let n = around (r .0) short (r .1) in markerNear l blob n (find n blob))
     needleRows
 
 abbrev pub is-secondary-line-context : List ℕ → List ℕ → Bool
 is-secondary-line-context blob short =
     advised markers blob short
-    || marked markers blob && contains short blob && (has blob "RER " || has blob "TRAVAUX SUR")
+    || anyMarker markers blob && contains short blob && (hasText blob "RER " || hasText blob "TRAVAUX SUR")
 
 abbrev pub primaryRows : List (String × String)
 primaryRows =
@@ -196,7 +196,7 @@ is-primary-context blob short =
     || begins (around "RER " short "") blob
 
 abbrev pub legBlob : Alert → List ℕ
-legBlob a = fold-alert-blob (given (header a) ++ text " " ++ given (description a))
+legBlob a = fold-alert-blob (orEmptyText (header a) ++ text " " ++ orEmptyText (description a))
 
 abbrev pub text-compatible : List ℕ → List ℕ → Bool
 text-compatible blob short =
@@ -228,17 +228,17 @@ abbrev pub idfm-product-to-short : List ℕ → Option (List ℕ)
 idfm-product-to-short code = nameOf (upper code) products
 
 -- an id of the alert's routes is the line's name, or a code of the same line
-abbrev pub is : Option (List ℕ) → List ℕ → Bool
-is none t = false
-is (some s) t = same s t
+abbrev pub isText : Option (List ℕ) → List ℕ → Bool
+isText none t = false
+isText (some s) t = same s t
 
-abbrev pub mapped : Option (List ℕ) → Option (List ℕ)
-mapped none = none
-mapped (some code) = idfm-product-to-short code
+abbrev pub mappedShort : Option (List ℕ) → Option (List ℕ)
+mappedShort none = none
+mappedShort (some code) = idfm-product-to-short code
 
 abbrev pub same-line : Option (List ℕ) → List ℕ → List ℕ → Option (List ℕ) → Bool
 same-line leg short code none = false
-same-line leg short code (some name) = short-names-equal short name && (is leg code || is (mapped leg) name)
+same-line leg short code (some name) = short-names-equal short name && (isText leg code || isText (mappedShort leg) name)
 
 abbrev pub by-product : Option (List ℕ) → List ℕ → Option (List ℕ) → Bool
 by-product leg short none = false
@@ -272,7 +272,7 @@ trip-hit a trip-id =
 abbrev pub stop-hit : Alert → List ℕ → Bool
 stop-hit a sid =
     not (isEmpty sid) && not (isEmpty (stop-tail sid))
-    && any (λ s. same s sid || alike (stop-tail s) (stop-tail sid)) (informed-stop-ids a)
+    && any (λ s. same s sid || sameIgnoringCase (stop-tail s) (stop-tail sid)) (informed-stop-ids a)
 
 abbrev pub alert-applies-to-leg-with-mode : Alert → List ℕ → List ℕ → List ℕ → List ℕ → List ℕ → List ℕ → Bool
 alert-applies-to-leg-with-mode a trip-id route-id route-short from-stop-id to-stop-id mode =

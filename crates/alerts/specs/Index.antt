@@ -4,31 +4,32 @@ use mathlib.Core.List.{List, [], _∷_, _++_}
 use mathlib.Core.Option.{Option, none, some}
 use mathlib.Core.Bool.{Bool, cond, _||_}
 use Prim.Native.Nat.{ℕ, suc}
-use Rattle.alerts.specs.Lists.{any, member, isEmpty, join}
-use Rattle.alerts.specs.Text.{same, rsplit-once}
+use Rattle.basics.specs.Lists.{any, member, isEmpty, concatMap}
+use Rattle.alerts.specs.Text.{rsplit-once}
+use Rattle.basics.specs.Texts.{same}
 use Rattle.alerts.specs.Alert.{Alert, informed-trip-ids, informed-route-ids, informed-stop-ids}
 
 -- a trip id up to its last '@', whole where it has none
-abbrev pub before : List ℕ → Option (List ℕ × List ℕ) → List ℕ
-before whole none = whole
-before whole (some p) = p .0
+abbrev pub partBefore : List ℕ → Option (List ℕ × List ℕ) → List ℕ
+partBefore whole none = whole
+partBefore whole (some p) = p .0
 
 abbrev pub undated : List ℕ → List ℕ
-undated t = before t (rsplit-once 0x40 t)
+undated t = partBefore t (rsplit-once 0x40 t)
 
 -- an id's tail, past its last ':', as a list of none or one
-abbrev pub after : Option (List ℕ × List ℕ) → List (List ℕ)
-after none = []
-after (some p) = p .1 ∷ []
+abbrev pub partAfter : Option (List ℕ × List ℕ) → List (List ℕ)
+partAfter none = []
+partAfter (some p) = p .1 ∷ []
 
 abbrev pub tail : List ℕ → List (List ℕ)
-tail x = after (rsplit-once 0x3a x)
+tail x = partAfter (rsplit-once 0x3a x)
 
 abbrev pub nonempty : List (List ℕ) → List (List ℕ)
 nonempty [] = []
 nonempty (x ∷ l) = cond (isEmpty x) [] (x ∷ l)
 
--- A map from keys to alert numbers: `entry(k).or_default().push(i)`, and `get`, where a missing key has no numbers
+-- A map from keys to alert numbers: `entry(k).or_default().push(i)`, and `numbersAt`, where a missing key has no numbers
 abbrev pub Map : Type 0
 Map = List (List ℕ × List ℕ)
 
@@ -36,9 +37,9 @@ abbrev pub push : List ℕ → ℕ → Map → Map
 push k i [] = (k, i ∷ []) ∷ []
 push k i (e ∷ m) = cond (same k (e .0)) ((e .0, e .1 ++ (i ∷ [])) ∷ m) (e ∷ push k i m)
 
-abbrev pub get : List ℕ → Map → List ℕ
-get k [] = []
-get k (e ∷ m) = cond (same k (e .0)) (e .1) (get k m)
+abbrev pub numbersAt : List ℕ → Map → List ℕ
+numbersAt k [] = []
+numbersAt k (e ∷ m) = cond (same k (e .0)) (e .1) (numbersAt k m)
 
 -- alert number i is pushed at each of its keys, the alerts in order
 abbrev pub pushAll : List (List ℕ) → ℕ → Map → Map
@@ -63,9 +64,9 @@ pub record AlertIndex : Type 0 where
 
 abbrev pub rebuild-alert-index : List Alert → AlertIndex
 rebuild-alert-index l = record {
-  by-trip = indexed (λ a. join tripKeys (informed-trip-ids a)) 0 l [];
-  by-route = indexed (λ a. join idKeys (informed-route-ids a)) 0 l [];
-  by-stop = indexed (λ a. join idKeys (informed-stop-ids a)) 0 l [];
+  by-trip = indexed (λ a. concatMap tripKeys (informed-trip-ids a)) 0 l [];
+  by-route = indexed (λ a. concatMap idKeys (informed-route-ids a)) 0 l [];
+  by-stop = indexed (λ a. concatMap idKeys (informed-stop-ids a)) 0 l [];
 }
 
 -- the keys that a leg is looked up by
@@ -85,9 +86,9 @@ distinct seen (i ∷ l) = cond (member i seen) (distinct seen l) (i ∷ distinct
 
 abbrev pub lookups : AlertIndex → List ℕ → List ℕ → List ℕ → List ℕ → List ℕ
 lookups x trip route from to =
-    join (λ k. get k (x .by-trip)) (legTrips trip)
-    ++ join (λ k. get k (x .by-route)) (legRoutes route)
-    ++ join (λ k. get k (x .by-stop)) (legStops from to)
+    concatMap (λ k. numbersAt k (x .by-trip)) (legTrips trip)
+    ++ concatMap (λ k. numbersAt k (x .by-route)) (legRoutes route)
+    ++ concatMap (λ k. numbersAt k (x .by-stop)) (legStops from to)
 
 abbrev pub alert-candidates-for-leg : List Alert → List ℕ → List ℕ → List ℕ → List ℕ → List ℕ
 alert-candidates-for-leg l trip route from to = distinct [] (lookups (rebuild-alert-index l) trip route from to)
@@ -103,9 +104,9 @@ candidate trip route from to a =
     || any (λ s. meets (legStops from to) (idKeys s)) (informed-stop-ids a)
 
 -- the numbers, from i on, of the alerts that a test takes
-abbrev pub numbers : (Alert → Bool) → ℕ → List Alert → List ℕ
-numbers p i [] = []
-numbers p i (a ∷ l) = let r = numbers p (suc i) l in cond (p a) (i ∷ r) r
+abbrev pub numbersWhere : (Alert → Bool) → ℕ → List Alert → List ℕ
+numbersWhere p i [] = []
+numbersWhere p i (a ∷ l) = let r = numbersWhere p (suc i) l in cond (p a) (i ∷ r) r
 
 abbrev pub search : List Alert → List ℕ → List ℕ → List ℕ → List ℕ → List ℕ
-search l trip route from to = numbers (candidate trip route from to) 0 l
+search l trip route from to = numbersWhere (candidate trip route from to) 0 l

@@ -9,7 +9,8 @@ use Prim.Native.String as String
 use Prim.Native.Char.{code}
 use lib.Dec.{ltb, eqb}
 use Rattle.formats.specs.Class.{inside}
-use Rattle.alerts.specs.Lists.{isEmpty}
+use Rattle.basics.specs.Lists.{isEmpty}
+use Rattle.basics.specs.Texts.{same}
 
 -- the UTF-8 bytes of a character, and of a quoted text
 abbrev pub utf8Of : ℕ → List ℕ
@@ -22,13 +23,6 @@ utf8Of n =
 abbrev pub text : String → List ℕ
 text String.[] = []
 text (String._∷_ c s) = utf8Of (code c) ++ text s
-
--- `==`
-abbrev pub same : List ℕ → List ℕ → Bool
-same [] [] = true
-same [] (b ∷ t) = false
-same (a ∷ s) [] = false
-same (a ∷ s) (b ∷ t) = let r = same s t in eqb a b && r
 
 -- `starts_with`, `ends_with`, `contains`
 abbrev pub begins : List ℕ → List ℕ → Bool
@@ -60,8 +54,8 @@ upperByte b = cond (inside (97, 122) b) (b - 32) b
 abbrev pub upper : List ℕ → List ℕ
 upper s = map upperByte s
 
-abbrev pub alike : List ℕ → List ℕ → Bool
-alike s t = same (upper s) (upper t)
+abbrev pub sameIgnoringCase : List ℕ → List ℕ → Bool
+sameIgnoringCase s t = same (upper s) (upper t)
 
 abbrev pub digit : ℕ → Bool
 digit b = inside (48, 57) b

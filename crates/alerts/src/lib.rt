@@ -1,6 +1,7 @@
 // The label of an alert, as a part of lent bytes.
 ghost use mathlib.Core.Path.{_≡_};
-ghost use Rattle.alerts.specs.Label.{continues, Ends, labelOf};
+ghost use Rattle.alerts.specs.Label.{continues, labelOf};
+ghost use Rattle.alerts.specs.promises.Label.{Ends};
 
 // Whether a byte goes on with a character.
 fn goes_on(b: u8) -> bool

@@ -10,14 +10,13 @@ use lib.Dec.{leb, eqb}
 use lib.ListN.{length, getD, take, drop, set, length-set, length-append, length-map, drop-of-length-le, take-append-drop}
 use lib.Seq.{drop-cons, take-suc-set, take-append-seam, take-at, drop-at, length-take-le}
 use borrow.Author.Tests.{le-leb, lt-leb, leb-true, eq-eqb, ne-eqb, eqb-true, eqb-false, not-true, not-false}
-use Rattle.formats.specs.laws.Law.{none-some}
-use Rattle.formats.specs.Class.{all}
-use Rattle.alerts.specs.Lists.{member}
+use Rattle.basics.specs.laws.Options.{none-some}
+use Rattle.basics.specs.Lists.{all, member}
 use Rattle.alerts.specs.Text.{text, upperByte, upper}
-use Rattle.alerts.specs.Applies.{accents, plain, unaccented, folded, fold-alert-blob, commercial-lines-in-text}
+use Rattle.alerts.specs.Applies.{accents, plainLetter, unaccented, folded, fold-alert-blob, commercial-lines-in-text}
 use Rattle.alerts.specs.promises.Reduced.{textOk, road}
 use Rattle.alerts_text.specs.promises.Blob.{letterOf, searched, Stepped, Written, Answered, okAt, fitsOf, roadOf}
-use Rattle.alerts.specs.laws.Lists.{and-true}
+use Rattle.basics.specs.laws.Booleans.{and-true}
 
 -- capitals
 pub upper-low : (b : ℕ) → b < 97 → b ≡ upperByte b
@@ -54,11 +53,11 @@ capital b = cond (leb 128 b && leb b 191) (getD capitals (b - 128) 0) 0
 
 right : ℕ → Bool
 unfolding capital
-right b = eqb (capital b) (letterOf (plain (b + 64) accents))
+right b = eqb (capital b) (letterOf (plainLetter (b + 64) accents))
 
-capital-is : (b : ℕ) → b < 256 → capital b ≡ letterOf (plain (b + 64) accents)
+capital-is : (b : ℕ) → b < 256 → capital b ≡ letterOf (plainLetter (b + 64) accents)
 unfolding capital right below
-capital-is b h = eqb-true (capital b) (letterOf (plain (b + 64) accents)) (at-below 256 right b refl h)
+capital-is b h = eqb-true (capital b) (letterOf (plainLetter (b + 64) accents)) (at-below 256 right b refl h)
 
 pub plain-other : (a b : ℕ) → (a ≡ 0xc3 → ⊥) → 0 ≡ letterOf (unaccented a b)
 plain-other a b h = sym (rw (ne-eqb a 0xc3 h) refl)
@@ -76,23 +75,23 @@ unfolding capital
 plain-table a b h g l m = sym (rw (eq-eqb a 0xc3 h) (sym (capital-is b g) ∙ rw (le-leb 128 b l, le-leb b 191 m) refl))
 
 -- no letter is 0, so that 0 says none
-plain-some : (c l : ℕ) (rows : List (ℕ × List ℕ)) → all (λ r. leb 1 (r .0)) rows ≡ true → plain c rows ≡ some l → 1 ≤ l
+plain-some : (c l : ℕ) (rows : List (ℕ × List ℕ)) → all (λ r. leb 1 (r .0)) rows ≡ true → plainLetter c rows ≡ some l → 1 ≤ l
 plain-some c l [] e h = none-some h
 plain-some c l (row ∷ rows) e h = go (member c (row .1)) h (plain-some c l rows (and-true {x = leb 1 (row .0)} e .1))
   where
-    go : (t : Bool) → cond t (some (row .0)) (plain c rows) ≡ some l → (plain c rows ≡ some l → 1 ≤ l) → 1 ≤ l
+    go : (t : Bool) → cond t (some (row .0)) (plainLetter c rows) ≡ some l → (plainLetter c rows ≡ some l → 1 ≤ l) → 1 ≤ l
     go true x ih = let same-letter : row .0 ≡ l = cc in omega (arith, leb-true 1 (row .0) (and-true {x = leb 1 (row .0)} e .0))
     go false x ih = ih x
 
 letter-none : (a b : ℕ) → letterOf (unaccented a b) ≡ 0 → unaccented a b ≡ none
 letter-none a b e = go (eqb a 0xc3) e
   where
-    row : (o : Option ℕ) → plain (b + 64) accents ≡ o → letterOf o ≡ 0 → o ≡ none
+    row : (o : Option ℕ) → plainLetter (b + 64) accents ≡ o → letterOf o ≡ 0 → o ≡ none
     row none x h = refl
     row (some l) x h = absurd (omega (arith, h, plain-some (b + 64) l accents refl x))
 
-    go : (t : Bool) → letterOf (cond t (plain (b + 64) accents) none) ≡ 0 → cond t (plain (b + 64) accents) none ≡ none
-    go true h = row (plain (b + 64) accents) refl h
+    go : (t : Bool) → letterOf (cond t (plainLetter (b + 64) accents) none) ≡ 0 → cond t (plainLetter (b + 64) accents) none ≡ none
+    go true h = row (plainLetter (b + 64) accents) refl h
     go false h = refl
 
 letter-some : (a b l : ℕ) → l ≡ letterOf (unaccented a b) → (l ≡ 0 → ⊥) → unaccented a b ≡ some l
@@ -185,7 +184,7 @@ fold-joined [] [] = refl
 fold-joined [] (x ∷ d) = refl
 fold-joined (a ∷ []) d = ap (λ o. folded o a (fold-alert-blob d) (fold-alert-blob (32 ∷ d))) (no-letter (eqb a 0xc3)) ∙ ap (λ l. upperByte a ∷ l) (fold-joined [] d)
   where
-    no-letter : (t : Bool) → cond t (plain (32 + 64) accents) none ≡ none
+    no-letter : (t : Bool) → cond t (plainLetter (32 + 64) accents) none ≡ none
     no-letter true = refl
     no-letter false = refl
 fold-joined (a ∷ b ∷ h) d = go (unaccented a b) (fold-joined h d) (fold-joined (b ∷ h) d)

@@ -9,19 +9,21 @@ use lib.Dec.{leb, eqb}
 use lib.ListN.{length, getD, take, drop, length-append, length-drop}
 use lib.Seq.{take-all, length-take-le}
 use borrow.Author.Tests.{le-leb, lt-leb, leb-true, leb-false, eq-eqb, ne-eqb, not-true, not-false}
-use Rattle.formats.specs.laws.Law.{none-some}
-use Rattle.alerts.specs.Lists.{any, filter, isEmpty}
-use Rattle.slices.specs.Lists.{equal}
-use Rattle.alerts.specs.Text.{text, same, begins, ends, contains, later, find}
-use Rattle.alerts.specs.Applies.{letters, numerals, trams, around, names, letterRows, names-number, names-tram, commercial-lines-in-text, marked, window, near, railModes}
+use Rattle.basics.specs.laws.Options.{none-some}
+use Rattle.basics.specs.Lists.{any, filter, isEmpty}
+use Rattle.basics.specs.Texts.{same}
+use Rattle.alerts.specs.Text.{text, begins, ends, contains, later, find}
+use Rattle.alerts.specs.Applies.{letters, numerals, trams, around, names, letterRows, names-number, names-tram, commercial-lines-in-text, anyMarker, window, markerNear, railModes}
 use Rattle.alerts.specs.promises.Reduced.{adviceMarkers, primary, secondary, textOk, road}
-use Rattle.alerts_text.specs.promises.Tables.{upTo, filled, patterns, anyIn, lesser, allLines, mentions, nearMarker, otherSubject, answerOf}
+use Rattle.alerts_text.specs.promises.Tables.{upTo, nameFilled, patterns, anyIn, lesser, allLines, mentions, nearMarker, otherSubject, answerOf}
 use Rattle.alerts_text.specs.declared.lines.Ask.{Ask}
 use Rattle.alerts_text.specs.declared.lines.Ask.the-variants.{Named, Own, Other, Advised}
 use Rattle.alerts_text.specs.declared.text.Found.{Found}
 use Rattle.alerts_text.specs.declared.text.Found.the-variants.{At, Nowhere}
 use Rattle.alerts_text.specs.promises.Found.{foundOf}
-use Rattle.alerts.specs.laws.Lists.{and-yes, and-no, or-false, both-ways, any-append, any-same, same-refl, same-true}
+use Rattle.basics.specs.laws.Lists.{any-append, any-same}
+use Rattle.basics.specs.laws.Texts.{same-refl, same-true}
+use Rattle.basics.specs.laws.Booleans.{and-yes, and-no, or-false, both-ways}
 use Rattle.alerts.specs.laws.Text.{begins-true}
 use Rattle.alerts_text.proofs.Patterns.{filled-none, filled-here, tail-whole}
 
@@ -136,16 +138,16 @@ window-is s i n h = go (leb (i + n + 24) (length s)) refl
         ∙ sym (take-all (i + n + 24 - (i - 48)) (drop (i - 48) s) (omega (arith, length-drop (i - 48) s, leb-false (i + n + 24) (length s) e)))
 
 pub window-marked : (s : List ℕ) (i n start e : ℕ) (t : Bool) → i + n ≤ length s → start ≡ i - 48 → e ≡ lesser (i + n + 24) (length s)
-    → t ≡ marked adviceMarkers (take (e - start) (drop start s)) → t ≡ marked adviceMarkers (window s i n)
+    → t ≡ anyMarker adviceMarkers (take (e - start) (drop start s)) → t ≡ anyMarker adviceMarkers (window s i n)
 window-marked s i n start e t h p q x =
     let part : take (e - start) (drop start s) ≡ window s i n = rw (p, q) (window-is s i n h) in
-    x ∙ ap (marked adviceMarkers) part
+    x ∙ ap (anyMarker adviceMarkers) part
 
 -- how long a filled pattern is
-pub unfilled-length : (name p : List ℕ) (h : ℕ) → h ≡ 0 + upTo 0x23 (drop 0 p) → length p ≤ h → length p ≡ length (filled name p)
+pub unfilled-length : (name p : List ℕ) (h : ℕ) → h ≡ 0 + upTo 0x23 (drop 0 p) → length p ≤ h → length p ≡ length (nameFilled name p)
 unfilled-length name p h e g = sym (ap length (filled-none name p (omega (arith, e))))
 
-pub filled-length : (name p : List ℕ) (h : ℕ) → h ≡ 0 + upTo 0x23 (drop 0 p) → h < length p → length name + (length p - 1) ≡ length (filled name p)
+pub filled-length : (name p : List ℕ) (h : ℕ) → h ≡ 0 + upTo 0x23 (drop 0 p) → h < length p → length name + (length p - 1) ≡ length (nameFilled name p)
 filled-length name p h e g =
     let here : upTo 0x23 p < length p = omega (arith, e) in
     omega (
@@ -189,17 +191,17 @@ found-room p s i n r e h g = rw g (go (find p s) refl (sym e ∙ h))
     go (some k) eo x = omega (arith, find-room p s k eo, unAt x)
 
 pub near-found : (p s : List ℕ) (i n : ℕ) (r : Found) (t : Bool) → r ≡ foundOf (find p s) → r ≡ At i → n ≡ length p
-    → t ≡ marked adviceMarkers (window s i n) → t ≡ nearMarker s p
+    → t ≡ anyMarker adviceMarkers (window s i n) → t ≡ nearMarker s p
 near-found p s i n r t e h g x = x ∙ go (find p s) (sym e ∙ h)
   where
-    go : (o : Option ℕ) → foundOf o ≡ At i → marked adviceMarkers (window s i n) ≡ near adviceMarkers s p o
+    go : (o : Option ℕ) → foundOf o ≡ At i → anyMarker adviceMarkers (window s i n) ≡ markerNear adviceMarkers s p o
     go none x = absurd (let z : _≡_ {A = ℕ} 0 1 = cc in omega arith)
     go (some k) x = rw (unAt x, g) refl
 
 pub near-nowhere : (p s : List ℕ) (r : Found) → r ≡ foundOf (find p s) → r ≡ Nowhere → false ≡ nearMarker s p
 near-nowhere p s r e h = go (find p s) (sym e ∙ h)
   where
-    go : (o : Option ℕ) → foundOf o ≡ Nowhere → false ≡ near adviceMarkers s p o
+    go : (o : Option ℕ) → foundOf o ≡ Nowhere → false ≡ markerNear adviceMarkers s p o
     go none x = refl
     go (some k) x = absurd (let z : _≡_ {A = ℕ} 0 1 = cc in omega arith)
 
@@ -214,24 +216,23 @@ pub primary-front : (s n : List ℕ) (t u : Bool) → t ≡ anyIn subjects n s �
 primary-front s n t u e h f = f ∙ ap (λ x. x || begins (around "LIGNE " n "") s) (sym (sym e ∙ h))
 
 -- equality as it is answered
-equal-same : (s t : List ℕ) → equal s t ≡ same s t
-unfolding equal
+equal-same : (s t : List ℕ) → same s t ≡ same s t
 equal-same [] [] = refl
 equal-same [] (b ∷ t) = refl
 equal-same (a ∷ s) [] = refl
 equal-same (a ∷ s) (b ∷ t) = ap (λ r. eqb a b && r) (equal-same s t)
 
-answered : (s t : List ℕ) (r : Bool) → r ≡ equal s t → r ≡ same s t
+answered : (s t : List ℕ) (r : Bool) → r ≡ same s t → r ≡ same s t
 answered s t r g = g ∙ equal-same s t
 
 module _ (s n m : List ℕ) (t : Bool) (e : t ≡ mentions s m) where
   pub other-unnamed : not t ≡ true → false ≡ otherSubject s n m
   other-unnamed h = sym (rw (← e, not-true t h) refl)
 
-  pub other-own : (r : Bool) → not t ≡ false → r ≡ equal m n → r ≡ true → false ≡ otherSubject s n m
+  pub other-own : (r : Bool) → not t ≡ false → r ≡ same m n → r ≡ true → false ≡ otherSubject s n m
   other-own r h g x = sym (rw (← e, not-false t h, ← answered m n r g, x) refl)
 
-  pub other-subject : (r u : Bool) → not t ≡ false → r ≡ equal m n → r ≡ false → u ≡ primary s m → u ≡ otherSubject s n m
+  pub other-subject : (r u : Bool) → not t ≡ false → r ≡ same m n → r ≡ false → u ≡ primary s m → u ≡ otherSubject s n m
   other-subject r u h g x f = f ∙ sym (rw (← e, not-false t h, ← answered m n r g, x) refl)
 
 -- each question
@@ -239,29 +240,29 @@ module _ (ask : Ask) (s n m : List ℕ) (t : Bool) where
   pub asked-named : ask ≡ Named → t ≡ mentions s m → t ≡ answerOf ask s n m
   asked-named h e = rw h e
 
-  pub asked-own : ask ≡ Own → t ≡ equal m n → t ≡ answerOf ask s n m
+  pub asked-own : ask ≡ Own → t ≡ same m n → t ≡ answerOf ask s n m
   asked-own h g = rw h (answered m n t g)
 
   pub asked-other : ask ≡ Other → t ≡ otherSubject s n m → t ≡ answerOf ask s n m
   asked-other h e = rw h e
 
-  pub asked-advised : ask ≡ Advised → t ≡ nearMarker s (filled n m) → t ≡ answerOf ask s n m
+  pub asked-advised : ask ≡ Advised → t ≡ nearMarker s (nameFilled n m) → t ≡ answerOf ask s n m
   asked-advised h e = rw h e
 
 -- advice
 pub secondary-near : (s n : List ℕ) (t : Bool) → t ≡ any (answerOf Advised s n) (patterns (text "LIGNE #|LIGNES #|METRO #| ET #| # | #.")) → t ≡ true → true ≡ secondary s n
-secondary-near s n t e h = ap (λ x. x || marked adviceMarkers s && (contains (text "RER ") s || contains (text "TRAVAUX SUR") s)) (sym (sym e ∙ h))
+secondary-near s n t e h = ap (λ x. x || anyMarker adviceMarkers s && (contains (text "RER ") s || contains (text "TRAVAUX SUR") s)) (sym (sym e ∙ h))
 
 pub secondary-not : (s n : List ℕ) (t u : Bool) → t ≡ any (answerOf Advised s n) (patterns (text "LIGNE #|LIGNES #|METRO #| ET #| # | #.")) → t ≡ false
-    → u ≡ marked adviceMarkers s → not u ≡ true → false ≡ secondary s n
+    → u ≡ anyMarker adviceMarkers s → not u ≡ true → false ≡ secondary s n
 secondary-not s n t u e h f g =
-    sym (ap (λ x. x || marked adviceMarkers s && (contains (text "RER ") s || contains (text "TRAVAUX SUR") s)) (sym e ∙ h) ∙ rw (← f, not-true u g) refl)
+    sym (ap (λ x. x || anyMarker adviceMarkers s && (contains (text "RER ") s || contains (text "TRAVAUX SUR") s)) (sym e ∙ h) ∙ rw (← f, not-true u g) refl)
 
 pub secondary-all : (s n : List ℕ) (t u v : Bool) → t ≡ any (answerOf Advised s n) (patterns (text "LIGNE #|LIGNES #|METRO #| ET #| # | #.")) → t ≡ false
-    → u ≡ marked adviceMarkers s → not u ≡ false → v ≡ anyIn (text "RER |TRAVAUX SUR") n s → v ≡ secondary s n
+    → u ≡ anyMarker adviceMarkers s → not u ≡ false → v ≡ anyIn (text "RER |TRAVAUX SUR") n s → v ≡ secondary s n
 secondary-all s n t u v e h f g k =
     k ∙ ap (λ x. contains (text "RER ") s || x) (or-false (contains (text "TRAVAUX SUR") s))
-    ∙ sym (ap (λ x. x || marked adviceMarkers s && (contains (text "RER ") s || contains (text "TRAVAUX SUR") s)) (sym e ∙ h) ∙ rw (← f, not-false u g) refl)
+    ∙ sym (ap (λ x. x || anyMarker adviceMarkers s && (contains (text "RER ") s || contains (text "TRAVAUX SUR") s)) (sym e ∙ h) ∙ rw (← f, not-false u g) refl)
 
 -- the lines of a text, asked as one list
 any-filter : (q p : List ℕ → Bool) (l : List (List ℕ)) → any q (filter p l) ≡ any (λ m. p m && q m) l

@@ -9,12 +9,12 @@ use lib.Dec.{eqb}
 use lib.ListN.{length, getD, take, drop, drop-of-length-le, length-drop}
 use lib.Seq.{drop-cons, drop-drop, take-length}
 use borrow.Author.Tests.{eq-eqb, ne-eqb}
-use Rattle.alerts.specs.Lists.{any}
+use Rattle.basics.specs.Lists.{any}
 use Rattle.alerts.specs.Text.{find, onto, split}
 use Rattle.alerts_text.specs.declared.text.Found.{Found}
 use Rattle.alerts_text.specs.promises.Found.{foundOf}
-use Rattle.alerts_text.specs.promises.Tables.{upTo, filled, patterns}
-use Rattle.alerts.specs.laws.Lists.{or-false}
+use Rattle.alerts_text.specs.promises.Tables.{upTo, nameFilled, patterns}
+use Rattle.basics.specs.laws.Booleans.{or-false}
 
 -- the first c from i on is the first from k on
 abbrev pub First : ℕ → List ℕ → ℕ → ℕ → Type 0
@@ -39,21 +39,21 @@ upTo-within c (b ∷ s) = go (eqb b c) (upTo-within c s)
     go false ih = omega arith
 
 -- a pattern with no place for the name, and one with one
-pub filled-none : (name p : List ℕ) → length p ≤ upTo 0x23 p → filled name p ≡ p
+pub filled-none : (name p : List ℕ) → length p ≤ upTo 0x23 p → nameFilled name p ≡ p
 filled-none name [] h = refl
 filled-none name (b ∷ p) h = go (eqb b 0x23) h (filled-none name p)
   where
-    go : (t : Bool) → suc (length p) ≤ cond t 0 (suc (upTo 0x23 p)) → (length p ≤ upTo 0x23 p → filled name p ≡ p) → cond t (name ++ p) (b ∷ filled name p) ≡ b ∷ p
+    go : (t : Bool) → suc (length p) ≤ cond t 0 (suc (upTo 0x23 p)) → (length p ≤ upTo 0x23 p → nameFilled name p ≡ p) → cond t (name ++ p) (b ∷ nameFilled name p) ≡ b ∷ p
     go true h ih = absurd (omega arith)
     go false h ih = ap (λ l. b ∷ l) (ih (omega arith))
 
-pub filled-here : (name p : List ℕ) → upTo 0x23 p < length p → filled name p ≡ take (upTo 0x23 p) p ++ name ++ drop (suc (upTo 0x23 p)) p
+pub filled-here : (name p : List ℕ) → upTo 0x23 p < length p → nameFilled name p ≡ take (upTo 0x23 p) p ++ name ++ drop (suc (upTo 0x23 p)) p
 filled-here name [] h = absurd (omega arith)
 filled-here name (b ∷ p) h = go (eqb b 0x23) h (filled-here name p)
   where
     go : (t : Bool) → cond t 0 (suc (upTo 0x23 p)) < suc (length p)
-        → (upTo 0x23 p < length p → filled name p ≡ take (upTo 0x23 p) p ++ name ++ drop (suc (upTo 0x23 p)) p)
-        → cond t (name ++ p) (b ∷ filled name p)
+        → (upTo 0x23 p < length p → nameFilled name p ≡ take (upTo 0x23 p) p ++ name ++ drop (suc (upTo 0x23 p)) p)
+        → cond t (name ++ p) (b ∷ nameFilled name p)
         ≡ take (cond t 0 (suc (upTo 0x23 p))) (b ∷ p) ++ name ++ drop (suc (cond t 0 (suc (upTo 0x23 p)))) (b ∷ p)
     go true h ih = refl
     go false h ih = ap (λ l. b ∷ l) (ih (omega arith))
@@ -63,12 +63,12 @@ pub tail-whole : (i : ℕ) (s : List ℕ) → take (length s - i) (drop i s) ≡
 tail-whole i s = ap (λ n. take n (drop i s)) (sym (length-drop i s)) ∙ take-length (drop i s)
 
 pub unfilled : (s name p : List ℕ) (h : ℕ) (r : Found) → h ≡ 0 + upTo 0x23 (drop 0 p) → length p ≤ h
-    → r ≡ foundOf (find (p ++ [] ++ []) s) → r ≡ foundOf (find (filled name p) s)
+    → r ≡ foundOf (find (p ++ [] ++ []) s) → r ≡ foundOf (find (nameFilled name p) s)
 unfilled s name p h r e g x =
     x ∙ ap (λ l. foundOf (find l s)) (append-nil (p ++ []) ∙ append-nil p ∙ sym (filled-none name p (omega (arith, e, g))))
 
 pub fills : (s name p : List ℕ) (h : ℕ) (r : Found) → h ≡ 0 + upTo 0x23 (drop 0 p) → h < length p
-    → r ≡ foundOf (find (take h p ++ name ++ take (length p - (h + 1)) (drop (h + 1) p)) s) → r ≡ foundOf (find (filled name p) s)
+    → r ≡ foundOf (find (take h p ++ name ++ take (length p - (h + 1)) (drop (h + 1) p)) s) → r ≡ foundOf (find (nameFilled name p) s)
 fills s name p h r e g x =
     let at : h ≡ upTo 0x23 p = omega (arith, e) in
     let here : upTo 0x23 p < length p = omega arith in

@@ -15,7 +15,7 @@ use Rattle.alerts.specs.Text.{begins, contains, later, find}
 use Rattle.alerts_text.specs.promises.Found.{foundOf}
 use Rattle.alerts_text.specs.declared.text.Found.{Found}
 use Rattle.alerts_text.specs.declared.text.Found.the-variants.{At, Nowhere}
-use Rattle.alerts.specs.laws.Lists.{false-true}
+use Rattle.basics.specs.laws.Booleans.{false-true}
 use Rattle.alerts.specs.laws.Text.{begins-true}
 
 -- p stands at i where the rest of p stands at k

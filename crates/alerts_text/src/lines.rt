@@ -2,11 +2,12 @@
 ghost use mathlib.Core.Path.{_≡_};
 ghost use Prim.Native.Nat.{_+_, _-_, _≤_};
 ghost use lib.ListN.{length};
-ghost use Rattle.alerts.specs.Lists.{any};
-ghost use Rattle.alerts.specs.Text.{same, ends};
-ghost use Rattle.alerts.specs.Applies.{around, names, letterRows, names-number, names-tram, commercial-lines-in-text, marked, window, railModes};
+ghost use Rattle.basics.specs.Lists.{any};
+ghost use Rattle.alerts.specs.Text.{ends};
+ghost use Rattle.basics.specs.Texts.{same};
+ghost use Rattle.alerts.specs.Applies.{around, names, letterRows, names-number, names-tram, commercial-lines-in-text, anyMarker, window, railModes};
 ghost use Rattle.alerts.specs.promises.Reduced.{adviceMarkers, primary, secondary, textOk, road};
-ghost use Rattle.alerts_text.specs.promises.Tables.{filled, patterns, lesser, allLines, mentions, nearMarker, otherSubject, answerOf};
+ghost use Rattle.alerts_text.specs.promises.Tables.{nameFilled, patterns, lesser, allLines, mentions, nearMarker, otherSubject, answerOf};
 
 // What is asked of each piece of a table.
 pub enum Ask {
@@ -79,7 +80,7 @@ fn mentions(s: &[u8], name: &[u8]) -> bool
 
 // Whether s has a marker of advice.
 fn marked(s: &[u8]) -> bool
-    ensures { λ r. ⌜ r ≡ marked adviceMarkers (now (s .entry)) ⌝ }
+    ensures { λ r. ⌜ r ≡ anyMarker adviceMarkers (now (s .entry)) ⌝ }
 {
     crate::text::any_in(
         b"PRIVILEGIE|SATURATION|REPORTEZ|REPORTER|UTILISEZ|EMPRUNTEZ|EN DIRECTION DE LA LIGNE|VERS LA LIGNE|CORRESPONDANCE AVEC",
@@ -133,7 +134,7 @@ fn ahead(i: usize, end: usize) -> usize
 // Whether a marker stands in the window around the n bytes at i.
 fn marked_near(s: &[u8], i: usize, n: usize) -> bool
     requires { ⌜ i + n ≤ length (now s) ⌝ }
-    ensures { λ r. ⌜ r ≡ marked adviceMarkers (window (now (s .entry)) i n) ⌝ }
+    ensures { λ r. ⌜ r ≡ anyMarker adviceMarkers (window (now (s .entry)) i n) ⌝ }
 {
     let start = back(i);
     let past = i + n;
@@ -143,7 +144,7 @@ fn marked_near(s: &[u8], i: usize, n: usize) -> bool
 
 // How long a pattern is with the name in its place.
 fn filled_len(name: &[u8], pattern: &[u8]) -> usize
-    ensures { λ r. ⌜ r ≡ length (filled (now (name .entry)) (now (pattern .entry))) ⌝ }
+    ensures { λ r. ⌜ r ≡ length (nameFilled (now (name .entry)) (now (pattern .entry))) ⌝ }
 {
     let h = crate::text::next(pattern, 0, b'#');
     if pattern.len() <= h {
@@ -154,7 +155,7 @@ fn filled_len(name: &[u8], pattern: &[u8]) -> usize
 
 // Whether a marker stands near the first place of a pattern.
 fn near_marker(s: &[u8], name: &[u8], pattern: &[u8]) -> bool
-    ensures { λ r. ⌜ r ≡ nearMarker (now (s .entry)) (filled (now (name .entry)) (now (pattern .entry))) ⌝ }
+    ensures { λ r. ⌜ r ≡ nearMarker (now (s .entry)) (nameFilled (now (name .entry)) (now (pattern .entry))) ⌝ }
 {
     match crate::text::find_filled(s, name, pattern) {
         crate::text::Found::At(i) => {

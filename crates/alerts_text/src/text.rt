@@ -5,7 +5,7 @@ ghost use Prim.Native.Nat.{_+_};
 ghost use lib.ListN.{drop};
 ghost use Rattle.alerts.specs.Text.{begins, contains, find};
 ghost use Rattle.alerts_text.specs.promises.Found.{foundOf};
-ghost use Rattle.alerts_text.specs.promises.Tables.{upTo, filled, anyIn};
+ghost use Rattle.alerts_text.specs.promises.Tables.{upTo, nameFilled, anyIn};
 
 // Where a text is first found.
 pub enum Found {
@@ -80,7 +80,7 @@ pub fn next(s: &[u8], i: usize, b: u8) -> usize
 
 // Where a pattern, with the name in its place, first stands in s.
 pub fn find_filled(s: &[u8], name: &[u8], pattern: &[u8]) -> Found
-    ensures { λ r. ⌜ r ≡ foundOf (find (filled (now (name .entry)) (now (pattern .entry))) (now (s .entry))) ⌝ }
+    ensures { λ r. ⌜ r ≡ foundOf (find (nameFilled (now (name .entry)) (now (pattern .entry))) (now (s .entry))) ⌝ }
 {
     let h = next(pattern, 0, b'#');
     if pattern.len() <= h {
@@ -93,7 +93,7 @@ pub fn find_filled(s: &[u8], name: &[u8], pattern: &[u8]) -> Found
 
 // Whether it stands anywhere in s.
 pub fn contains_filled(s: &[u8], name: &[u8], pattern: &[u8]) -> bool
-    ensures { λ r. ⌜ r ≡ contains (filled (now (name .entry)) (now (pattern .entry))) (now (s .entry)) ⌝ }
+    ensures { λ r. ⌜ r ≡ contains (nameFilled (now (name .entry)) (now (pattern .entry))) (now (s .entry)) ⌝ }
 {
     match find_filled(s, name, pattern) {
         Found::At(_) => true,

@@ -14,11 +14,11 @@ use Rattle.slices.specs.Lists.{pasted}
 use Rattle.realtime_views.specs.promises.Views.{spanIn, SpanInside, viewDirection}
 use Rattle.realtime_views.specs.declared.Trip.{Trip}
 use Rattle.realtime_views.specs.declared.Span.{Span}
-use Rattle.decode.specs.Trip.{Maybe}
-use Rattle.decode.specs.Key.{empty, decimalOf, shown, prefixed, headOf, tailOf}
+use Rattle.basics.specs.Options.{Maybe, maybe}
+use Rattle.decode.specs.Key.{decimalOf, directionText, prefixed, headOf, tailOf}
+use Rattle.basics.specs.Lists.{isEmpty}
 use Rattle.decode.specs.laws.Written.{none, then, written-there, written-before, written-whole}
 use Rattle.decode.specs.promises.Written.{Added}
-use Rattle.decode.specs.Record.{maybe}
 use Rattle.decode.specs.promises.Keyed.{Short, Keyed}
 
 pub added-text : (out : List ℕ) (at : ℕ) (x out′ : List ℕ) → at + length x ≤ length out → out′ ≡ pasted out at x → Added out at x out′ (at + length x)
@@ -70,11 +70,11 @@ keyed {keys} {keys′} {k} {n} {p} a h =
 pub joined : {o₀ o₁ o₂ o₃ x y : List ℕ} {at p q r : ℕ} (b : ℕ) → Added o₀ at x o₁ p → Added o₁ p (b ∷ []) o₂ q → Added o₂ q y o₃ r → Added o₀ at (x ++ b ∷ y) o₃ r
 joined {o₀} {o₁} {o₂} {o₃} {x} {y} {at} {p} {q} {r} b f g h = rw (append-assoc x (b ∷ []) y) at (then (then f g) h)
 
-pub nonempty : (x : List ℕ) → (length x ≡ 0 → ⊥) → empty x ≡ false
+pub nonempty : (x : List ℕ) → (length x ≡ 0 → ⊥) → isEmpty x ≡ false
 nonempty [] h = absurd (h refl)
 nonempty (b ∷ x) h = refl
 
-pub nothing : (x : List ℕ) → length x ≡ 0 → empty x ≡ true
+pub nothing : (x : List ℕ) → length x ≡ 0 → isEmpty x ≡ true
 nothing [] h = refl
 nothing (b ∷ x) h = absurd (omega arith)
 
@@ -90,13 +90,13 @@ unrouted out feed s at route z h = rw z (none out at h)
 
 -- the lengths of the parts of an incomplete key
 pub prefixed-short : (feed s : List ℕ) (route : Span) → length feed ≤ 16 → SpanInside (length s) route → route .len ≤ 64 → length (prefixed feed (spanIn s route)) ≤ 81
-prefixed-short feed s route h i g = go (empty (spanIn s route))
+prefixed-short feed s route h i g = go (isEmpty (spanIn s route))
   where
     go : (b : Bool) → length (cond b [] (feed ++ 58 ∷ spanIn s route)) ≤ 81
     go true = omega arith
     go false = omega (arith, length-append feed (58 ∷ spanIn s route), span-length s (spanIn s route) (route .start) (route .len) refl i)
 
-shown-short : (d : Maybe ℕ) → length (shown d) ≤ 10
+shown-short : (d : Maybe ℕ) → length (directionText d) ≤ 10
 shown-short (inl u) = omega arith
 shown-short (inr n) = decimal-short 10 n
 
@@ -106,7 +106,7 @@ module _ (feed s : List ℕ) (t : Trip) (f : length feed ≤ 16) (S : Short s t)
       let route = prefixed feed (spanIn s (t .route)) in
       omega (
         arith,
-        length-append ((35 ∷ 114 ∷ 61 ∷ []) ++ route ++ (38 ∷ 100 ∷ 61 ∷ [])) (shown (maybe (viewDirection (t .direction)))),
+        length-append ((35 ∷ 114 ∷ 61 ∷ []) ++ route ++ (38 ∷ 100 ∷ 61 ∷ [])) (directionText (maybe (viewDirection (t .direction)))),
         length-append ((35 ∷ 114 ∷ 61 ∷ []) ++ route) (38 ∷ 100 ∷ 61 ∷ []),
         length-append (35 ∷ 114 ∷ 61 ∷ []) route,
         prefixed-short feed s (t .route) f (S .route .0) (S .route .1),

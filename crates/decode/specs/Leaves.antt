@@ -4,14 +4,14 @@ use mathlib.Core.Bool.{Bool, false, cond, _||_}
 use mathlib.Core.List.{List, [], _∷_, _++_}
 use lib.IntN.{ℤ}
 use lib.Dec.{eqb}
-use Rattle.wire.specs.Wire.{mapO}
+use mathlib.Core.Option.{Option·map}
 use Rattle.realtime.specs.Tree.{Tree, rep}
 use Rattle.realtime_views.specs.Typed.{int64}
 use Rattle.realtime_views.specs.Views.{header}
-use Rattle.decode.specs.Trip.{Trip, Maybe}
-use Rattle.decode.specs.Map.{puts}
-use Rattle.decode.specs.Order.{texts}
-use Rattle.decode.specs.Record.{maybe}
+use Rattle.decode.specs.Trip.{Trip}
+use Rattle.basics.specs.Options.{Maybe, maybe}
+use Rattle.maps.specs.Map.{puts}
+use Rattle.maps.specs.Order.{texts}
 use Rattle.decode.specs.Key.{entriesIn}
 
 -- the trips of a feed, by the rest of their keys after the feed and ':'
@@ -23,7 +23,7 @@ differential m = header m .differential
 
 -- the header's timestamp: 64 bits read as signed
 abbrev pub timestampIn : Tree → Maybe ℤ
-timestampIn m = maybe (mapO int64 (header m .timestamp))
+timestampIn m = maybe (Option·map int64 (header m .timestamp))
 
 unfoldable pub entries : List ℕ → List Tree → Trips
 entries feed [] = []
@@ -34,10 +34,10 @@ unfoldable pub leaves : List ℕ → Tree → Trips → Trips
 leaves feed m old = puts texts (entries feed (rep 2 m)) (cond (differential m) old [])
 
 -- `trip_update_count` after a message: the keys without '@', the feed's id included
-abbrev pub has : ℕ → List ℕ → Bool
-has c [] = false
-has c (b ∷ s) = eqb b c || has c s
+abbrev pub hasByte : ℕ → List ℕ → Bool
+hasByte c [] = false
+hasByte c (b ∷ s) = eqb b c || hasByte c s
 
-unfoldable pub countOf : List ℕ → Trips → ℕ
-countOf feed [] = 0
-countOf feed (e ∷ m) = cond (has 64 (feed ++ 58 ∷ e .0)) (countOf feed m) (suc (countOf feed m))
+unfoldable pub countWithoutAt : List ℕ → Trips → ℕ
+countWithoutAt feed [] = 0
+countWithoutAt feed (e ∷ m) = cond (hasByte 64 (feed ++ 58 ∷ e .0)) (countWithoutAt feed m) (suc (countWithoutAt feed m))

@@ -1,6 +1,4 @@
 pub mod Trip
-pub mod Map
-pub mod Order
 pub mod Record
 pub mod Key
 pub mod Leaves

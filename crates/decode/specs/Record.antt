@@ -2,17 +2,12 @@
 use Prim.Native.Nat.{ℕ}
 use mathlib.Core.Bool.{Bool, cond}
 use mathlib.Core.List.{List, [], map}
-use mathlib.Core.Logic.{inl, inr}
-use mathlib.Core.Option.{Option, none, some}
 use Rattle.realtime.specs.Tree.{Tree, sub, rep}
 use Rattle.realtime_views.specs.Views.{trip, stopUpdate}
-use Rattle.decode.specs.Trip.{StopUpdate, Trip, Maybe}
-use Rattle.decode.specs.Map.{puts}
-use Rattle.decode.specs.Order.{numbers}
-
-abbrev pub maybe : {A : Type 0} → Option A → Maybe A
-maybe none = inl tt
-maybe (some a) = inr a
+use Rattle.decode.specs.Trip.{StopUpdate, Trip}
+use Rattle.basics.specs.Options.{maybe}
+use Rattle.maps.specs.Map.{puts}
+use Rattle.maps.specs.Order.{numbers}
 
 abbrev pub bit : Bool → ℕ
 bit b = cond b 1 0

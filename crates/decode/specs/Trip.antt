@@ -2,10 +2,10 @@
 -- without the feed's prefix, and an empty text is an absent one.
 use Prim.Native.Nat.{ℕ}
 use mathlib.Core.List.{List}
-use mathlib.Core.Logic.{_⊎_}
 use lib.IntN.{ℤ, pos, negsuc}
 use Rattle.formats.specs.Class.{printable}
 use Rattle.formats.specs.Format.{Format, number, signed, small, text, list, _&_, optional, Value}
+use Rattle.basics.specs.Options.{Maybe}
 
 -- the limits of questions 5 and 6
 abbrev pub id : Format
@@ -44,10 +44,6 @@ StopUpdate = Value stopUpdate
 abbrev pub Trip : Type 0
 Trip = Value trip
 
--- what an optional value is: absent, or given
-abbrev pub Maybe : Type 0 → Type 0
-Maybe A = Unit {0} ⊎ A
-
 module _ (u : StopUpdate) where
   abbrev pub stopOf : List ℕ
   stopOf = u .0
@@ -63,9 +59,6 @@ module _ (u : StopUpdate) where
 
   abbrev pub departureTimeOf : Maybe ℤ
   departureTimeOf = u .1 .1 .1 .1 .0
-
-  abbrev pub skippedOf : ℕ
-  skippedOf = u .1 .1 .1 .1 .1
 
 module _ (t : Trip) where
   abbrev pub delayOf : Maybe ℤ

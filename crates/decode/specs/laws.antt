@@ -1,5 +1,3 @@
-pub mod Order
-pub mod Map
 pub mod Written
 pub mod Leaves
 pub mod Fine

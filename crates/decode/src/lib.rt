@@ -6,9 +6,9 @@ ghost use mathlib.Core.Path.{_≡_};
 ghost use Prim.Native.Nat.{_+_, _*_, _≤_, _<_};
 ghost use mathlib.Core.List.{[], _∷_, _++_};
 ghost use lib.ListN.{length, take, drop};
-ghost use Rattle.decode.specs.Key.{decimalOf, datedKey, prefixed, shown, headOf, tailOf};
+ghost use Rattle.decode.specs.Key.{decimalOf, datedKey, prefixed, directionText, headOf, tailOf};
 ghost use Rattle.realtime_views.specs.promises.Views.{spanIn, SpanInside, viewDirection};
-ghost use Rattle.decode.specs.Record.{maybe};
+ghost use Rattle.basics.specs.Options.{maybe};
 ghost use Rattle.decode.specs.promises.Written.{Added};
 ghost use Rattle.decode.specs.promises.Keyed.{Room, Short, Keyed};
 
@@ -90,7 +90,7 @@ fn write_route(keys: &mut [u8], at: usize, feed: &[u8], s: &[u8], route: Span) -
 
 fn write_direction(keys: &mut [u8], at: usize, direction: Direction) -> usize
     requires { ⌜ at + 10 ≤ length (now keys) ⌝ }
-    ensures { λ r. ⌜ Added (now (keys .entry)) at (shown (maybe (viewDirection direction))) (now (keys .exit)) r ⌝ }
+    ensures { λ r. ⌜ Added (now (keys .entry)) at (directionText (maybe (viewDirection direction))) (now (keys .exit)) r ⌝ }
 {
     match direction {
         Direction::Given(d) => decimal(10, keys, at, d),

@@ -1,3 +1,3 @@
 -- Lemmas on plain values.
-mod Going
-mod Together
+mod Entities
+mod Leaves

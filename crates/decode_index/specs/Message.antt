@@ -6,5 +6,5 @@ use Rattle.realtime.specs.Schema.{feedMessage}
 use Rattle.realtime.specs.Schema as schema
 use Rattle.decode_slots.specs.Places.{orEnd}
 
-abbrev pub messageOf : List ℕ → Tree
-messageOf s = orEnd (tree schema.feed feedMessage s)
+abbrev pub messageTree : List ℕ → Tree
+messageTree s = orEnd (tree schema.feed feedMessage s)

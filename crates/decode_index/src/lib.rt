@@ -4,9 +4,9 @@ ghost use mathlib.Core.Path.{_≡_};
 ghost use Prim.Native.Nat.{_≤_};
 ghost use lib.ListN.{length};
 ghost use Rattle.decode_slots.specs.Index.{index};
-ghost use Rattle.decode_slots.specs.promises.Index.{Sound};
+ghost use Rattle.decode_slots.specs.promises.Index.{SoundIndex};
 ghost use Rattle.decode_old.specs.promises.Old.{Stands};
-ghost use Rattle.decode_index.specs.promises.Message.{Judged, Indexed};
+ghost use Rattle.decode_index.specs.promises.Message.{JudgedMessage, Indexed};
 ghost use Rattle.decode_index.specs.promises.Leaving.{Old, Begun, Leaves};
 
 // The entities of a message are applied one after the other: how many keys there are then. Above 2,048 the rest is not looked at.
@@ -18,9 +18,9 @@ pub fn apply_entities(
     feed: &[u8],
     s: &[u8],
 ) -> usize
-    requires { ⌜ Sound (now keys) (now marks) (now order) n ⌝ }
+    requires { ⌜ SoundIndex (now keys) (now marks) (now order) n ⌝ }
     requires { ⌜ (n ≤ 2048) × (length (now feed) ≤ 16) × (length (now s) ≤ 1048576) ⌝ }
-    requires { ⌜ Judged (now s) ⌝ }
+    requires { ⌜ JudgedMessage (now s) ⌝ }
     ensures { λ r. ⌜ Indexed (now (feed .entry)) (now (s .entry)) (index (now (keys .entry)) (now (marks .entry)) (now (order .entry)) n) (now (keys .exit)) (now (marks .exit)) (now (order .exit)) r ⌝ }
 {
     let mut walk = realtime_views::entities(s);
@@ -82,7 +82,7 @@ pub fn leave(
 ) -> Left
     requires { ⌜ (length (now keys) ≡ 280713) × (length (now marks) ≡ 6147) × (length (now order) ≡ 2049) × (length (now updates) ≡ 387) ⌝ }
     requires { ⌜ (length (now feed) ≤ 16) × (length (now s) ≤ 1048576) ⌝ }
-    requires { ⌜ Judged (now s) ⌝ }
+    requires { ⌜ JudgedMessage (now s) ⌝ }
     requires { ⌜ Old (now old) at ⌝ }
     ensures { λ r. ⌜ Leaves (now (feed .entry)) (now (s .entry)) (now (old .entry)) at (now (keys .exit)) (now (marks .exit)) (now (order .exit)) r ⌝ }
 {

@@ -9,19 +9,20 @@ use Rattle.realtime.specs.Schema as schema
 use Rattle.realtime_views.specs.Views.{trip}
 use Rattle.realtime_views.specs.promises.Views.{spanIn, TripRead, DeletedRead}
 use Rattle.realtime_views.specs.declared.Trip.{Trip}
-use Rattle.decode.specs.Map.{puts}
-use Rattle.decode.specs.Order.{texts}
-use Rattle.decode.specs.Record.{maybe, tripIn}
+use Rattle.maps.specs.Map.{puts}
+use Rattle.maps.specs.Order.{texts}
+use Rattle.decode.specs.Record.{tripIn}
+use Rattle.basics.specs.Options.{maybe}
 use Rattle.decode.specs.Key.{inserts, entriesIn}
 use Rattle.decode_slots.specs.Index.{index}
-use Rattle.decode_slots.specs.promises.Index.{Sound}
+use Rattle.decode_slots.specs.promises.Index.{SoundIndex}
 use Rattle.decode.specs.promises.Keyed.{Short}
-use Rattle.decode_keys.specs.promises.Entity.{placed, Agrees, Entered, Fine, Applies}
+use Rattle.decode_keys.specs.promises.Entity.{placedAt, Agrees, Entered, FineEntity, Applies}
 use Rattle.decode.proofs.Writing.{span-length}
 
 module _ {s : List ℕ} {start len : ℕ} where
   -- the texts are short
-  pub short : {t : Trip} → TripRead schema.feed s start len t → Fine s start len → Short s t
+  pub short : {t : Trip} → TripRead schema.feed s start len t → FineEntity s start len → Short s t
   short {t} R F =
       let v = R .of (F .entity) (F .read) in
       let size : (x y : List ℕ) (i l : ℕ) → x ≡ y → take l (drop i s) ≡ x → i + l ≤ length s → length y ≡ l = λ x y i l e f h. ap length (sym e) ∙ span-length s x i l (sym f) h in
@@ -33,7 +34,7 @@ module _ {s : List ℕ} {start len : ℕ} where
       }
 
   -- a deleted entity
-  pub applies-none : {keys marks order : List ℕ} {n : ℕ} {d : Bool} (feed : List ℕ) → Sound keys marks order n → n ≤ 2048 → DeletedRead schema.feed s start len d → d ≡ true
+  pub applies-none : {keys marks order : List ℕ} {n : ℕ} {d : Bool} (feed : List ℕ) → SoundIndex keys marks order n → n ≤ 2048 → DeletedRead schema.feed s start len d → d ≡ true
       → Applies feed s start len keys marks order n keys marks order n
   unfolding entriesIn
   applies-none {keys} {marks} {order} {n} feed Q c R h = record {
@@ -62,7 +63,7 @@ module _ {s : List ℕ} {start len : ℕ} where
         let l : inserts feed (spanIn s (t .id)) (tripIn e) ≡ entriesIn feed e =
         ap (λ x. inserts feed x (tripIn e)) (ap (λ w. w .id) v) ∙ sym (ap (λ b. cond b [] (inserts feed (trip e .id) (tripIn e))) (sym (D .of e q) ∙ h)) in
         record {
-          few = λ g. E .few g (tripIn e) a ∙ ap (λ x. puts texts (placed (start, start + len) x) (index keys marks order n)) l;
+          few = λ g. E .few g (tripIn e) a ∙ ap (λ x. puts texts (placedAt (start, start + len) x) (index keys marks order n)) l;
           many = λ g. rw (← l) (E .many g (tripIn e) a);
         };
   }

@@ -4,25 +4,25 @@ use mathlib.Core.Path.{_≡_, refl, sym, ap, _∙_}
 use mathlib.Core.List.{List, [], _∷_, _++_}
 use native.Mathlib.Omega.{arith}
 use lib.ListN.{length, getD, take, drop}
-use Rattle.formats.specs.Readers.{All}
+use Rattle.basics.specs.Lists.{All}
 use Rattle.realtime_views.specs.laws.Reading.{front-part}
-use Rattle.decode.specs.Map.{put, puts, ascending}
-use Rattle.decode.specs.Order.{texts}
-use Rattle.decode.specs.laws.Map.{put-longer}
-use Rattle.decode_slots.specs.Index.{index, keyAt, placeAt, slotted}
-use Rattle.decode_slots.specs.promises.Index.{Sound, Settled}
+use Rattle.maps.specs.Map.{put, puts, ascending}
+use Rattle.maps.specs.Order.{texts}
+use Rattle.maps.specs.laws.Map.{put-longer}
+use Rattle.decode_slots.specs.Index.{index, slotKey, slotPlace, slotted}
+use Rattle.decode_slots.specs.promises.Index.{SoundIndex, Settled}
 use Rattle.realtime_views.specs.promises.Views.{spanIn, viewDirection}
 use Rattle.realtime_views.specs.declared.Trip.{Trip}
 use Rattle.decode.specs.Trip as held
-use Rattle.decode.specs.Record.{maybe}
+use Rattle.basics.specs.Options.{maybe}
 use Rattle.decode.specs.Key.{inserts, datedKey, incompleteKey, headOf, tailOf}
 use Rattle.decode.specs.promises.Keyed.{Short, Keyed}
-use Rattle.decode_keys.specs.promises.Entity.{Filed, placed, Agrees, Entered}
+use Rattle.decode_keys.specs.promises.Entity.{Filed, placedAt, Agrees, Entered}
 use Rattle.decode_keys.specs.laws.Lengths.{filed-length}
 use Rattle.decode.proofs.Writing.{nonempty, nothing, span-length}
 
-module _ {keys marks order k keys′ : List ℕ} {n r : ℕ} (S : Sound keys marks order n) (c : n ≤ 2048) (K : Keyed keys n k keys′ r) where
-  key-kept : (j : ℕ) → j < n → keyAt keys′ marks j ≡ keyAt keys marks j
+module _ {keys marks order k keys′ : List ℕ} {n r : ℕ} (S : SoundIndex keys marks order n) (c : n ≤ 2048) (K : Keyed keys n k keys′ r) where
+  key-kept : (j : ℕ) → j < n → slotKey keys′ marks j ≡ slotKey keys marks j
   key-kept j h =
       let l = getD marks (3 * j) 0 in
       let b : 137 * j + l ≤ 137 * n = omega (arith, S .lengths j h) in
@@ -35,9 +35,9 @@ module _ {keys marks order k keys′ : List ℕ} {n r : ℕ} (S : Sound keys mar
   slots-kept (j ∷ l) h =
       let a = key-kept j (h .0) in
       let b = slots-kept l (h .1) in
-      λ t. (a t, placeAt marks j) ∷ b t
+      λ t. (a t, slotPlace marks j) ∷ b t
 
-  pub still : Sound keys′ marks order n
+  pub still : SoundIndex keys′ marks order n
   still = record {
     counted = S .counted;
     ordered = S .ordered;
@@ -48,9 +48,9 @@ module _ {keys marks order k keys′ : List ℕ} {n r : ℕ} (S : Sound keys mar
     ascends = ap (ascending texts) (slots-kept (take n order) (S .slots)) ∙ S .ascends;
   }
 
-  pub filed : {from till q : ℕ} {marks′ order′ : List ℕ} → Settled keys′ marks order n r from till marks′ order′ q → Filed keys marks order n k from till keys′ marks′ order′ q
-  filed {from} {till} T = record {
-    map = T .map ∙ (λ t. put texts (K .key t) (from, till) (slots-kept (take n order) (S .slots) t));
+  pub filed : {from to q : ℕ} {marks′ order′ : List ℕ} → Settled keys′ marks order n r from to marks′ order′ q → Filed keys marks order n k from to keys′ marks′ order′ q
+  filed {from} {to} T = record {
+    map = T .map ∙ (λ t. put texts (K .key t) (from, to) (slots-kept (take n order) (S .slots) t));
     sound = T .sound;
   }
 
@@ -86,29 +86,29 @@ module _ (feed s : List ℕ) (t : Trip) (S : Short s t) where
   incomplete-key u a = sym (λ i. headOf feed (a .route i) (a .direction i) ++ tailOf (a .date i) (a .time i))
 
   -- no key
-  pub enters-none : {keys marks order : List ℕ} {n : ℕ} (from till : ℕ) → Sound keys marks order n → n ≤ 2048 → t .id .len ≡ 0 → t .route .len ≡ 0
-      → Entered feed s t from till keys marks order n keys marks order n
-  enters-none {keys} {marks} {order} {n} from till Q c z y = record {
+  pub enters-none : {keys marks order : List ℕ} {n : ℕ} (from to : ℕ) → SoundIndex keys marks order n → n ≤ 2048 → t .id .len ≡ 0 → t .route .len ≡ 0
+      → Entered feed s t from to keys marks order n keys marks order n
+  enters-none {keys} {marks} {order} {n} from to Q c z y = record {
     sound = Q;
-    few = λ h u a. sym (ap (λ l. puts texts (placed (from, till) l) (index keys marks order n)) (inserts-none feed u (spanIn s (t .id)) (id-length ∙ z) (route-length u a ∙ y)));
+    few = λ h u a. sym (ap (λ l. puts texts (placedAt (from, to) l) (index keys marks order n)) (inserts-none feed u (spanIn s (t .id)) (id-length ∙ z) (route-length u a ∙ y)));
     many = λ h u a. absurd (omega arith);
   }
 
-  module _ {from till : ℕ} {keys marks order k keys′ marks′ order′ : List ℕ} {n r : ℕ} (F : Filed keys marks order n k from till keys′ marks′ order′ r) where
-    alone : ((u : held.Trip) → Agrees s t u → inserts feed (spanIn s (t .id)) u ≡ (k, u) ∷ []) → Entered feed s t from till keys marks order n keys′ marks′ order′ r
+  module _ {from to : ℕ} {keys marks order k keys′ marks′ order′ : List ℕ} {n r : ℕ} (F : Filed keys marks order n k from to keys′ marks′ order′ r) where
+    alone : ((u : held.Trip) → Agrees s t u → inserts feed (spanIn s (t .id)) u ≡ (k, u) ∷ []) → Entered feed s t from to keys marks order n keys′ marks′ order′ r
     alone e = record {
       sound = F .sound;
-      few = λ h u a. F .map ∙ sym (ap (λ l. puts texts (placed (from, till) l) (index keys marks order n)) (e u a));
+      few = λ h u a. F .map ∙ sym (ap (λ l. puts texts (placedAt (from, to) l) (index keys marks order n)) (e u a));
       many = λ h u a. rw (e u a) (omega (arith, filed-length F));
     }
 
     pub enters-incomplete : k ≡ headOf feed (spanIn s (t .route)) (maybe (viewDirection (t .direction))) ++ tailOf (spanIn s (t .date)) (spanIn s (t .time)) → t .id .len ≡ 0 → (t .route .len ≡ 0 → ⊥)
-        → Entered feed s t from till keys marks order n keys′ marks′ order′ r
+        → Entered feed s t from to keys marks order n keys′ marks′ order′ r
     enters-incomplete e z y =
         alone (λ u a. inserts-incomplete feed u (spanIn s (t .id)) (id-length ∙ z) (λ q. y (sym (route-length u a) ∙ q))
         ∙ ap {B = List (List ℕ × held.Trip)} (λ x. (x, u) ∷ []) (incomplete-key u a ∙ sym e))
 
-    pub enters-base : k ≡ spanIn s (t .id) → (t .id .len ≡ 0 → ⊥) → t .date .len ≡ 0 → Entered feed s t from till keys marks order n keys′ marks′ order′ r
+    pub enters-base : k ≡ spanIn s (t .id) → (t .id .len ≡ 0 → ⊥) → t .date .len ≡ 0 → Entered feed s t from to keys marks order n keys′ marks′ order′ r
     enters-base e z y =
         alone (λ u a. inserts-base feed u (spanIn s (t .id)) (λ q. z (sym id-length ∙ q)) (date-length u a ∙ y)
         ∙ ap {B = List (List ℕ × held.Trip)} (λ x. (x, u) ∷ []) (sym e))
@@ -120,17 +120,17 @@ module _ (feed s : List ℕ) (t : Trip) (S : Short s t) where
           inserts-dated feed u (spanIn s (t .id)) (λ q. z (sym id-length ∙ q)) (λ q. y (sym (date-length u a) ∙ q))
           ∙ ap {B = List (List ℕ × held.Trip)} (λ x. (x, u) ∷ (spanIn s (t .id), u) ∷ []) (ap (datedKey (spanIn s (t .id))) (sym (a .date)) ∙ sym e)
 
-      pub enters-over : 2048 < r → Entered feed s t from till keys marks order n keys′ marks′ order′ r
+      pub enters-over : 2048 < r → Entered feed s t from to keys marks order n keys′ marks′ order′ r
       enters-over h = record {
         sound = F .sound;
         few = λ g u a. absurd (omega arith);
-        many = λ g u a. rw (two u a) (omega (arith, filed-length F, put-longer texts (spanIn s (t .id)) (from, till) (put texts k (from, till) (index keys marks order n))));
+        many = λ g u a. rw (two u a) (omega (arith, filed-length F, put-longer texts (spanIn s (t .id)) (from, to) (put texts k (from, to) (index keys marks order n))));
       }
 
-      pub enters-dated : {keys″ marks″ order″ : List ℕ} {q : ℕ} → Filed keys′ marks′ order′ r (spanIn s (t .id)) from till keys″ marks″ order″ q
-          → Entered feed s t from till keys marks order n keys″ marks″ order″ q
+      pub enters-dated : {keys″ marks″ order″ : List ℕ} {q : ℕ} → Filed keys′ marks′ order′ r (spanIn s (t .id)) from to keys″ marks″ order″ q
+          → Entered feed s t from to keys marks order n keys″ marks″ order″ q
       enters-dated {keys″} {marks″} {order″} {q} G = record {
         sound = G .sound;
-        few = λ g u a. rw (two u a) (G .map ∙ ap (put texts (spanIn s (t .id)) (from, till)) (F .map));
+        few = λ g u a. rw (two u a) (G .map ∙ ap (put texts (spanIn s (t .id)) (from, to)) (F .map));
         many = λ g u a. rw (two u a, ← F .map) (omega (arith, filed-length G));
       }

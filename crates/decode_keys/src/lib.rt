@@ -5,10 +5,10 @@ ghost use mathlib.Core.List.{_++_};
 ghost use lib.ListN.{length, take, drop};
 ghost use Rattle.realtime_views.specs.promises.Views.{spanIn, viewDirection};
 ghost use Rattle.decode.specs.Key.{datedKey, headOf, tailOf};
-ghost use Rattle.decode.specs.Record.{maybe};
+ghost use Rattle.basics.specs.Options.{maybe};
 ghost use Rattle.decode.specs.promises.Keyed.{Short};
-ghost use Rattle.decode_slots.specs.promises.Index.{Sound};
-ghost use Rattle.decode_keys.specs.promises.Entity.{Filed, Entered, Fine, Applies};
+ghost use Rattle.decode_slots.specs.promises.Index.{SoundIndex};
+ghost use Rattle.decode_keys.specs.promises.Entity.{Filed, Entered, FineEntity, Applies};
 
 // A key that stands in s goes into the index with its place.
 pub fn file_key(
@@ -20,15 +20,15 @@ pub fn file_key(
     start: usize,
     len: usize,
     from: u32,
-    till: u32,
+    to: u32,
 ) -> usize
-    requires { ⌜ Sound (now keys) (now marks) (now order) n ⌝ }
+    requires { ⌜ SoundIndex (now keys) (now marks) (now order) n ⌝ }
     requires { ⌜ n ≤ 2048 ⌝ }
     requires { ⌜ (start + len ≤ length (now s)) × (len ≤ 137) ⌝ }
-    ensures { λ r. ⌜ Filed (now (keys .entry)) (now (marks .entry)) (now (order .entry)) n (take len (drop start (now (s .entry)))) from till (now (keys .exit)) (now (marks .exit)) (now (order .exit)) r ⌝ }
+    ensures { λ r. ⌜ Filed (now (keys .entry)) (now (marks .entry)) (now (order .entry)) n (take len (drop start (now (s .entry)))) from to (now (keys .exit)) (now (marks .exit)) (now (order .exit)) r ⌝ }
 {
     let long = decode::write_key(keys, n, s, start, len);
-    decode_slots::settle(keys, marks, order, n, long, from, till)
+    decode_slots::settle(keys, marks, order, n, long, from, to)
 }
 
 // The key of an entity: by its raw trip id.
@@ -40,15 +40,15 @@ pub fn file_base(
     s: &[u8],
     t: Trip,
     from: u32,
-    till: u32,
+    to: u32,
 ) -> usize
-    requires { ⌜ Sound (now keys) (now marks) (now order) n ⌝ }
+    requires { ⌜ SoundIndex (now keys) (now marks) (now order) n ⌝ }
     requires { ⌜ n ≤ 2048 ⌝ }
     requires { ⌜ Short (now s) t ⌝ }
-    ensures { λ r. ⌜ Filed (now (keys .entry)) (now (marks .entry)) (now (order .entry)) n (spanIn (now (s .entry)) (t .id)) from till (now (keys .exit)) (now (marks .exit)) (now (order .exit)) r ⌝ }
+    ensures { λ r. ⌜ Filed (now (keys .entry)) (now (marks .entry)) (now (order .entry)) n (spanIn (now (s .entry)) (t .id)) from to (now (keys .exit)) (now (marks .exit)) (now (order .exit)) r ⌝ }
 {
     let id = t.id;
-    file_key(keys, marks, order, n, s, id.start, id.len, from, till)
+    file_key(keys, marks, order, n, s, id.start, id.len, from, to)
 }
 
 // By its raw trip id and its date.
@@ -60,15 +60,15 @@ pub fn file_dated(
     s: &[u8],
     t: Trip,
     from: u32,
-    till: u32,
+    to: u32,
 ) -> usize
-    requires { ⌜ Sound (now keys) (now marks) (now order) n ⌝ }
+    requires { ⌜ SoundIndex (now keys) (now marks) (now order) n ⌝ }
     requires { ⌜ n ≤ 2048 ⌝ }
     requires { ⌜ Short (now s) t ⌝ }
-    ensures { λ r. ⌜ Filed (now (keys .entry)) (now (marks .entry)) (now (order .entry)) n (datedKey (spanIn (now (s .entry)) (t .id)) (spanIn (now (s .entry)) (t .date))) from till (now (keys .exit)) (now (marks .exit)) (now (order .exit)) r ⌝ }
+    ensures { λ r. ⌜ Filed (now (keys .entry)) (now (marks .entry)) (now (order .entry)) n (datedKey (spanIn (now (s .entry)) (t .id)) (spanIn (now (s .entry)) (t .date))) from to (now (keys .exit)) (now (marks .exit)) (now (order .exit)) r ⌝ }
 {
     let len = decode::write_dated(keys, n, s, t);
-    decode_slots::settle(keys, marks, order, n, len, from, till)
+    decode_slots::settle(keys, marks, order, n, len, from, to)
 }
 
 // And without a trip id.
@@ -81,15 +81,15 @@ pub fn file_incomplete(
     s: &[u8],
     t: Trip,
     from: u32,
-    till: u32,
+    to: u32,
 ) -> usize
-    requires { ⌜ Sound (now keys) (now marks) (now order) n ⌝ }
+    requires { ⌜ SoundIndex (now keys) (now marks) (now order) n ⌝ }
     requires { ⌜ (n ≤ 2048) × (length (now feed) ≤ 16) ⌝ }
     requires { ⌜ Short (now s) t ⌝ }
-    ensures { λ r. ⌜ Filed (now (keys .entry)) (now (marks .entry)) (now (order .entry)) n (headOf (now (feed .entry)) (spanIn (now (s .entry)) (t .route)) (maybe (viewDirection (t .direction))) ++ tailOf (spanIn (now (s .entry)) (t .date)) (spanIn (now (s .entry)) (t .time))) from till (now (keys .exit)) (now (marks .exit)) (now (order .exit)) r ⌝ }
+    ensures { λ r. ⌜ Filed (now (keys .entry)) (now (marks .entry)) (now (order .entry)) n (headOf (now (feed .entry)) (spanIn (now (s .entry)) (t .route)) (maybe (viewDirection (t .direction))) ++ tailOf (spanIn (now (s .entry)) (t .date)) (spanIn (now (s .entry)) (t .time))) from to (now (keys .exit)) (now (marks .exit)) (now (order .exit)) r ⌝ }
 {
     let len = decode::write_incomplete(keys, n, feed, s, t);
-    decode_slots::settle(keys, marks, order, n, len, from, till)
+    decode_slots::settle(keys, marks, order, n, len, from, to)
 }
 
 // Every key of an entity goes into the index with its place, the dated one before its base.
@@ -102,27 +102,27 @@ pub fn file_trip(
     s: &[u8],
     t: Trip,
     from: u32,
-    till: u32,
+    to: u32,
 ) -> usize
-    requires { ⌜ Sound (now keys) (now marks) (now order) n ⌝ }
+    requires { ⌜ SoundIndex (now keys) (now marks) (now order) n ⌝ }
     requires { ⌜ (n ≤ 2048) × (length (now feed) ≤ 16) ⌝ }
     requires { ⌜ Short (now s) t ⌝ }
-    ensures { λ r. ⌜ Entered (now (feed .entry)) (now (s .entry)) t from till (now (keys .entry)) (now (marks .entry)) (now (order .entry)) n (now (keys .exit)) (now (marks .exit)) (now (order .exit)) r ⌝ }
+    ensures { λ r. ⌜ Entered (now (feed .entry)) (now (s .entry)) t from to (now (keys .entry)) (now (marks .entry)) (now (order .entry)) n (now (keys .exit)) (now (marks .exit)) (now (order .exit)) r ⌝ }
 {
     if t.id.len == 0 {
         if t.route.len == 0 {
             return n;
         }
-        return file_incomplete(keys, marks, order, n, feed, s, t, from, till);
+        return file_incomplete(keys, marks, order, n, feed, s, t, from, to);
     }
     if t.date.len == 0 {
-        return file_base(keys, marks, order, n, s, t, from, till);
+        return file_base(keys, marks, order, n, s, t, from, to);
     }
-    let m = file_dated(keys, marks, order, n, s, t, from, till);
+    let m = file_dated(keys, marks, order, n, s, t, from, to);
     if m > 2048 {
         return m;
     }
-    file_base(keys, marks, order, m, s, t, from, till)
+    file_base(keys, marks, order, m, s, t, from, to)
 }
 
 // An entity is applied: its keys go into the index with its place; a deleted one is passed over.
@@ -136,10 +136,10 @@ pub fn apply(
     start: usize,
     len: usize,
 ) -> usize
-    requires { ⌜ Sound (now keys) (now marks) (now order) n ⌝ }
+    requires { ⌜ SoundIndex (now keys) (now marks) (now order) n ⌝ }
     requires { ⌜ (n ≤ 2048) × (length (now feed) ≤ 16) ⌝ }
     requires { ⌜ (start + len ≤ length (now s)) × (length (now s) ≤ 1048576) ⌝ }
-    requires { ⌜ Fine (now s) start len ⌝ }
+    requires { ⌜ FineEntity (now s) start len ⌝ }
     ensures { λ r. ⌜ Applies (now (feed .entry)) (now (s .entry)) start len (now (keys .entry)) (now (marks .entry)) (now (order .entry)) n (now (keys .exit)) (now (marks .exit)) (now (order .exit)) r ⌝ }
 {
     if realtime_views::is_deleted(s, start, len) {

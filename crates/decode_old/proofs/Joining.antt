@@ -8,7 +8,7 @@ use native.Mathlib.Omega.{arith}
 use lib.ListN.{length, take, drop, length-append}
 use lib.Seq.{length-slice}
 use borrow.Author.Tests.{le-ltb}
-use Rattle.formats.specs.Readers.{All}
+use Rattle.basics.specs.Lists.{All}
 use Rattle.formats.specs.Format.{Format, list, Value, read, write}
 use Rattle.formats.specs.laws.Format.{law}
 use Rattle.formats_write.specs.laws.Slices.{slice-is}
@@ -19,16 +19,16 @@ use Rattle.formats_read.specs.promises.Lists.{Many}
 use Rattle.formats_read.specs.promises.Reads.{ReadsNumber, ReadsText}
 use Rattle.formats_read.specs.laws.Walk.{At, Walk, ended, of-list}
 use Rattle.decode.specs.Trip.{Trip, trip, tripEntry}
-use Rattle.decode.specs.Map.{put}
-use Rattle.decode.specs.Order.{texts}
-use Rattle.decode.specs.laws.Map.{map-put, puts-append, put-all, put-one-more}
+use Rattle.maps.specs.Map.{put}
+use Rattle.maps.specs.Order.{texts}
+use Rattle.maps.specs.laws.Map.{map-put, puts-append, put-all, put-one-more}
 use Rattle.decode_slots.specs.Index.{Place, index}
-use Rattle.decode_slots.specs.promises.Index.{Sound}
+use Rattle.decode_slots.specs.promises.Index.{SoundIndex}
 use Rattle.decode_keys.specs.promises.Entity.{Filed}
 use Rattle.decode_slots.specs.laws.Slots.{index-length, sound-none}
 use Rattle.decode_keys.specs.laws.Lengths.{filed-length}
 use Rattle.decode.specs.Leaves.{Trips}
-use Rattle.decode_slots.specs.Places.{beyond, isNew, orEmpty, recordAt, oldAt, heldAt, held}
+use Rattle.decode_slots.specs.Places.{beyond, isNew, orNoTrip, recordAt, oldAt, heldAt, held}
 use Rattle.decode_old.specs.promises.Old.{Stands, Joined, Entry, Passes, Filled}
 
 -- the bytes of a value that stands somewhere are read as it, and nothing is left
@@ -46,7 +46,7 @@ module _ {o : List ℕ} {m e : ℕ} {t : Trip} (h : Here trip o m e t) where
   old-read =
       let i : beyond + m - beyond ≡ m = omega arith in
       let j : beyond + e - beyond ≡ e = omega arith in
-      ap orEmpty (ap (read trip) (λ k. take (j k - i k) (drop (i k) o)) ∙ read-there trip h)
+      ap orNoTrip (ap (read trip) (λ k. take (j k - i k) (drop (i k) o)) ∙ read-there trip h)
 
   old-held : (s : List ℕ) → heldAt s o (beyond + m, beyond + e) ≡ t
   old-held s = ap (λ b. cond b (recordAt s (beyond + m, beyond + e)) (oldAt o (beyond + m, beyond + e))) (old-new m e) ∙ old-read
@@ -71,8 +71,8 @@ module _ {o : List ℕ} {p a m e : ℕ} (T : ReadsText o p a m) (P : (t : Trip) 
       let b = ap length (T .bytes (halves (E .here) .first)) in
       (omega (arith, T .forward, T .within), omega (arith, E .short))
 
-  pub passes : {from till n r : ℕ} {keys marks order keys′ marks′ order′ : List ℕ} → from ≡ beyond + m → till ≡ beyond + e
-      → Filed keys marks order n (take (m - a) (drop a o)) from till keys′ marks′ order′ r → Passes o p keys marks order n keys′ marks′ order′ r e
+  pub passes : {from to n r : ℕ} {keys marks order keys′ marks′ order′ : List ℕ} → from ≡ beyond + m → to ≡ beyond + e
+      → Filed keys marks order n (take (m - a) (drop a o)) from to keys′ marks′ order′ r → Passes o p keys marks order n keys′ marks′ order′ r e
   passes f t F = record {
     ends = entry-ends;
     filed = λ v h. (m, record-here v e h, rw (f, t, key-is v e h) at F);
@@ -107,7 +107,7 @@ module _ {o : List ℕ} {at c a : ℕ} (S : Stands o at) (N : ReadsNumber o at c
       let y = N .next (x .count) in
       W .at (S .trips) (S .end) (sym (N .value (x .count))) (rw y (x .values))
 
-  pub sound-now : Sound keys marks order n
+  pub sound-now : SoundIndex keys marks order n
   sound-now = now-at .so .sound
 
   pub few-now : 0 < left → n ≤ 2048

@@ -13,7 +13,7 @@ ghost use Rattle.formats.specs.Format.{list, Value};
 ghost use Rattle.formats_judge.specs.Judged.{judgeTo};
 ghost use Rattle.formats_read.specs.promises.Here.{Here};
 ghost use Rattle.decode.specs.Trip.{trip, tripEntry};
-ghost use Rattle.decode_slots.specs.promises.Index.{Sound};
+ghost use Rattle.decode_slots.specs.promises.Index.{SoundIndex};
 ghost use Rattle.decode_slots.specs.Places.{beyond};
 ghost use Rattle.decode_old.specs.promises.Old.{Stands, Joined, Entry, Passes};
 
@@ -55,7 +55,7 @@ fn file_entry(
     old: &[u8],
     at: usize,
 ) -> Passed
-    requires { ⌜ Sound (now keys) (now marks) (now order) n ⌝ }
+    requires { ⌜ SoundIndex (now keys) (now marks) (now order) n ⌝ }
     requires { ⌜ n ≤ 2048 ⌝ }
     requires { ⌜ Entry (now old) at ⌝ }
     ensures { λ r. ⌜ Passes (now (old .entry)) at (now (keys .entry)) (now (marks .entry)) (now (order .entry)) n (now (keys .exit)) (now (marks .exit)) (now (order .exit)) (r .slots) (r .next) ⌝ }
@@ -65,8 +65,8 @@ fn file_entry(
     let end = key.to;
     let next = past_trip(old, end);
     let from = old_place(end);
-    let till = old_place(next);
-    let slots = decode_keys::file_key(keys, marks, order, n, old, start, end - start, from, till);
+    let to = old_place(next);
+    let slots = decode_keys::file_key(keys, marks, order, n, old, start, end - start, from, to);
     Passed { slots, next }
 }
 

@@ -8,10 +8,10 @@ use native.Mathlib.Omega.{arith}
 use lib.Dec.{eqb, leb}
 use lib.ListN.{length}
 use borrow.Author.Tests.{eqb-true, leb-true, le-leb, le-ltb, lt-leb, ne-eqb}
-use Rattle.formats.specs.Readers.{All}
-use Rattle.formats.specs.Class.{all, inClass, printable}
+use Rattle.basics.specs.Lists.{All, all}
+use Rattle.formats.specs.Class.{inClass, printable}
 use Rattle.formats.specs.Format.{small, list, _&_, optional, read}
-use Rattle.formats_judge.specs.Judged.{first, judged, judgeTo, ok, verdict}
+use Rattle.formats_judge.specs.Judged.{firstNo, judged, judgeTo, ok, verdict}
 use Rattle.formats_read.specs.promises.Here.{Here, here}
 use Rattle.realtime.specs.Tree.{tree}
 use Rattle.realtime.specs.Schema.{feedMessage}
@@ -19,15 +19,15 @@ use Rattle.realtime.specs.Schema as schema
 use Rattle.realtime.specs.Judge.{asked, rules}
 use Rattle.realtime.specs.declared.Verdict.{Verdict}
 use Rattle.decode.specs.Trip.{Trip, date, delay, directionOf, id, number32, stopUpdate, time, trip, tripEntry, updatesOf}
-use Rattle.decode.specs.laws.Map.{both-true}
+use Rattle.basics.specs.laws.Booleans.{both-true}
 use Rattle.decode.specs.Leaves.{Trips}
 use Rattle.decode_slots.specs.Places.{crowded}
-use Rattle.decode_index.specs.promises.Message.{Judged}
+use Rattle.decode_index.specs.promises.Message.{JudgedMessage}
 use Rattle.decode_index.specs.promises.Leaving.{Old}
 use Rattle.decode_probes.specs.Answers.{questionOf}
 use Rattle.decode_probes.specs.Indexing.{areOld, judgedQuestion, messageQuestion, oldTrips, question, sized, tripsRead, unfailed}
 
-first-zero : (a b c : Bool) → first a b c ≡ 0 → (a ≡ true) × (c ≡ true)
+first-zero : (a b c : Bool) → firstNo a b c ≡ 0 → (a ≡ true) × (c ≡ true)
 first-zero true true true e = (refl, refl)
 first-zero true true false e = absurd (omega arith)
 first-zero true false c e = absurd (omega arith)
@@ -113,7 +113,7 @@ pub record Ready (keys marks order updates : ℕ) (feed s o : List ℕ) : Type 0
   pub lined : updates ≡ 387
   pub brief : length feed ≤ 16
   pub small : length s ≤ 1048576
-  pub judged : Judged s
+  pub judged : JudgedMessage s
   pub standing : Standing o
 
 judged-zero : (b : Bool) (v : Verdict) → judgedQuestion b (questionOf v) ≡ 0 → (b ≡ true) × (v ≡ Verdict.Fine)

@@ -11,14 +11,14 @@ use Rattle.realtime.specs.Tree.{tree}
 use Rattle.realtime.specs.Schema.{feed, feedEntity}
 use Rattle.decode.specs.Trip.{StopUpdate}
 use Rattle.decode.specs.Record.{updatesIn}
-use Rattle.decode.specs.laws.Map.{map-length}
+use Rattle.maps.specs.laws.Map.{map-length}
 use Rattle.decode_slots.specs.Places.{updateAt}
 use Rattle.decode_updates.specs.Line.{laid}
 use Rattle.decode_updates.specs.laws.Line.{laid-length}
 use Rattle.decode_updates.specs.Updates.{updatesAt}
-use Rattle.decode_updates.specs.promises.Updates.{Listed}
-use Rattle.decode_probes.specs.Answers.{whole, ofWhole}
-use Rattle.decode_probes.specs.Indexing.{Outcome, refused, left, answered, limited, updatesOutcome}
+use Rattle.decode_updates.specs.promises.Updates.{ListedUpdates}
+use Rattle.decode_probes.specs.Answers.{isWhole, ofWhole}
+use Rattle.decode_probes.specs.Indexing.{IndexOutcome, refused, left, answered, limited, updatesOutcome}
 use Rattle.decode_probes.proofs.Reading.{of-whole, of-broken, all-of}
 
 module _ (n : ℕ) (e : List ℕ) where
@@ -30,13 +30,13 @@ module _ (n : ℕ) (e : List ℕ) where
     updates-long h = sym (rw (eq-eqb n 387 f, lt-leb (length e) 1048576 h) refl)
 
     module _ (l : length e ≤ 1048576) where
-      judged : {r : Outcome (List (ℕ × StopUpdate))} → r ≡ ofWhole (refused 4) (λ m. limited (updatesIn m)) (tree feed feedEntity e) → r ≡ updatesOutcome (eqb n 387) e
+      judged : {r : IndexOutcome (List (ℕ × StopUpdate))} → r ≡ ofWhole (refused 4) (λ m. limited (updatesIn m)) (tree feed feedEntity e) → r ≡ updatesOutcome (eqb n 387) e
       judged h = h ∙ sym (rw (eq-eqb n 387 f, le-leb (length e) 1048576 l) refl)
 
-      pub updates-broken : whole (tree feed feedEntity e) ≡ false → refused 4 ≡ updatesOutcome (eqb n 387) e
+      pub updates-broken : isWhole (tree feed feedEntity e) ≡ false → refused 4 ≡ updatesOutcome (eqb n 387) e
       updates-broken w = judged (of-broken (refused 4) (λ m. limited (updatesIn m)) feedEntity e w)
 
-      module _ {u : List ℕ} {r : ℕ} (w : whole (tree feed feedEntity e) ≡ true) (L : Listed e 0 (length e) u r) where
+      module _ {u : List ℕ} {r : ℕ} (w : isWhole (tree feed feedEntity e) ≡ true) (L : ListedUpdates e 0 (length e) u r) where
         pub updates-many : 128 < r → refused 7 ≡ updatesOutcome (eqb n 387) e
         updates-many h =
             judged (of-whole (refused 4) (λ m. limited (updatesIn m)) feedEntity e w

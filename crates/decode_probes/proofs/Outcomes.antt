@@ -13,16 +13,16 @@ use Rattle.realtime.specs.Schema as schema
 use Rattle.realtime.specs.Judge.{asked, rules}
 use Rattle.realtime.specs.declared.Verdict.{Verdict}
 use Rattle.decode_slots.specs.Index.{index}
-use Rattle.decode.specs.Map.{puts}
-use Rattle.decode.specs.Order.{texts}
+use Rattle.maps.specs.Map.{puts}
+use Rattle.maps.specs.Order.{texts}
 use Rattle.decode.specs.Leaves.{Trips, leaves}
 use Rattle.decode_slots.specs.Places.{held}
-use Rattle.decode_index.specs.Message.{messageOf}
+use Rattle.decode_index.specs.Message.{messageTree}
 use Rattle.decode_index.specs.Leaving.{leaving}
 use Rattle.decode_index.specs.promises.Leaving.{Leaves, viewLeft}
 use Rattle.decode_index.specs.declared.Left.{Left}
 use Rattle.decode_probes.specs.Answers.{questionOf}
-use Rattle.decode_probes.specs.Indexing.{Outcome, refused, left, answered, areOld, judgedQuestion, messageQuestion, oldTrips, outcome, question, seven, sized, unlessAsked}
+use Rattle.decode_probes.specs.Indexing.{IndexOutcome, refused, left, answered, areOld, judgedQuestion, messageQuestion, oldTrips, outcome, question, sevenOf, sized, unlessAsked}
 use Rattle.decode_probes.proofs.Asking.{ready}
 
 cond-few : (b : Bool) (m n : ℕ) → m ≤ 6 → n ≤ 6 → cond b m n ≤ 6
@@ -39,7 +39,7 @@ judged-few false Verdict.Broken = omega arith
 judged-few false Verdict.Text = omega arith
 judged-few false Verdict.Time = omega arith
 
-unless-asked : (q : ℕ) (x : Outcome Trips) → (q ≡ 0 → ⊥) → refused q ≡ unlessAsked q x
+unless-asked : (q : ℕ) (x : IndexOutcome Trips) → (q ≡ 0 → ⊥) → refused q ≡ unlessAsked q x
 unless-asked zero x n = absurd (n refl)
 unless-asked (suc q) x n = refl
 
@@ -56,16 +56,16 @@ module _ (keys marks order updates : ℕ) (feed s o : List ℕ) where
     -- A QUESTION has the answer no
     pub answers-refused : (t : ℕ → Trips) → (q ≡ 0 → ⊥) → answered t q ≡ outcome (sized keys marks order updates) feed s o
     answers-refused t n =
-        let x = seven (leaving (leaves feed (messageOf s) (puts texts (oldTrips o) []))) in
+        let x = sevenOf (leaving (leaves feed (messageTree s) (puts texts (oldTrips o) []))) in
         ap (λ b. cond b (refused q) (left (t (q - 16)))) (lt-ltb q 16 (omega (arith, question-few))) ∙ unless-asked q x n ∙ ap (λ q. unlessAsked q x) e
 
     -- NONE HAS: what the index says is what the message leaves
     module _ (z : q ≡ 0) {keys′ marks′ order′ : List ℕ} {r : Left} (L : Leaves feed s o 0 keys′ marks′ order′ r) where
-      answers-left : (l : Left) → r ≡ l → seven (viewLeft (λ n. held s o (index keys′ marks′ order′ n)) l) ≡ outcome (sized keys marks order updates) feed s o
+      answers-left : (l : Left) → r ≡ l → sevenOf (viewLeft (λ n. held s o (index keys′ marks′ order′ n)) l) ≡ outcome (sized keys marks order updates) feed s o
       answers-left l g =
-          let x = seven (leaving (leaves feed (messageOf s) (puts texts (oldTrips o) []))) in
+          let x = sevenOf (leaving (leaves feed (messageTree s) (puts texts (oldTrips o) []))) in
           let S = ready keys marks order updates feed s o (sym e ∙ z) .standing in
-          ap seven (ap (viewLeft (λ n. held s o (index keys′ marks′ order′ n))) (sym g) ∙ L .of (oldTrips o) (S .end) (S .here)) ∙ (λ j. unlessAsked ((sym z ∙ e) j) x)
+          ap sevenOf (ap (viewLeft (λ n. held s o (index keys′ marks′ order′ n))) (sym g) ∙ L .of (oldTrips o) (S .end) (S .here)) ∙ (λ j. unlessAsked ((sym z ∙ e) j) x)
 
       pub answers-many-trips : r ≡ Left.ManyTrips → refused 7 ≡ outcome (sized keys marks order updates) feed s o
       answers-many-trips g = answers-left Left.ManyTrips g

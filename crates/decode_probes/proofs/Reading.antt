@@ -11,11 +11,11 @@ use Rattle.realtime.specs.Tree.{Tree, tree}
 use Rattle.realtime.specs.Schema.{feed}
 use Rattle.realtime.specs.Judge.{Rules, asked, textsFine, numbersFine}
 use Rattle.realtime.specs.declared.Verdict.{Verdict}
-use Rattle.slices.specs.Lists.{equal}
+use Rattle.basics.specs.Texts.{same}
 use Rattle.realtime_views.specs.Views.{TripView}
 use Rattle.realtime_views.specs.promises.Views.{spanIn, viewTrip}
 use Rattle.realtime_views.specs.declared.Trip.{Trip}
-use Rattle.decode_probes.specs.Answers.{whole, ofWhole, textsAre}
+use Rattle.decode_probes.specs.Answers.{isWhole, ofWhole, textsAre}
 
 abbrev pub unbroken : Verdict → Bool
 unbroken Verdict.Broken = false
@@ -28,24 +28,24 @@ chosen true true = refl
 chosen true false = refl
 chosen false c = refl
 
-pub asked-whole : (ρ : Rules) (t : ℕ) (o : Option Tree) → unbroken (asked ρ t o) ≡ whole o
+pub asked-whole : (ρ : Rules) (t : ℕ) (o : Option Tree) → unbroken (asked ρ t o) ≡ isWhole o
 asked-whole ρ t none = refl
 asked-whole ρ t (some m) = chosen (textsFine ρ t m) (numbersFine ρ t m)
 
 module _ {A : Type 0} (d : A) (f : Tree → A) where
-  none-broken : (o : Option Tree) → whole o ≡ false → d ≡ ofWhole d f o
+  none-broken : (o : Option Tree) → isWhole o ≡ false → d ≡ ofWhole d f o
   none-broken none w = refl
   none-broken (some m) w = absurd (let z : _≡_ {A = ℕ} 0 1 = cc in omega arith)
 
-  some-whole : (o : Option Tree) {r : A} → whole o ≡ true → ((m : Tree) → o ≡ some m → r ≡ f m) → r ≡ ofWhole d f o
+  some-whole : (o : Option Tree) {r : A} → isWhole o ≡ true → ((m : Tree) → o ≡ some m → r ≡ f m) → r ≡ ofWhole d f o
   some-whole none w h = absurd (let z : _≡_ {A = ℕ} 0 1 = cc in omega arith)
   some-whole (some m) w h = h m refl
 
   -- of the message of type t in the bytes s
-  pub of-broken : (t : ℕ) (s : List ℕ) → whole (tree feed t s) ≡ false → d ≡ ofWhole d f (tree feed t s)
+  pub of-broken : (t : ℕ) (s : List ℕ) → isWhole (tree feed t s) ≡ false → d ≡ ofWhole d f (tree feed t s)
   of-broken t s = none-broken (tree feed t s)
 
-  pub of-whole : (t : ℕ) (s : List ℕ) {r : A} → whole (tree feed t s) ≡ true → ((m : Tree) → tree feed t s ≡ some m → r ≡ f m) → r ≡ ofWhole d f (tree feed t s)
+  pub of-whole : (t : ℕ) (s : List ℕ) {r : A} → isWhole (tree feed t s) ≡ true → ((m : Tree) → tree feed t s ≡ some m → r ≡ f m) → r ≡ ofWhole d f (tree feed t s)
   of-whole t s = some-whole (tree feed t s)
 
 -- a message in all of the bytes
@@ -54,5 +54,5 @@ all-of t s e = ap (tree feed t) (take-length s) ∙ e
 
 -- three texts of a trip compared
 module _ (s x y z : List ℕ) where
-  pub texts-read : (t : Trip) {v : TripView} {a b c : Bool} → a ≡ equal (spanIn s (t .time)) x → b ≡ equal (spanIn s (t .date)) y → c ≡ equal (spanIn s (t .route)) z → viewTrip s t ≡ v → (a && b) && c ≡ textsAre v x y z
+  pub texts-read : (t : Trip) {v : TripView} {a b c : Bool} → a ≡ same (spanIn s (t .time)) x → b ≡ same (spanIn s (t .date)) y → c ≡ same (spanIn s (t .route)) z → viewTrip s t ≡ v → (a && b) && c ≡ textsAre v x y z
   texts-read t p q r h = (λ j. (p j && q j) && r j) ∙ ap (λ v. textsAre v x y z) h

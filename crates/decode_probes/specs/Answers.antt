@@ -6,7 +6,7 @@ use mathlib.Core.Option.{Option, none, some}
 use lib.IntN.{ℤ, pos}
 use Rattle.realtime.specs.Tree.{Tree}
 use Rattle.realtime.specs.declared.Verdict.{Verdict}
-use Rattle.slices.specs.Lists.{equal}
+use Rattle.basics.specs.Texts.{same}
 use Rattle.realtime_views.specs.Typed.{orZero}
 use Rattle.realtime_views.specs.Views.{HeaderView, TripView, EventView, StopView}
 use Rattle.decode_probes.specs.declared.HeaderNumbers.{HeaderNumbers}
@@ -21,12 +21,12 @@ questionOf Verdict.Broken = 4
 questionOf Verdict.Text = 5
 questionOf Verdict.Time = 6
 
-abbrev pub present : {A : Type 0} → Option A → Bool
-present none = false
-present (some a) = true
+abbrev pub isSome : {A : Type 0} → Option A → Bool
+isSome none = false
+isSome (some a) = true
 
-abbrev pub whole : Option Tree → Bool
-whole t = present t
+abbrev pub isWhole : Option Tree → Bool
+isWhole t = isSome t
 
 abbrev pub orNought : Option ℤ → ℤ
 orNought none = pos 0
@@ -38,13 +38,13 @@ ofWhole d f none = d
 ofWhole d f (some m) = f m
 
 abbrev pub headerNumbers : HeaderView → HeaderNumbers
-headerNumbers h = record { differential = h .differential; timed = present (h .timestamp); timestamp = orZero (h .timestamp) }
+headerNumbers h = record { differential = h .differential; timed = isSome (h .timestamp); timestamp = orZero (h .timestamp) }
 
 abbrev pub noHeader : HeaderNumbers
 noHeader = record { differential = false; timed = false; timestamp = 0 }
 
 abbrev pub tripNumbers : Bool → Option ℕ → Option ℤ → TripNumbers
-tripNumbers c d l = record { cancelled = c; directed = present d; direction = orZero d; delayed = present l; delay = orNought l }
+tripNumbers c d l = record { cancelled = c; directed = isSome d; direction = orZero d; delayed = isSome l; delay = orNought l }
 
 abbrev pub tripNumbersOf : TripView → TripNumbers
 tripNumbersOf t = tripNumbers (t .cancelled) (t .direction) (t .delay)
@@ -54,10 +54,10 @@ noTrip = tripNumbers false none none
 
 -- whether the start time, the start date and the route are these
 abbrev pub textsAre : TripView → List ℕ → List ℕ → List ℕ → Bool
-textsAre t x y z = (equal (t .time) x && equal (t .date) y) && equal (t .route) z
+textsAre t x y z = (same (t .time) x && same (t .date) y) && same (t .route) z
 
 abbrev pub eventNumbers : EventView → EventNumbers
-eventNumbers e = record { delayed = present (e .delay); delay = orNought (e .delay); timed = present (e .time); time = orNought (e .time) }
+eventNumbers e = record { delayed = isSome (e .delay); delay = orNought (e .delay); timed = isSome (e .time); time = orNought (e .time) }
 
 abbrev pub stopNumbers : ℕ → Bool → EventView → EventView → StopNumbers
 stopNumbers n s a d = record { sequence = n; skipped = s; arrival = eventNumbers a; departure = eventNumbers d }

@@ -14,11 +14,11 @@ use Rattle.realtime.specs.Schema.{feedMessage, feedEntity}
 use Rattle.realtime.specs.Schema as schema
 use Rattle.realtime.specs.Judge.{asked, rules}
 use Rattle.decode.specs.Trip.{StopUpdate, tripEntry}
-use Rattle.decode.specs.Map.{puts}
-use Rattle.decode.specs.Order.{texts}
+use Rattle.maps.specs.Map.{puts}
+use Rattle.maps.specs.Order.{texts}
 use Rattle.decode.specs.Record.{updatesIn}
 use Rattle.decode.specs.Leaves.{Trips, leaves}
-use Rattle.decode_index.specs.Message.{messageOf}
+use Rattle.decode_index.specs.Message.{messageTree}
 use Rattle.decode_index.specs.Leaving.{Leaving, manyTrips, manyUpdates, trips, leaving}
 use Rattle.decode_probes.specs.Answers.{questionOf, ofWhole}
 
@@ -53,29 +53,29 @@ abbrev pub question : Bool → List ℕ → List ℕ → List ℕ → ℕ
 question fit feed s old = cond fit (cond (areOld old) (messageQuestion feed s) 2) 1
 
 -- A QUESTION with the answer no, or what is left
-pub data Outcome (A : Type 0) : Type 0 where
-  refused : ℕ → Outcome A
-  left : A → Outcome A
+pub data IndexOutcome (A : Type 0) : Type 0 where
+  refused : ℕ → IndexOutcome A
+  left : A → IndexOutcome A
 
-abbrev pub seven : Leaving → Outcome Trips
-seven manyTrips = refused 7
-seven manyUpdates = refused 7
-seven (trips t) = left t
+abbrev pub sevenOf : Leaving → IndexOutcome Trips
+sevenOf manyTrips = refused 7
+sevenOf manyUpdates = refused 7
+sevenOf (trips t) = left t
 
-abbrev pub unlessAsked : ℕ → Outcome Trips → Outcome Trips
+abbrev pub unlessAsked : ℕ → IndexOutcome Trips → IndexOutcome Trips
 unlessAsked zero x = x
 unlessAsked (suc n) x = refused (suc n)
 
-abbrev pub outcome : Bool → List ℕ → List ℕ → List ℕ → Outcome Trips
-outcome fit feed s old = unlessAsked (question fit feed s old) (seven (leaving (leaves feed (messageOf s) (puts texts (oldTrips old) []))))
+abbrev pub outcome : Bool → List ℕ → List ℕ → List ℕ → IndexOutcome Trips
+outcome fit feed s old = unlessAsked (question fit feed s old) (sevenOf (leaving (leaves feed (messageTree s) (puts texts (oldTrips old) []))))
 
 -- what the answer says, where n slots or lines hold t n
-abbrev pub answered : {A : Type 0} → (ℕ → A) → ℕ → Outcome A
+abbrev pub answered : {A : Type 0} → (ℕ → A) → ℕ → IndexOutcome A
 answered t r = cond (ltb r 16) (refused r) (left (t (r - 16)))
 
 -- The updates of an entity: more than 128 are refused
-abbrev pub limited : List (ℕ × StopUpdate) → Outcome (List (ℕ × StopUpdate))
+abbrev pub limited : List (ℕ × StopUpdate) → IndexOutcome (List (ℕ × StopUpdate))
 limited l = cond (ltb 128 (length l)) (refused 7) (left l)
 
-abbrev pub updatesOutcome : Bool → List ℕ → Outcome (List (ℕ × StopUpdate))
+abbrev pub updatesOutcome : Bool → List ℕ → IndexOutcome (List (ℕ × StopUpdate))
 updatesOutcome fit e = cond fit (cond (leb (length e) 1048576) (ofWhole (refused 4) (λ m. limited (updatesIn m)) (tree schema.feed feedEntity e)) (refused 3)) (refused 1)

@@ -18,7 +18,7 @@ ghost use mathlib.Core.Path.{_≡_};
 ghost use mathlib.Core.Bool.{false};
 ghost use lib.Dec.{eqb};
 ghost use lib.ListN.{length};
-ghost use Rattle.slices.specs.Lists.{equal};
+ghost use Rattle.basics.specs.Texts.{same};
 ghost use Rattle.realtime.specs.Tree.{tree};
 ghost use Rattle.realtime.specs.Schema.{feed, feedMessage, feedEntity, stopTimeUpdate};
 ghost use Rattle.realtime.specs.Judge.{asked, rules};
@@ -30,7 +30,7 @@ ghost use Rattle.decode_slots.specs.Places as places;
 ghost use Rattle.decode_updates.specs.Line.{laid};
 ghost use Rattle.decode_updates.specs.Updates.{updatesAt};
 ghost use Rattle.decode_probes.specs.Indexing.{sized, unfailed, areOld, messageQuestion, question, answered, outcome, updatesOutcome};
-ghost use Rattle.decode_probes.specs.Answers.{questionOf, whole, present, orNought, ofWhole, headerNumbers, noHeader, tripNumbers, tripNumbersOf, noTrip, eventNumbers, stopNumbers, stopNumbersOf, noStop, textsAre};
+ghost use Rattle.decode_probes.specs.Answers.{questionOf, isWhole, isSome, orNought, ofWhole, headerNumbers, noHeader, tripNumbers, tripNumbersOf, noTrip, eventNumbers, stopNumbers, stopNumbersOf, noStop, textsAre};
 
 fn question_of(v: Verdict) -> u32
     ensures { λ r. ⌜ r ≡ questionOf v ⌝ }
@@ -53,7 +53,7 @@ pub extern "C" fn trips_judge(s: &[u8]) -> u32
 
 // Whether a message of a type is not broken.
 fn is_whole(s: &[u8], message: u64) -> bool
-    ensures { λ r. ⌜ r ≡ whole (tree feed message (now (s .entry))) ⌝ }
+    ensures { λ r. ⌜ r ≡ isWhole (tree feed message (now (s .entry))) ⌝ }
 {
     match realtime::judge(s, message) {
         Verdict::Broken => false,
@@ -64,7 +64,7 @@ fn is_whole(s: &[u8], message: u64) -> bool
 }
 
 fn has_timestamp(t: Timestamp) -> bool
-    ensures { λ r. ⌜ r ≡ present (viewTimestamp t) ⌝ }
+    ensures { λ r. ⌜ r ≡ isSome (viewTimestamp t) ⌝ }
 {
     match t {
         Timestamp::Given(_) => true,
@@ -82,7 +82,7 @@ fn timestamp_or_zero(t: Timestamp) -> u64
 }
 
 fn has_direction(d: Direction) -> bool
-    ensures { λ r. ⌜ r ≡ present (viewDirection d) ⌝ }
+    ensures { λ r. ⌜ r ≡ isSome (viewDirection d) ⌝ }
 {
     match d {
         Direction::Given(_) => true,
@@ -100,7 +100,7 @@ fn direction_or_zero(d: Direction) -> u32
 }
 
 fn has_delay(d: Delay) -> bool
-    ensures { λ r. ⌜ r ≡ present (viewDelay d) ⌝ }
+    ensures { λ r. ⌜ r ≡ isSome (viewDelay d) ⌝ }
 {
     match d {
         Delay::Given(_) => true,
@@ -118,7 +118,7 @@ fn delay_or_zero(d: Delay) -> i32
 }
 
 fn has_time(t: Time) -> bool
-    ensures { λ r. ⌜ r ≡ present (viewTime t) ⌝ }
+    ensures { λ r. ⌜ r ≡ isSome (viewTime t) ⌝ }
 {
     match t {
         Time::Given(_) => true,
@@ -211,7 +211,7 @@ pub extern "C" fn trips_trip(e: &[u8]) -> TripNumbers
 // Whether a text of s is x.
 fn reads(s: &[u8], p: Span, x: &[u8]) -> bool
     requires { ⌜ SpanInside (length (now s)) p ⌝ }
-    ensures { λ r. ⌜ r ≡ equal (spanIn (now (s .entry)) p) (now (x .entry)) ⌝ }
+    ensures { λ r. ⌜ r ≡ same (spanIn (now (s .entry)) p) (now (x .entry)) ⌝ }
 {
     slices::same(wire::part(s, p.start, p.len), x)
 }
@@ -296,7 +296,7 @@ pub extern "C" fn trips_stop(u: &[u8]) -> StopNumbers
 // Whether the stop id of a stop time update is this.
 #[no_mangle]
 pub extern "C" fn trips_stop_text(u: &[u8], stop: &[u8]) -> bool
-    ensures { λ r. ⌜ r ≡ ofWhole false (λ m. equal (stopUpdate m .stop) (now (stop .entry))) (tree feed stopTimeUpdate (now (u .entry))) ⌝ }
+    ensures { λ r. ⌜ r ≡ ofWhole false (λ m. same (stopUpdate m .stop) (now (stop .entry))) (tree feed stopTimeUpdate (now (u .entry))) ⌝ }
 {
     if is_whole(u, STOP_TIME_UPDATE) {
         let r = realtime_views::stop_of(u, 0, u.len());

@@ -6,16 +6,17 @@ use mathlib.Core.List.{List, [], _∷_}
 use native.Mathlib.Omega.{arith}
 use lib.ListN.{length, getD, take}
 use lib.Seq.{getD-take, length-take-le}
-use Rattle.formats.specs.Readers.{All}
+use Rattle.basics.specs.Lists.{All}
 use Rattle.slices.specs.Lists.{lexOf}
 use Rattle.slices.specs.declared.Order.{Order}
 use Rattle.slices.specs.declared.Order.the-variants.{Less, Same, More}
-use Rattle.decode.specs.Map.{Ordered, isLess, isMore, byOrder, above, ascending}
-use Rattle.decode.specs.Order.{texts}
-use Rattle.decode.specs.laws.Order.{texts-order}
-use Rattle.decode.specs.laws.Map.{Lawful, both-true, is-less, rest-ascending}
-use Rattle.decode_slots.specs.Index.{Place, keyAt, entryAt, slotted, index}
-use Rattle.decode_slots.specs.promises.Index.{Sound, rankOf}
+use Rattle.maps.specs.Map.{Ordered, isLess, isMore, byOrder, above, ascending}
+use Rattle.maps.specs.Order.{texts}
+use Rattle.maps.specs.laws.Order.{texts-order}
+use Rattle.maps.specs.laws.Map.{Lawful, is-less, rest-ascending}
+use Rattle.basics.specs.laws.Booleans.{both-true}
+use Rattle.decode_slots.specs.Index.{Place, slotKey, slotEntry, slotted, index}
+use Rattle.decode_slots.specs.promises.Index.{SoundIndex, rankOf}
 use Rattle.decode_slots.specs.laws.Slots.{index-length}
 
 is-more : (o : Order) → isMore o ≡ true → o ≡ More
@@ -87,33 +88,33 @@ all-at P (j ∷ s) (suc i) h l = all-at P s i (h .1) (omega arith)
 abbrev pub nowhere : List ℕ × Place
 nowhere = ([], (0, 0))
 
-pub slotted-at : (keys marks l : List ℕ) (i : ℕ) → i < length l → getD (slotted keys marks l) i nowhere ≡ entryAt keys marks (getD l i 0)
+pub slotted-at : (keys marks l : List ℕ) (i : ℕ) → i < length l → getD (slotted keys marks l) i nowhere ≡ slotEntry keys marks (getD l i 0)
 slotted-at keys marks [] i h = absurd (omega arith)
 slotted-at keys marks (j ∷ l) zero h = refl
 slotted-at keys marks (j ∷ l) (suc i) h = slotted-at keys marks l i (omega arith)
 
-module _ (keys marks order : List ℕ) (n : ℕ) (S : Sound keys marks order n) where
+module _ (keys marks order : List ℕ) (n : ℕ) (S : SoundIndex keys marks order n) where
   pub slot-below : (i : ℕ) → i < n → getD order i 0 < n
   slot-below i h =
       let e : getD (take n order) i 0 ≡ getD order i 0 = getD-take n order i 0 h in
       let b : getD (take n order) i 0 < n = all-at (λ j. j < n) (take n order) i (S .slots) (omega (arith, length-take-le n order (omega (arith, S .ordered, S .counted)))) in
       omega arith
 
-  pub index-at : (i : ℕ) → i < n → getD (index keys marks order n) i nowhere ≡ entryAt keys marks (getD order i 0)
+  pub index-at : (i : ℕ) → i < n → getD (index keys marks order n) i nowhere ≡ slotEntry keys marks (getD order i 0)
   index-at i h =
       slotted-at keys marks (take n order) i (omega (arith, length-take-le n order (omega (arith, S .ordered, S .counted))))
-      ∙ ap (entryAt keys marks) (getD-take n order i 0 h)
+      ∙ ap (slotEntry keys marks) (getD-take n order i 0 h)
 
   pub rank-within : (k : List ℕ) → rankOf texts k (index keys marks order n) ≤ n
   rank-within k = omega (arith, rank-length texts-order nowhere k (index keys marks order n), index-length keys marks order n S)
 
   -- a step of the search
-  pub rank-more : (k : List ℕ) (i : ℕ) → i < n → isMore (lexOf k (keyAt keys marks (getD order i 0))) ≡ true → i < rankOf texts k (index keys marks order n)
+  pub rank-more : (k : List ℕ) (i : ℕ) → i < n → isMore (lexOf k (slotKey keys marks (getD order i 0))) ≡ true → i < rankOf texts k (index keys marks order n)
   rank-more k i h g =
       rank-behind texts-order nowhere k (index keys marks order n) i (S .ascends) (omega (arith, index-length keys marks order n S))
-      (ap (λ e. lexOf k (e .0)) (index-at i h) ∙ is-more (lexOf k (keyAt keys marks (getD order i 0))) g)
+      (ap (λ e. lexOf k (e .0)) (index-at i h) ∙ is-more (lexOf k (slotKey keys marks (getD order i 0))) g)
 
-  pub rank-else : (k : List ℕ) (i : ℕ) → i < n → isMore (lexOf k (keyAt keys marks (getD order i 0))) ≡ false → rankOf texts k (index keys marks order n) ≤ i
+  pub rank-else : (k : List ℕ) (i : ℕ) → i < n → isMore (lexOf k (slotKey keys marks (getD order i 0))) ≡ false → rankOf texts k (index keys marks order n) ≤ i
   rank-else k i h g =
       rank-before texts-order nowhere k (index keys marks order n) i (omega (arith, index-length keys marks order n S))
       (ap (λ e. isMore (lexOf k (e .0))) (index-at i h) ∙ g)

@@ -9,18 +9,18 @@ use lib.ListN.{getD, take, drop}
 abbrev pub Place : Type 0
 Place = ℕ × ℕ
 
-abbrev pub keyAt : List ℕ → List ℕ → ℕ → List ℕ
-keyAt keys marks j = take (getD marks (3 * j) 0) (drop (137 * j) keys)
+abbrev pub slotKey : List ℕ → List ℕ → ℕ → List ℕ
+slotKey keys marks j = take (getD marks (3 * j) 0) (drop (137 * j) keys)
 
-abbrev pub placeAt : List ℕ → ℕ → Place
-placeAt marks j = (getD marks (3 * j + 1) 0, getD marks (3 * j + 2) 0)
+abbrev pub slotPlace : List ℕ → ℕ → Place
+slotPlace marks j = (getD marks (3 * j + 1) 0, getD marks (3 * j + 2) 0)
 
-abbrev pub entryAt : List ℕ → List ℕ → ℕ → List ℕ × Place
-entryAt keys marks j = (keyAt keys marks j, placeAt marks j)
+abbrev pub slotEntry : List ℕ → List ℕ → ℕ → List ℕ × Place
+slotEntry keys marks j = (slotKey keys marks j, slotPlace marks j)
 
 abbrev pub slotted : List ℕ → List ℕ → List ℕ → List (List ℕ × Place)
 slotted keys marks [] = []
-slotted keys marks (j ∷ l) = entryAt keys marks j ∷ slotted keys marks l
+slotted keys marks (j ∷ l) = slotEntry keys marks j ∷ slotted keys marks l
 
 -- THE MAP that the first n slots hold
 abbrev pub index : List ℕ → List ℕ → List ℕ → ℕ → List (List ℕ × Place)

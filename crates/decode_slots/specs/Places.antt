@@ -1,7 +1,6 @@
 -- Believe: the probes' answers. What stands at a place of the index: an entity of the message, or a record of the
 -- old overlay.
-use Prim.Native.Nat.{ℕ, _-_, _≤_}
-use mathlib.Core.Path.{_≡_}
+use Prim.Native.Nat.{ℕ, _-_}
 use mathlib.Core.Bool.{Bool, false, cond, _||_}
 use mathlib.Core.List.{List, [], _∷_}
 use mathlib.Core.Option.{Option, none, some}
@@ -12,13 +11,13 @@ use Rattle.realtime.specs.Tree.{Tree, end, tree}
 use Rattle.realtime.specs.Schema.{feedEntity, stopTimeUpdate}
 use Rattle.realtime.specs.Schema as schema
 use Rattle.decode.specs.Trip.{StopUpdate, Trip, trip, updatesOf}
-use Rattle.decode.specs.Map.{mapValues}
+use Rattle.maps.specs.Map.{mapValues}
 use Rattle.decode.specs.Record.{updateIn, tripIn}
 use Rattle.decode_slots.specs.Index.{Place}
 use Rattle.decode.specs.Leaves.{Trips}
 
-abbrev pub bytesAt : List ℕ → Place → List ℕ
-bytesAt s p = take (p .1 - p .0) (drop (p .0) s)
+abbrev pub bytesIn : List ℕ → Place → List ℕ
+bytesIn s p = take (p .1 - p .0) (drop (p .0) s)
 
 -- what is broken counts as empty: no place of the index has it
 abbrev pub orEnd : Option Tree → Tree
@@ -26,10 +25,10 @@ orEnd none = end
 orEnd (some m) = m
 
 unfoldable pub recordAt : List ℕ → Place → Trip
-recordAt s p = tripIn (orEnd (tree schema.feed feedEntity (bytesAt s p)))
+recordAt s p = tripIn (orEnd (tree schema.feed feedEntity (bytesIn s p)))
 
 unfoldable pub updateAt : List ℕ → Place → StopUpdate
-updateAt s p = updateIn (orEnd (tree schema.feed stopTimeUpdate (bytesAt s p)))
+updateAt s p = updateIn (orEnd (tree schema.feed stopTimeUpdate (bytesIn s p)))
 
 -- a message has 1,048,576 bytes at most: the places above it are those of the old overlay's bytes
 abbrev pub beyond : ℕ
@@ -38,12 +37,12 @@ beyond = 1048577
 abbrev pub isNew : Place → Bool
 isNew p = ltb (p .0) beyond
 
-abbrev pub orEmpty : Option (Trip × List ℕ) → Trip
-orEmpty none = tripIn end
-orEmpty (some r) = r .0
+abbrev pub orNoTrip : Option (Trip × List ℕ) → Trip
+orNoTrip none = tripIn end
+orNoTrip (some r) = r .0
 
 unfoldable pub oldAt : List ℕ → Place → Trip
-oldAt o p = orEmpty (read trip (bytesAt o (p .0 - beyond, p .1 - beyond)))
+oldAt o p = orNoTrip (read trip (bytesIn o (p .0 - beyond, p .1 - beyond)))
 
 abbrev pub heldAt : List ℕ → List ℕ → Place → Trip
 heldAt s o p = cond (isNew p) (recordAt s p) (oldAt o p)
@@ -51,13 +50,6 @@ heldAt s o p = cond (isNew p) (recordAt s p) (oldAt o p)
 -- THE TRIPS that an index holds, by the message s and the old overlay o
 unfoldable pub held : List ℕ → List ℕ → List (List ℕ × Place) → Trips
 held s o m = mapValues (heldAt s o) m
-
--- a place of the message has an entity that is not broken
-pub record Readable (s : List ℕ) (p : Place) : Type 0 where
-  pub forward : p .0 ≤ p .1
-  pub inside : p .1 ≤ length s
-  pub entity : Tree
-  pub read : tree schema.feed feedEntity (bytesAt s p) ≡ some entity
 
 -- more than 128 updates in a record; in one of a feed's trips
 abbrev pub crowded : Trip → Bool

@@ -6,10 +6,10 @@ ghost use mathlib.Core.Bool.{_&&_};
 ghost use lib.Dec.{ltb};
 ghost use lib.ListN.{length, getD, set};
 ghost use Rattle.slices.specs.Lists.{lexOf};
-ghost use Rattle.decode.specs.Map.{isSame, isMore};
-ghost use Rattle.decode.specs.Order.{texts};
-ghost use Rattle.decode_slots.specs.Index.{keyAt, index};
-ghost use Rattle.decode_slots.specs.promises.Index.{keyIn, Sound, Settled, rankOf, inserted, remarked};
+ghost use Rattle.maps.specs.Map.{isSame, isMore};
+ghost use Rattle.maps.specs.Order.{texts};
+ghost use Rattle.decode_slots.specs.Index.{slotKey, index};
+ghost use Rattle.decode_slots.specs.promises.Index.{keyIn, SoundIndex, Settled, rankOf, inserted, remarked};
 
 fn wide(x: u32) -> usize
     ensures { λ r. ⌜ r ≡ x ⌝ }
@@ -62,7 +62,7 @@ fn key_order(keys: &[u8], marks: &[u32], n: usize, len: usize, slot: usize) -> O
     requires { ⌜ 137 * n + len ≤ length (now keys) ⌝ }
     requires { ⌜ 3 * slot < length (now marks) ⌝ }
     requires { ⌜ 137 * slot + getD (now marks) (3 * slot) 0 ≤ length (now keys) ⌝ }
-    ensures { λ r. ⌜ r ≡ lexOf (keyIn (now (keys .entry)) n len) (keyAt (now (keys .entry)) (now (marks .entry)) slot) ⌝ }
+    ensures { λ r. ⌜ r ≡ lexOf (keyIn (now (keys .entry)) n len) (slotKey (now (keys .entry)) (now (marks .entry)) slot) ⌝ }
 {
     let known = word(marks, 3 * slot);
     slices::compare(
@@ -73,7 +73,7 @@ fn key_order(keys: &[u8], marks: &[u32], n: usize, len: usize, slot: usize) -> O
 
 // How many keys stand before the key in slot n: found by halving.
 fn rank(keys: &[u8], marks: &[u32], order: &[u32], n: usize, len: usize) -> usize
-    requires { ⌜ Sound (now keys) (now marks) (now order) n ⌝ }
+    requires { ⌜ SoundIndex (now keys) (now marks) (now order) n ⌝ }
     requires { ⌜ (n ≤ 2048) × (len ≤ 137) ⌝ }
     ensures { λ r. ⌜ r ≡ rankOf texts (keyIn (now (keys .entry)) n len) (index (now (keys .entry)) (now (marks .entry)) (now (order .entry)) n) ⌝ }
 {
@@ -93,9 +93,9 @@ fn rank(keys: &[u8], marks: &[u32], order: &[u32], n: usize, len: usize) -> usiz
 
 // Whether the key at rank r is the key in slot n.
 fn stands(keys: &[u8], marks: &[u32], order: &[u32], n: usize, len: usize, r: usize) -> bool
-    requires { ⌜ Sound (now keys) (now marks) (now order) n ⌝ }
+    requires { ⌜ SoundIndex (now keys) (now marks) (now order) n ⌝ }
     requires { ⌜ (n ≤ 2048) × (len ≤ 137) ⌝ }
-    ensures { λ b. ⌜ b ≡ (ltb r n && isSame (lexOf (keyIn (now (keys .entry)) n len) (keyAt (now (keys .entry)) (now (marks .entry)) (getD (now (order .entry)) r 0)))) ⌝ }
+    ensures { λ b. ⌜ b ≡ (ltb r n && isSame (lexOf (keyIn (now (keys .entry)) n len) (slotKey (now (keys .entry)) (now (marks .entry)) (getD (now (order .entry)) r 0)))) ⌝ }
 {
     if r >= n {
         return false;
@@ -104,23 +104,23 @@ fn stands(keys: &[u8], marks: &[u32], order: &[u32], n: usize, len: usize, r: us
 }
 
 // The place of a slot.
-pub fn mark(marks: &mut [u32], slot: usize, from: u32, till: u32)
+pub fn mark(marks: &mut [u32], slot: usize, from: u32, to: u32)
     requires { ⌜ 3 * slot + 3 ≤ length (now marks) ⌝ }
-    ensures { λ _. ⌜ now (marks .exit) ≡ remarked (now (marks .entry)) slot from till ⌝ }
+    ensures { λ _. ⌜ now (marks .exit) ≡ remarked (now (marks .entry)) slot from to ⌝ }
 {
     marks[3 * slot + 1] = from;
-    marks[3 * slot + 2] = till;
+    marks[3 * slot + 2] = to;
 }
 
 // Slot n is in use from now on, at rank r.
-fn enter(marks: &mut [u32], order: &mut [u32], n: usize, r: usize, len: usize, from: u32, till: u32)
+fn enter(marks: &mut [u32], order: &mut [u32], n: usize, r: usize, len: usize, from: u32, to: u32)
     requires { ⌜ (n ≤ 2048) × (r ≤ n) × (len ≤ 137) ⌝ }
     requires { ⌜ (length (now marks) ≡ 6147) × (length (now order) ≡ 2049) ⌝ }
-    ensures { λ _. ⌜ now (marks .exit) ≡ remarked (set (now (marks .entry)) (3 * n) len) n from till ⌝ }
+    ensures { λ _. ⌜ now (marks .exit) ≡ remarked (set (now (marks .entry)) (3 * n) len) n from to ⌝ }
     ensures { λ _. ⌜ now (order .exit) ≡ inserted (now (order .entry)) r n n ⌝ }
 {
     marks[3 * n] = len as u32;
-    mark(marks, n, from, till);
+    mark(marks, n, from, to);
     insert(order, r, n, n as u32);
 }
 
@@ -132,18 +132,18 @@ pub fn settle(
     n: usize,
     len: usize,
     from: u32,
-    till: u32,
+    to: u32,
 ) -> usize
-    requires { ⌜ Sound (now keys) (now marks) (now order) n ⌝ }
+    requires { ⌜ SoundIndex (now keys) (now marks) (now order) n ⌝ }
     requires { ⌜ (n ≤ 2048) × (len ≤ 137) ⌝ }
-    ensures { λ r. ⌜ Settled (now (keys .entry)) (now (marks .entry)) (now (order .entry)) n len from till (now (marks .exit)) (now (order .exit)) r ⌝ }
+    ensures { λ r. ⌜ Settled (now (keys .entry)) (now (marks .entry)) (now (order .entry)) n len from to (now (marks .exit)) (now (order .exit)) r ⌝ }
 {
     let r = rank(keys, marks, order, n, len);
     if stands(keys, marks, order, n, len, r) {
         let slot = word(order, r);
-        mark(marks, slot, from, till);
+        mark(marks, slot, from, to);
         return n;
     }
-    enter(marks, order, n, r, len, from, till);
+    enter(marks, order, n, r, len, from, to);
     n + 1
 }

@@ -11,8 +11,8 @@ use Rattle.realtime_views.specs.promises.Walks.{NextUpdate}
 use Rattle.realtime_views.specs.promises.Starts.{atMerged}
 use Rattle.realtime_views.specs.declared.Walk.{Walk}
 use Rattle.realtime_views.specs.declared.Item.{Item}
-use Rattle.decode.specs.Order.{numbers}
-use Rattle.decode.specs.laws.Map.{puts-most}
+use Rattle.maps.specs.Order.{numbers}
+use Rattle.maps.specs.laws.Map.{puts-most}
 use Rattle.decode.specs.Record.{updatesIn, tripIn}
 use Rattle.decode_updates.specs.promises.Updates.{Counted, CrowdedRead}
 use Rattle.decode_updates.proofs.Walking.{Walked, starts, walks-on, ends}

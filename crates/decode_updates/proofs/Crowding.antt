@@ -9,17 +9,18 @@ use lib.ListN.{length, getD, take, drop, length-take, drop-of-length-le}
 use lib.Seq.{drop-cons, getD-take}
 use borrow.Author.Tests.{lt-ltb, le-ltb, ltb-true, ltb-false}
 use native.Mathlib.Numerals.{add-one}
-use Rattle.formats.specs.Readers.{All}
-use Rattle.decode.specs.laws.Map.{map-length}
+use Rattle.basics.specs.Lists.{All}
+use Rattle.maps.specs.laws.Map.{map-length}
 use Rattle.decode.specs.Record.{updatesIn, tripIn}
-use Rattle.decode_slots.specs.Index.{placeAt}
-use Rattle.decode_slots.specs.Places.{recordAt, updateAt, orEnd, Readable, crowded}
+use Rattle.decode_slots.specs.Index.{slotPlace}
+use Rattle.decode_slots.specs.Places.{recordAt, updateAt, orEnd, crowded}
+use Rattle.decode_slots.specs.promises.Places.{Readable}
 use Rattle.decode_updates.specs.Line.{laid}
 use Rattle.decode_updates.specs.laws.Line.{laid-length}
-use Rattle.decode_updates.specs.promises.Updates.{Listed, CrowdedRead, ReadableSlot, crowdedSlot, crowdedIn}
+use Rattle.decode_updates.specs.promises.Updates.{ListedUpdates, CrowdedRead, ReadableSlot, crowdedSlot, crowdedIn}
 
 -- by the updates themselves
-pub crowded-listed : {s u : List ℕ} {start len r : ℕ} → Listed s start len u r → CrowdedRead s start len (ltb 128 r)
+pub crowded-listed : {s u : List ℕ} {start len r : ℕ} → ListedUpdates s start len u r → CrowdedRead s start len (ltb 128 r)
 unfolding tripIn
 crowded-listed {s} {u} {start} {len} {r} L = record {
   of = λ e q. go (ltb 128 r) refl (length (updatesIn e)) (L .of e q .many) (λ h. sym (ap length (L .of e q .few h)) ∙ map-length (updateAt s) (laid r u) ∙ laid-length r u);
@@ -32,20 +33,20 @@ crowded-listed {s} {u} {start} {len} {r} L = record {
 module _ (s marks : List ℕ) (j : ℕ) where
   -- a record of the old overlay
   pub slot-old : {from : ℕ} → from ≡ getD marks (3 * j + 1) 0 → 1048577 ≤ from → false ≡ crowdedSlot s marks j
-  slot-old e h = sym (ap (λ b. b && crowded (recordAt s (placeAt marks j))) (le-ltb (getD marks (3 * j + 1) 0) 1048577 (omega arith)))
+  slot-old e h = sym (ap (λ b. b && crowded (recordAt s (slotPlace marks j))) (le-ltb (getD marks (3 * j + 1) 0) 1048577 (omega arith)))
 
   module _ (R : ReadableSlot s marks j) {from : ℕ} (e : from ≡ getD marks (3 * j + 1) 0) (h : from < 1048577) where
-    pub slot-reads : Readable s (placeAt marks j)
+    pub slot-reads : Readable s (slotPlace marks j)
     slot-reads = R .1 (lt-ltb (getD marks (3 * j + 1) 0) 1048577 (omega arith))
 
     -- a record of the message
-    pub slot-new : {till : ℕ} {r : Bool} → till ≡ getD marks (3 * j + 2) 0 → CrowdedRead s from (till - from) r → r ≡ crowdedSlot s marks j
+    pub slot-new : {to : ℕ} {r : Bool} → to ≡ getD marks (3 * j + 2) 0 → CrowdedRead s from (to - from) r → r ≡ crowdedSlot s marks j
     unfolding recordAt
-    slot-new {till} {r} f C =
+    slot-new {to} {r} f C =
         let q = slot-reads .read in
         let z : r ≡ crowded (tripIn (slot-reads .entity)) = (rw (e, f) at C) .of (slot-reads .entity) q in
         z ∙ sym (ap (λ o. crowded (tripIn (orEnd o))) q)
-        ∙ sym (ap (λ b. b && crowded (recordAt s (placeAt marks j))) (lt-ltb (getD marks (3 * j + 1) 0) 1048577 (omega arith)))
+        ∙ sym (ap (λ b. b && crowded (recordAt s (slotPlace marks j))) (lt-ltb (getD marks (3 * j + 1) 0) 1048577 (omega arith)))
 
 -- THE INVARIANT: the slots so far have none
 pub record Seeking (s marks order : List ℕ) (n i : ℕ) : Type 0 where

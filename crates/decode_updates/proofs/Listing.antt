@@ -14,16 +14,16 @@ use Rattle.realtime_views.specs.promises.Starts.{atMerged}
 use Rattle.realtime_views.specs.declared.Walk.{Walk}
 use Rattle.realtime_views.specs.declared.Item.{Item}
 use Rattle.decode.specs.Trip.{StopUpdate}
-use Rattle.decode.specs.Map.{put, puts}
-use Rattle.decode.specs.Order.{numbers}
-use Rattle.decode.specs.laws.Map.{map-put, map-length, puts-longer}
+use Rattle.maps.specs.Map.{put, puts}
+use Rattle.maps.specs.Order.{numbers}
+use Rattle.maps.specs.laws.Map.{map-put, map-length, puts-longer}
 use Rattle.decode.specs.Record.{updateIn, updatesIn}
 use Rattle.decode_updates.specs.Line.{laid}
 use Rattle.decode_updates.specs.laws.Line.{laid-length}
 use Rattle.decode_updates.specs.promises.Line.{Lined, Noted}
 use Rattle.decode_slots.specs.Places.{orEnd, updateAt}
 use Rattle.decode_updates.specs.Updates.{updatesAt}
-use Rattle.decode_updates.specs.promises.Updates.{Listed}
+use Rattle.decode_updates.specs.promises.Updates.{ListedUpdates}
 use Rattle.decode_updates.proofs.Walking.{Walked, starts, walks-on, ends}
 
 -- an update with its sequence
@@ -50,7 +50,7 @@ update-at s i l m e =
 
 module _ {s : List ℕ} {start len : ℕ} {u : List ℕ} {n : ℕ} {w : Walk} (L : Listing s start len u n w) where
   -- too many, whatever is left
-  pub lists-many : 128 < n → Listed s start len u n
+  pub lists-many : 128 < n → ListedUpdates s start len u n
   lists-many h = record {
     lined = L .lined;
     of = λ e q.
@@ -63,7 +63,7 @@ module _ {s : List ℕ} {start len : ℕ} {u : List ℕ} {n : ℕ} {w : Walk} (L
 
   module _ {x : List ℕ} (X : x ≡ take (start + len) s) {r : Item} (N : NextUpdate x w r) where
     -- no update is left
-    pub listed : r ≡ Item.Done → n ≤ 128 → Listed s start len u n
+    pub listed : r ≡ Item.Done → n ≤ 128 → ListedUpdates s start len u n
     listed d h = record {
       lined = L .lined;
       of = λ e q. record { few = λ _. ends (L .walked) X N d e q; many = λ g. absurd (omega arith) };

@@ -2,15 +2,14 @@
 use Prim.Native.Nat.{ℕ, _+_, _≤_, _<_}
 use mathlib.Core.Path.{_≡_, sym, ap, subst, _∙_}
 use mathlib.Core.List.{List, [], _∷_}
-use mathlib.Core.Option.{some}
+use mathlib.Core.Option.{some, Option·map}
 use native.Mathlib.Omega.{arith}
 use lib.ListN.{length, take, drop, length-take}
-use Rattle.wire.specs.Wire.{mapO}
 use Rattle.realtime.specs.Tree.{Tree, tree, sub, rep}
 use Rattle.realtime.specs.Schema.{feed, feedEntity, stopTimeUpdate}
 use Rattle.realtime_views.specs.laws.Reading.{front-part}
 use Rattle.realtime_views.specs.laws.Walks.{leftUpdates, found, yielded}
-use Rattle.realtime_views.specs.promises.Walks.{NextUpdate, Sound, ahead}
+use Rattle.realtime_views.specs.promises.Walks.{NextUpdate, SoundWalk, ahead}
 use Rattle.realtime_views.specs.laws.Starts.{merged-sound, updates-left}
 use Rattle.realtime_views.specs.promises.Starts.{atMerged}
 use Rattle.realtime_views.specs.declared.Walk.{Walk}
@@ -25,7 +24,7 @@ pub record Left (x : List ℕ) (w : Walk) (P : List Tree → Type 0) : Type 0 wh
 -- a walk over the entity e in `len` bytes at `start`: P e holds of what is left
 pub record Walked (s : List ℕ) (start len : ℕ) (P : Tree → List Tree → Type 0) (w : Walk) : Type 0 where
   pub inside : start + len ≤ length s
-  pub sound : Sound (take (start + len) s) (w .outer) (w .end) (w .at)
+  pub sound : SoundWalk (take (start + len) s) (w .outer) (w .end) (w .at)
   pub of : (e : Tree) → tree feed feedEntity (take len (drop start s)) ≡ some e → Left (take (start + len) s) w (P e)
 
 front-length : (s : List ℕ) (n : ℕ) → n ≤ length s → length (take n s) ≡ n
@@ -37,11 +36,11 @@ pub starts : (s : List ℕ) (start len : ℕ) {P : Tree → List Tree → Type 0
 starts s start len i e p = record {
   inside = i;
   sound = merged-sound start (omega (arith, front-length s (start + len) i)) e;
-  of = λ t r. record { trees = rep 2 (sub 3 t); left = updates-left s start len i e ∙ ap (mapO (λ e. rep 2 (sub 3 e))) r; holds = p t };
+  of = λ t r. record { trees = rep 2 (sub 3 t); left = updates-left s start len i e ∙ ap (Option·map (λ e. rep 2 (sub 3 e))) r; holds = p t };
 }
 
 module _ {s : List ℕ} {start len : ℕ} {P : Tree → List Tree → Type 0} {w : Walk} (W : Walked s start len P w) {x : List ℕ} (X : x ≡ take (start + len) s) where
-  pub walks : Sound x (w .outer) (w .end) (w .at)
+  pub walks : SoundWalk x (w .outer) (w .end) (w .at)
   walks = rw X (W .sound)
 
   module _ {r : Item} (N : NextUpdate x w r) where

@@ -2,7 +2,7 @@
 use Prim.Native.Nat.{ℕ}
 use mathlib.Core.List.{List}
 use Rattle.decode.specs.Trip.{StopUpdate}
-use Rattle.decode.specs.Map.{mapValues}
+use Rattle.maps.specs.Map.{mapValues}
 use Rattle.decode_slots.specs.Index.{Place}
 use Rattle.decode_slots.specs.Places.{updateAt}
 

@@ -5,12 +5,12 @@ ghost use Prim.Native.Nat.{_+_, _*_, _≤_};
 ghost use mathlib.Core.Bool.{_&&_};
 ghost use lib.Dec.{ltb, eqb};
 ghost use lib.ListN.{length, take, getD};
-ghost use Rattle.formats.specs.Readers.{All};
-ghost use Rattle.decode.specs.Order.{numbers};
+ghost use Rattle.basics.specs.Lists.{All};
+ghost use Rattle.maps.specs.Order.{numbers};
 ghost use Rattle.decode_slots.specs.promises.Index.{rankOf};
 ghost use Rattle.decode_updates.specs.Line.{laid};
 ghost use Rattle.decode_updates.specs.promises.Line.{three, Lined, Noted};
-ghost use Rattle.decode_updates.specs.promises.Updates.{Listed, Counted, CrowdedRead, ReadableSlot, crowdedSlot, crowdedIn};
+ghost use Rattle.decode_updates.specs.promises.Updates.{ListedUpdates, Counted, CrowdedRead, ReadableSlot, crowdedSlot, crowdedIn};
 
 // The most updates that a trip may have.
 const LIMIT: usize = 128;
@@ -45,27 +45,27 @@ fn is_at(updates: &[u32], n: usize, r: usize, sequence: u32) -> bool
 }
 
 // Three numbers go in at rank r.
-fn line(updates: &mut [u32], n: usize, r: usize, sequence: u32, from: u32, till: u32)
+fn line(updates: &mut [u32], n: usize, r: usize, sequence: u32, from: u32, to: u32)
     requires { ⌜ (r ≤ n) × (n ≤ 128) × (length (now updates) ≡ 387) ⌝ }
-    ensures { λ _. ⌜ now (updates .exit) ≡ three (now (updates .entry)) r n sequence from till ⌝ }
+    ensures { λ _. ⌜ now (updates .exit) ≡ three (now (updates .entry)) r n sequence from to ⌝ }
 {
     decode_slots::insert(updates, 3 * r, 3 * n, sequence);
     decode_slots::insert(updates, 3 * r + 1, 3 * n + 1, from);
-    decode_slots::insert(updates, 3 * r + 2, 3 * n + 2, till);
+    decode_slots::insert(updates, 3 * r + 2, 3 * n + 2, to);
 }
 
 // An update goes in at its sequence, over an old one: how many are in use then.
-pub fn note(updates: &mut [u32], n: usize, sequence: u32, from: u32, till: u32) -> usize
+pub fn note(updates: &mut [u32], n: usize, sequence: u32, from: u32, to: u32) -> usize
     requires { ⌜ Lined (now updates) n ⌝ }
     requires { ⌜ n ≤ 128 ⌝ }
-    ensures { λ r. ⌜ Noted (now (updates .entry)) n sequence from till (now (updates .exit)) r ⌝ }
+    ensures { λ r. ⌜ Noted (now (updates .entry)) n sequence from to (now (updates .exit)) r ⌝ }
 {
     let r = place_of(updates, n, sequence);
     if is_at(updates, n, r, sequence) {
-        decode_slots::mark(updates, r, from, till);
+        decode_slots::mark(updates, r, from, to);
         return n;
     }
-    line(updates, n, r, sequence, from, till);
+    line(updates, n, r, sequence, from, to);
     n + 1
 }
 
@@ -73,7 +73,7 @@ pub fn note(updates: &mut [u32], n: usize, sequence: u32, from: u32, till: u32) 
 pub fn updates_of(updates: &mut [u32], s: &[u8], start: usize, len: usize) -> usize
     requires { ⌜ length (now updates) ≡ 387 ⌝ }
     requires { ⌜ (start + len ≤ length (now s)) × (length (now s) ≤ 1048576) ⌝ }
-    ensures { λ r. ⌜ Listed (now (s .entry)) start len (now (updates .exit)) r ⌝ }
+    ensures { λ r. ⌜ ListedUpdates (now (s .entry)) start len (now (updates .exit)) r ⌝ }
 {
     let end = start + len;
     let mut walk = realtime_views::updates(start);
@@ -143,8 +143,8 @@ fn slot_crowded(updates: &mut [u32], marks: &[u32], slot: usize, s: &[u8]) -> bo
     if from >= BEYOND {
         return false;
     }
-    let till = decode_slots::word(marks, 3 * slot + 2);
-    is_crowded(updates, s, from, till - from)
+    let to = decode_slots::word(marks, 3 * slot + 2);
+    is_crowded(updates, s, from, to - from)
 }
 
 // Whether one of the first n slots has such a record: the first that is found ends the search.

@@ -5,16 +5,13 @@ use mathlib.Core.Option.{Option, none, some}
 use mathlib.Core.Bool.{Bool, true, false, cond, not, _&&_}
 use Prim.Native.Nat.{ℕ}
 use lib.Dec.{leb, eqb}
+use Rattle.basics.specs.Lists.{all}
 
 pub data Class : Type 0 where
   any : Class  -- any bytes
   printable : Class  -- bytes of 32 to 126
   token : Class  -- one or more bytes of 33 to 126, none of them ':'
   utf8 : Class  -- well-formed UTF-8
-
-abbrev pub all : {A : Type 0} → (A → Bool) → List A → Bool
-all p [] = true
-all p (a ∷ v) = p a && all p v
 
 -- a byte from the first to the second
 abbrev pub Range : Type 0
@@ -27,8 +24,8 @@ abbrev pub trail : Range
 trail = (0x80, 0xBF)
 
 -- table 3-7: each row has the range of the first byte, the second, the third and the fourth
-abbrev pub rows : List (List Range)
-rows =
+abbrev pub utf8Rows : List (List Range)
+utf8Rows =
     ((0x00, 0x7F) ∷ [])  -- U+0000..U+007F
     ∷ ((0xC2, 0xDF) ∷ trail ∷ [])  -- U+0080..U+07FF
     ∷ ((0xE0, 0xE0) ∷ (0xA0, 0xBF) ∷ trail ∷ [])  -- U+0800..U+0FFF
@@ -48,7 +45,7 @@ due ((r ∷ rest) ∷ more) b = cond (inside r b) (some rest) (due more b)
 
 -- what is due after a byte, where it is to be the first of these
 abbrev pub next : List Range → ℕ → Option (List Range)
-next [] b = due rows b
+next [] b = due utf8Rows b
 next (r ∷ rest) b = cond (inside r b) (some rest) none
 
 abbrev pub goesOn : Option (List Range) → (List Range → Bool) → Bool

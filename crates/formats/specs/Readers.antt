@@ -60,10 +60,6 @@ abbrev pub manyR : {A : Type 0} → Reader A → ℕ → Reader (List A)
 manyR r zero s = some ([], s)
 manyR r (suc n) s = bind (r s) (λ a t. bind (manyR r n t) (λ v u. some (a ∷ v, u)))
 
-abbrev pub All : {A : Type 0} → (A → Type 0) → List A → Type 0
-All ok [] = Unit {0}
-All ok (a ∷ v) = ok a × All ok v
-
 -- a count, and then what it counts
 abbrev pub countedR : {A : Type 0} → Reader ℕ → (ℕ → Reader A) → Reader A
 countedR rn r s = bind (rn s) (λ n t. r n t)

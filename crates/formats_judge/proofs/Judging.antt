@@ -22,7 +22,7 @@ use Rattle.formats.proofs.Numbers.{place, opened, bad-none}
 use Rattle.formats.proofs.Nodes.{node-none, node-leaf, node-list, node-choice, node-pair, node-never}
 use Rattle.formats.proofs.Passes.{count, tag-at, took}
 use Rattle.formats_judge.specs.Judged.{answer, verdict, judged, judgeTo}
-use Rattle.formats_judge.specs.promises.Judged.{verdicts, sooner, judgeMany, after}
+use Rattle.formats_judge.specs.promises.Judged.{verdicts, sooner, judgeMany, judgedAfter}
 use Rattle.formats_judge.specs.laws.Joins.{sooner-assoc, verdict-pair, verdict-more, verdict-list}
 use Rattle.formats_judge.specs.declared.Judge.{Judge}
 use Rattle.formats_judge.specs.declared.Judge.the-variants.{At, Broken}
@@ -64,7 +64,7 @@ judged-in f s at p x r e h = found (law f) (verdict f) s at r p x e h .within
 
 -- past the first, the rest is judged after its verdict
 joined : {A B : Type 0} (f : A → B) (g : A → ℕ) (h : B → ℕ) (x : ℕ) (s : List ℕ) (o : Option (A × List ℕ))
-    → ((a : A) → sooner x (g a) ≡ h (f a)) → after x (judged g s o) ≡ judged h s (bind o (λ a t. some (f a, t)))
+    → ((a : A) → sooner x (g a) ≡ h (f a)) → judgedAfter x (judged g s o) ≡ judged h s (bind o (λ a t. some (f a, t)))
 joined f g h x s none e = refl
 joined f g h x s (some y) e = ap (At (length s - length (y .1))) (e (y .0))
 
@@ -73,23 +73,23 @@ same : {A B : Type 0} (f : A → B) (g : A → ℕ) (h : B → ℕ) (s : List �
 same f g h s none e = refl
 same f g h s (some y) e = ap (At (length s - length (y .1))) (e (y .0))
 
-after-after : (x y : ℕ) (r : Judge) → after x (after y r) ≡ after (sooner x y) r
+after-after : (x y : ℕ) (r : Judge) → judgedAfter x (judgedAfter y r) ≡ judgedAfter (sooner x y) r
 after-after x y Broken = refl
 after-after x y (At p z) = ap (At p) (sooner-assoc x y z)
 
 -- n of one kind: what the whole loop finds is what is found from here on
-pub many-none : (f : Format) (s : List ℕ) (n at g : ℕ) (y : Judge) → after g (judgeMany f n s at) ≡ y → n ≤ 0 → at ≤ length s → At at g ≡ y
+pub many-none : (f : Format) (s : List ℕ) (n at g : ℕ) (y : Judge) → judgedAfter g (judgeMany f n s at) ≡ y → n ≤ 0 → at ≤ length s → At at g ≡ y
 many-none f s n at g y i l h =
     let e : n ≡ 0 = omega arith in
-    let j : At at (sooner g 0) ≡ after g (judgeMany f n s at) = rw (e, place s at h) refl in
+    let j : At at (sooner g 0) ≡ judgedAfter g (judgeMany f n s at) = rw (e, place s at h) refl in
     ap (At at) (sooner-none g 0 refl) ∙ j ∙ i
 
-module _ (f : Format) (s : List ℕ) (n at g : ℕ) (r : Judge) (e : r ≡ judgeTo f s at) (l : 0 < n) (y : Judge) (i : after g (judgeMany f n s at) ≡ y) where
+module _ (f : Format) (s : List ℕ) (n at g : ℕ) (r : Judge) (e : r ≡ judgeTo f s at) (l : 0 < n) (y : Judge) (i : judgedAfter g (judgeMany f n s at) ≡ y) where
   many-is : manyR (element f) n (drop at s) ≡ bind (element f (drop at s)) (λ a t. bind (manyR (element f) (n - 1) t) (λ v u. some (a ∷ v, u)))
   many-is = let i : n ≡ suc (n - 1) = omega arith in ap (λ n. manyR (element f) n (drop at s)) i
 
   pub many-bad : r ≡ Broken → Broken ≡ y
-  many-bad h = let j : Broken ≡ after g (judgeMany f n s at) = rw (many-is, judged-none (verdict f) s (read f (drop at s)) r e h) refl in j ∙ i
+  many-bad h = let j : Broken ≡ judgedAfter g (judgeMany f n s at) = rw (many-is, judged-none (verdict f) s (read f (drop at s)) r e h) refl in j ∙ i
 
   module _ (p x : ℕ) (h : r ≡ At p x) (k : at ≤ length s) where
     one : Found (read f) (verdict f) s at p x
@@ -100,20 +100,20 @@ module _ (f : Format) (s : List ℕ) (n at g : ℕ) (r : Judge) (e : r ≡ judge
 
     pub many-flat : p ≤ at → Broken ≡ y
     many-flat j =
-        let m : Broken ≡ after g (judgeMany f n s at) = rw (many-is, one .reads, le-ltb 0 (length (write f (one .value))) (omega (arith, bytes))) refl in
+        let m : Broken ≡ judgedAfter g (judgeMany f n s at) = rw (many-is, one .reads, le-ltb 0 (length (write f (one .value))) (omega (arith, bytes))) refl in
         m ∙ i
 
-    pub many-more : at < p → (z : ℕ) → z ≡ sooner g x → after z (judgeMany f (n - 1) s p) ≡ y
+    pub many-more : at < p → (z : ℕ) → z ≡ sooner g x → judgedAfter z (judgeMany f (n - 1) s p) ≡ y
     many-more j z c =
-        let m : after x (judgeMany f (n - 1) s p) ≡ judgeMany f n s at =
+        let m : judgedAfter x (judgeMany f (n - 1) s p) ≡ judgeMany f n s at =
         rw (many-is, one .reads, lt-ltb 0 (length (write f (one .value))) (omega (arith, bytes)))
         (joined (λ v. one .value ∷ v) (verdicts f) (verdicts f) x s (manyR (element f) (n - 1) (drop p s))
         (λ v. ap (λ t. sooner t (verdicts f v)) (one .rules) ∙ verdict-more f (one .value) v)) in
-        ap (λ t. after t (judgeMany f (n - 1) s p)) c ∙ sym (after-after g x (judgeMany f (n - 1) s p)) ∙ ap (after g) m ∙ i
+        ap (λ t. judgedAfter t (judgeMany f (n - 1) s p)) c ∙ sym (after-after g x (judgeMany f (n - 1) s p)) ∙ ap (judgedAfter g) m ∙ i
 
 -- the count of a list, and then its values
 list-go : (l : ℕ) (f : Format) (s t : List ℕ) (n : ℕ) (o : Option (List (Value f) × List ℕ)) → manyR (element f) n t ≡ o
-    → after (answer 7 (leb n l)) (judged (verdicts f) s o) ≡ judged (verdict (list l f)) s o
+    → judgedAfter (answer 7 (leb n l)) (judged (verdicts f) s o) ≡ judged (verdict (list l f)) s o
 list-go l f s t n none e = refl
 list-go l f s t n (some y) e =
     let m : length (y .0) ≡ n = manyLaw (elementLaw f) n .back t (y .0) (y .1) e .1 .0 in
@@ -141,11 +141,11 @@ module _ (depth : ℕ) (t : List ℕ) (n : ℕ) (s : List ℕ) (at : ℕ) where
               count-over (formatAt (depth - 1) t b) m (drop p s) (rw length-drop l),
             ) refl
 
-        pub list-good : (x : ℕ) → x ≡ answer 7 (leb m a) → (y : Judge) → y ≡ after x (judgeMany (formatAt (depth - 1) t b) m s p) → y ≡ judgeTo (formatAt depth t n) s at
+        pub list-good : (x : ℕ) → x ≡ answer 7 (leb m a) → (y : Judge) → y ≡ judgedAfter x (judgeMany (formatAt (depth - 1) t b) m s p) → y ≡ judgeTo (formatAt depth t n) s at
         list-good x c y f =
             let g = formatAt (depth - 1) t b in
             rw (node-list depth t n z kind a b ek ea eb k, count s at m p o r e .reads)
-            (f ∙ ap (λ u. after u (judgeMany g m s p)) c ∙ list-go a g s (drop p s) m (manyR (element g) m (drop p s)) refl)
+            (f ∙ ap (λ u. judgedAfter u (judgeMany g m s p)) c ∙ list-go a g s (drop p s) m (manyR (element g) m (drop p s)) refl)
 
     module _ (k : kind ≡ 9) (c : ℕ) (e : c ≡ tagAt s at) where
       pub choice-0 : c ≡ 0 → (x : Judge) → x ≡ judgeTo (formatAt (depth - 1) t a) s (at + 1) → x ≡ judgeTo (formatAt depth t n) s at
@@ -178,7 +178,7 @@ module _ (depth : ℕ) (t : List ℕ) (n : ℕ) (s : List ℕ) (at : ℕ) where
           rw (node-pair depth t n z kind a b ek ea eb k, judged-none (verdict A) s (read A (drop at s)) r e h) refl
 
       module _ (p x : ℕ) (h : r ≡ At p x) (y : Judge) (f : y ≡ judgeTo (formatAt (depth - 1) t b) s p) where
-        halves : after x y ≡ judgeTo (formatAt depth t n) s at
+        halves : judgedAfter x y ≡ judgeTo (formatAt depth t n) s at
         halves =
             let A = formatAt (depth - 1) t a in
             let B = formatAt (depth - 1) t b in
@@ -188,10 +188,10 @@ module _ (depth : ℕ) (t : List ℕ) (n : ℕ) (s : List ℕ) (at : ℕ) where
             (λ v. ap (λ u. sooner u (verdict B v)) (d .rules) ∙ verdict-pair A B (d .value, v)))
 
         pub pair-bad-2 : y ≡ Broken → Broken ≡ judgeTo (formatAt depth t n) s at
-        pair-bad-2 g = sym (ap (after x) g) ∙ halves
+        pair-bad-2 g = sym (ap (judgedAfter x) g) ∙ halves
 
         pub pair-good : (q u w : ℕ) → y ≡ At q u → w ≡ sooner x u → At q w ≡ judgeTo (formatAt depth t n) s at
-        pair-good q u w g c = ap (At q) c ∙ sym (ap (after x) g) ∙ halves
+        pair-good q u w g c = ap (At q) c ∙ sym (ap (judgedAfter x) g) ∙ halves
 
     pub value-never : 8 ≤ kind → (kind ≡ 8 → ⊥) → (kind ≡ 9 → ⊥) → (kind ≡ 10 → ⊥) → Broken ≡ judgeTo (formatAt depth t n) s at
     value-never l z₈ z₉ z₁₀ = rw (node-never depth t n z kind a b ek ea eb l z₈ z₉ z₁₀) refl

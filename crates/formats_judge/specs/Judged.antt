@@ -8,7 +8,8 @@ use Prim.Native.Nat.{ℕ, _-_}
 use lib.IntN.{ℤ, pos, negsuc}
 use lib.ListN.{length, drop}
 use lib.Dec.{leb, eqb}
-use Rattle.formats.specs.Class.{inClass, all}
+use Rattle.formats.specs.Class.{inClass}
+use Rattle.basics.specs.Lists.{all}
 use Rattle.formats.specs.Format.{Format, never, empty, number, signed, small, text, float, constant, list, choice, _&_, Value, read}
 use Rattle.formats_judge.specs.declared.Judge.{Judge}
 use Rattle.formats_judge.specs.declared.Judge.the-variants.{At, Broken}
@@ -20,8 +21,8 @@ atMost (negsuc m) (pos n) = true
 atMost (negsuc m) (negsuc n) = leb n m
 
 -- a question that is not the one that is put is answered yes
-abbrev pub put : ℕ → ℕ → Bool → Bool
-put q mine x = cond (eqb q mine) x true
+abbrev pub forQuestion : ℕ → ℕ → Bool → Bool
+forQuestion q mine x = cond (eqb q mine) x true
 
 abbrev pub either : {A B : Type 0} → (A → Bool) → (B → Bool) → (A ⊎ B) → Bool
 either p q (inl a) = p a
@@ -31,13 +32,13 @@ either p q (inr b) = q b
 abbrev pub ok : ℕ → (f : Format) → Value f → Bool
 ok q never = λ v. true
 ok q empty = λ v. true
-ok q (number lo hi) = λ n. put q 6 (leb lo n && leb n hi)
-ok q (signed lo hi) = λ z. put q 6 (atMost lo z && atMost z hi)
+ok q (number lo hi) = λ n. forQuestion q 6 (leb lo n && leb n hi)
+ok q (signed lo hi) = λ z. forQuestion q 6 (atMost lo z && atMost z hi)
 ok q (small k) = λ v. true
-ok q (text l c) = λ v. put q 5 (leb (length v) l && inClass c v)
+ok q (text l c) = λ v. forQuestion q 5 (leb (length v) l && inClass c v)
 ok q float = λ v. true
 ok q (constant c) = λ v. true
-ok q (list l f) = λ v. put q 7 (leb (length v) l) && all (ok q f) v
+ok q (list l f) = λ v. forQuestion q 7 (leb (length v) l) && all (ok q f) v
 ok q (choice a b) = either (ok q a) (ok q b)
 ok q (a & b) = λ v. ok q a (v .0) && ok q b (v .1)
 
@@ -46,12 +47,12 @@ abbrev pub answer : ℕ → Bool → ℕ
 answer q x = cond x 0 q
 
 -- 0 where all hold, else the number of the first that does not
-abbrev pub first : Bool → Bool → Bool → ℕ
-first five six seven = cond five (cond six (answer 7 seven) 6) 5
+abbrev pub firstNo : Bool → Bool → Bool → ℕ
+firstNo five six seven = cond five (cond six (answer 7 seven) 6) 5
 
 -- each question is put to the whole value before the next is put to any part
 abbrev pub verdict : (f : Format) → Value f → ℕ
-verdict f v = first (ok 5 f v) (ok 6 f v) (ok 7 f v)
+verdict f v = firstNo (ok 5 f v) (ok 6 f v) (ok 7 f v)
 
 -- what the judge answers: the place past the value, and its verdict
 abbrev pub judged : {A : Type 0} → (A → ℕ) → List ℕ → Option (A × List ℕ) → Judge

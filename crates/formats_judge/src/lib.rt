@@ -11,7 +11,7 @@ ghost use Rattle.formats.specs.Number.{zag};
 ghost use Rattle.formats.specs.Readers.{bytesR};
 ghost use Rattle.formats.specs.promises.Outcome.{classOf, formatAt, leafFormat};
 ghost use Rattle.formats_judge.specs.Judged.{atMost, answer, judged, judgeTo};
-ghost use Rattle.formats_judge.specs.promises.Judged.{textAnswer, sooner, judgeMany, after};
+ghost use Rattle.formats_judge.specs.promises.Judged.{textAnswer, sooner, judgeMany, judgedAfter};
 
 // Past a value, and its verdict: 0, or the first question that has the answer no; or no value.
 pub enum Judge {
@@ -192,7 +192,7 @@ pub fn judge_value(t: &[u64], depth: u32, node: u64, s: &[u8], at: usize) -> Jud
 // Past n values of one format, each of a byte or more, after a verdict.
 fn judge_many(t: &[u64], depth: u32, node: u64, n: u64, s: &[u8], at: usize, x: u32) -> Judge
     requires { ⌜ at ≤ length (now s) ⌝ }
-    ensures { λ r. ⌜ r ≡ after x (judgeMany (formatAt depth (now (t .entry)) node) n (now (s .entry)) at) ⌝ }
+    ensures { λ r. ⌜ r ≡ judgedAfter x (judgeMany (formatAt depth (now (t .entry)) node) n (now (s .entry)) at) ⌝ }
 {
     let mut p = at;
     let mut left = n;

@@ -13,7 +13,7 @@ ghost use lib.ListN.{length};
 ghost use Rattle.formats.specs.Class.{Class};
 ghost use Rattle.formats.specs.Format.{Value, number, signed, float, text, optional};
 ghost use Rattle.formats.specs.promises.Outcome.{formatAt};
-ghost use Rattle.formats_write.specs.promises.Given.{given, givenSigned, givenText, Inside};
+ghost use Rattle.formats_write.specs.promises.Given.{givenNumber, givenSigned, givenText, Inside};
 ghost use Rattle.formats_read.specs.promises.Fields.{Has, fieldTo};
 ghost use Rattle.formats_read.specs.promises.Here.{Here, Field};
 ghost use Rattle.formats_read.specs.promises.Lists.{Reaches};
@@ -140,7 +140,7 @@ pub fn text(s: &[u8], at: usize) -> Span
 }
 
 pub fn optional_number(s: &[u8], at: usize) -> OptionalNumber
-    ensures { λ r. ⌜ ((lo hi : ℕ) (v : Value (optional (number lo hi))) (q : ℕ) → Here (optional (number lo hi)) (now (s .entry)) at q v → given r ≡ v) ⌝ }
+    ensures { λ r. ⌜ ((lo hi : ℕ) (v : Value (optional (number lo hi))) (q : ℕ) → Here (optional (number lo hi)) (now (s .entry)) at q v → givenNumber r ≡ v) ⌝ }
 {
     if s.len() <= at {
         return OptionalNumber::Absent;
@@ -164,7 +164,7 @@ pub fn optional_signed(s: &[u8], at: usize) -> OptionalSigned
 }
 
 pub fn optional_float(s: &[u8], at: usize) -> OptionalNumber
-    ensures { λ r. ⌜ ((v : Value (optional float)) (q : ℕ) → Here (optional float) (now (s .entry)) at q v → given r ≡ v) ⌝ }
+    ensures { λ r. ⌜ ((v : Value (optional float)) (q : ℕ) → Here (optional float) (now (s .entry)) at q v → givenNumber r ≡ v) ⌝ }
 {
     if s.len() <= at {
         return OptionalNumber::Absent;

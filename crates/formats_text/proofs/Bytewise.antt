@@ -9,7 +9,8 @@ use lib.ListN.{length, drop, getD, drop-of-length-le}
 use lib.Seq.{drop-cons}
 use lib.Dec.{leb, eqb}
 use borrow.Author.Tests.{le-leb, lt-leb}
-use Rattle.formats.specs.Class.{all, allowed, inClass, sequences}
+use Rattle.formats.specs.Class.{allowed, inClass, sequences}
+use Rattle.basics.specs.Lists.{all}
 use Rattle.formats.specs.promises.Outcome.{classOf}
 
 module _ (c b : ℕ) where

@@ -12,7 +12,7 @@ use lib.ListN.{length, drop, getD, drop-of-length-le}
 use lib.Seq.{drop-cons}
 use lib.Dec.{eqb}
 use borrow.Author.Tests.{le-leb, lt-leb, eqb-true, ne-eqb}
-use Rattle.formats.specs.Class.{Range, rows, due, next, goesOn, sequences}
+use Rattle.formats.specs.Class.{Range, utf8Rows, due, next, goesOn, sequences}
 use Rattle.formats_text.specs.promises.Due.{ranges, dueOf}
 use Rattle.formats_text.specs.declared.Due.{Due}
 use Rattle.formats_text.specs.declared.Due.the-variants.{Bytes, Wrong}
@@ -53,51 +53,51 @@ same-is (some s) (some t) e = ap some (alike-is s t e)
 -- what is due is the same after each of n first bytes from lo on: a test that computes
 abbrev each : Option (List Range) → ℕ → ℕ → Bool
 each x lo zero = true
-each x lo (suc n) = same x (due rows (lo + n)) && each x lo n
+each x lo (suc n) = same x (due utf8Rows (lo + n)) && each x lo n
 
-each-is : (x : Option (List Range)) (lo n b : ℕ) → each x lo n ≡ true → lo ≤ b → b < lo + n → x ≡ due rows b
+each-is : (x : Option (List Range)) (lo n b : ℕ) → each x lo n ≡ true → lo ≤ b → b < lo + n → x ≡ due utf8Rows b
 each-is x lo zero b e l h = absurd (omega arith)
 each-is x lo (suc n) b e l h =
-    let (f, g) = parts (same x (due rows (lo + n))) _ e in
+    let (f, g) = parts (same x (due utf8Rows (lo + n))) _ e in
     let m : b ≤ lo + n = omega arith in
-    ⊎-elim (λ i. rw i (same-is x (due rows (lo + n)) f)) (λ j. each-is x lo n b g l j) (eq-or-lt-of-le m)
+    ⊎-elim (λ i. rw i (same-is x (due utf8Rows (lo + n)) f)) (λ j. each-is x lo n b g l j) (eq-or-lt-of-le m)
 
 module _ (b : ℕ) where
-  pub lead-1 : b < 0x80 → some (ranges 0 0x80 0xBF) ≡ due rows b
+  pub lead-1 : b < 0x80 → some (ranges 0 0x80 0xBF) ≡ due utf8Rows b
   lead-1 h = each-is (some (ranges 0 0x80 0xBF)) 0 0x80 b refl (omega arith) h
 
-  pub lead-trail : 0x80 ≤ b → b < 0xC2 → none ≡ due rows b
+  pub lead-trail : 0x80 ≤ b → b < 0xC2 → none ≡ due utf8Rows b
   lead-trail l h = each-is none 0x80 0x42 b refl l h
 
-  pub lead-2 : 0xC2 ≤ b → b < 0xE0 → some (ranges 1 0x80 0xBF) ≡ due rows b
+  pub lead-2 : 0xC2 ≤ b → b < 0xE0 → some (ranges 1 0x80 0xBF) ≡ due utf8Rows b
   lead-2 l h = each-is (some (ranges 1 0x80 0xBF)) 0xC2 0x1E b refl l h
 
-  pub lead-E0 : b ≡ 0xE0 → some (ranges 2 0xA0 0xBF) ≡ due rows b
+  pub lead-E0 : b ≡ 0xE0 → some (ranges 2 0xA0 0xBF) ≡ due utf8Rows b
   lead-E0 e = rw e refl
 
-  pub lead-E1 : 0xE0 ≤ b → (b ≡ 0xE0 → ⊥) → b < 0xED → some (ranges 2 0x80 0xBF) ≡ due rows b
+  pub lead-E1 : 0xE0 ≤ b → (b ≡ 0xE0 → ⊥) → b < 0xED → some (ranges 2 0x80 0xBF) ≡ due utf8Rows b
   lead-E1 l z h = each-is (some (ranges 2 0x80 0xBF)) 0xE1 0x0C b refl (omega arith) h
 
-  pub lead-ED : b ≡ 0xED → some (ranges 2 0x80 0x9F) ≡ due rows b
+  pub lead-ED : b ≡ 0xED → some (ranges 2 0x80 0x9F) ≡ due utf8Rows b
   lead-ED e = rw e refl
 
-  pub lead-EE : 0xED ≤ b → (b ≡ 0xED → ⊥) → b < 0xF0 → some (ranges 2 0x80 0xBF) ≡ due rows b
+  pub lead-EE : 0xED ≤ b → (b ≡ 0xED → ⊥) → b < 0xF0 → some (ranges 2 0x80 0xBF) ≡ due utf8Rows b
   lead-EE l z h = each-is (some (ranges 2 0x80 0xBF)) 0xEE 2 b refl (omega arith) h
 
-  pub lead-F0 : b ≡ 0xF0 → some (ranges 3 0x90 0xBF) ≡ due rows b
+  pub lead-F0 : b ≡ 0xF0 → some (ranges 3 0x90 0xBF) ≡ due utf8Rows b
   lead-F0 e = rw e refl
 
-  pub lead-F1 : 0xF0 ≤ b → (b ≡ 0xF0 → ⊥) → b < 0xF4 → some (ranges 3 0x80 0xBF) ≡ due rows b
+  pub lead-F1 : 0xF0 ≤ b → (b ≡ 0xF0 → ⊥) → b < 0xF4 → some (ranges 3 0x80 0xBF) ≡ due utf8Rows b
   lead-F1 l z h = each-is (some (ranges 3 0x80 0xBF)) 0xF1 3 b refl (omega arith) h
 
-  pub lead-F4 : b ≡ 0xF4 → some (ranges 3 0x80 0x8F) ≡ due rows b
+  pub lead-F4 : b ≡ 0xF4 → some (ranges 3 0x80 0x8F) ≡ due utf8Rows b
   lead-F4 e = rw e refl
 
-  pub lead-F5 : 0xF4 ≤ b → (b ≡ 0xF4 → ⊥) → b < 0x100 → none ≡ due rows b
+  pub lead-F5 : 0xF4 ≤ b → (b ≡ 0xF4 → ⊥) → b < 0x100 → none ≡ due utf8Rows b
   lead-F5 l z h = each-is none 0xF5 0x0B b refl (omega arith) h
 
 -- a step, by what was due
-pub step-lead : (k lo hi b : ℕ) (x : Option (List Range)) → x ≡ due rows b → k ≡ 0 → x ≡ next (ranges k lo hi) b
+pub step-lead : (k lo hi b : ℕ) (x : Option (List Range)) → x ≡ due utf8Rows b → k ≡ 0 → x ≡ next (ranges k lo hi) b
 step-lead k lo hi b x e z = rw z e
 
 module _ (k lo hi b : ℕ) (z : k ≡ 0 → ⊥) where

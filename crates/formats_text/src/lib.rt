@@ -1,7 +1,8 @@
 // Whether a text is of a class.
 ghost use mathlib.Core.Path.{_≡_};
 ghost use mathlib.Core.List.{[]};
-ghost use Rattle.formats.specs.Class.{all, allowed, due, rows, next, sequences, inClass};
+ghost use Rattle.formats.specs.Class.{allowed, due, utf8Rows, next, sequences, inClass};
+ghost use Rattle.basics.specs.Lists.{all};
 ghost use Rattle.formats.specs.promises.Outcome.{classOf};
 ghost use Rattle.formats_text.specs.promises.Due.{ranges, dueOf};
 
@@ -13,7 +14,7 @@ pub enum Due {
 
 // What is due after a first byte: the rest of its row in the table.
 fn lead(b: u8) -> Due
-    ensures { λ r. ⌜ dueOf r ≡ due rows b ⌝ }
+    ensures { λ r. ⌜ dueOf r ≡ due utf8Rows b ⌝ }
 {
     if b < 0x80 {
         return Due::Bytes(0, 0x80, 0xBF);

@@ -9,7 +9,7 @@ ghost use Rattle.formats.specs.Number.{groupsW, numberW, top, littleW};
 ghost use Rattle.formats.specs.Format.{number, signed, float};
 ghost use Rattle.formats.specs.Number.{zig};
 ghost use Rattle.formats_write.specs.promises.Adds.{Adds};
-ghost use Rattle.formats_write.specs.promises.Given.{optionalW, given, givenSigned, givenText, textW, Inside};
+ghost use Rattle.formats_write.specs.promises.Given.{optionalW, givenNumber, givenSigned, givenText, textW, Inside};
 
 // The next place of an output; or what was to be written does not fit.
 pub enum Put {
@@ -102,43 +102,43 @@ pub fn float(out: &mut [u8], w: Put, bits: u64) -> Put
     little(8, out, w, bits)
 }
 
-// The bytes of s from a up to e: of a value that stands there, its writing.
-pub fn stretch(out: &mut [u8], w: Put, s: &[u8], a: usize, e: usize) -> Put
-    ensures { λ r. ⌜ (a ≤ e → e ≤ length (now (s .entry)) → Adds (now (out .entry)) w (now (out .exit)) r (slice a e (now (s .entry)))) ⌝ }
+// The bytes of s from `from` up to `to`: of a value that stands there, its writing.
+pub fn stretch(out: &mut [u8], w: Put, s: &[u8], from: usize, to: usize) -> Put
+    ensures { λ r. ⌜ (from ≤ to → to ≤ length (now (s .entry)) → Adds (now (out .entry)) w (now (out .exit)) r (slice from to (now (s .entry)))) ⌝ }
 {
     let Put::At(at) = w else {
         return Put::Full;
     };
-    if e < a {
+    if to < from {
         return Put::Full;
     }
-    if s.len() < e {
+    if s.len() < to {
         return Put::Full;
     }
     if out.len() < at {
         return Put::Full;
     }
-    let n = e - a;
+    let n = to - from;
     if out.len() - at < n {
         return Put::Full;
     }
-    slices::copy(out, at, &s[a..e]);
+    slices::copy(out, at, &s[from..to]);
     Put::At(at + n)
 }
 
-// The bytes of s from a up to e, as a text: their number first.
-pub fn text(out: &mut [u8], w: Put, s: &[u8], a: usize, e: usize) -> Put
-    ensures { λ r. ⌜ (a ≤ e → e ≤ length (now (s .entry)) → Adds (now (out .entry)) w (now (out .exit)) r (textW (slice a e (now (s .entry))))) ⌝ }
+// The bytes of s from `from` up to `to`, as a text: their number first.
+pub fn text(out: &mut [u8], w: Put, s: &[u8], from: usize, to: usize) -> Put
+    ensures { λ r. ⌜ (from ≤ to → to ≤ length (now (s .entry)) → Adds (now (out .entry)) w (now (out .exit)) r (textW (slice from to (now (s .entry))))) ⌝ }
 {
-    if e < a {
+    if to < from {
         return Put::Full;
     }
-    let q = number(out, w, (e - a) as u64);
-    stretch(out, q, s, a, e)
+    let q = number(out, w, (to - from) as u64);
+    stretch(out, q, s, from, to)
 }
 
 pub fn optional_number(out: &mut [u8], w: Put, v: OptionalNumber) -> Put
-    ensures { λ r. ⌜ Adds (now (out .entry)) w (now (out .exit)) r (optionalW numberW (given v)) ⌝ }
+    ensures { λ r. ⌜ Adds (now (out .entry)) w (now (out .exit)) r (optionalW numberW (givenNumber v)) ⌝ }
 {
     match v {
         OptionalNumber::Absent => byte(out, w, 0),
@@ -163,7 +163,7 @@ pub fn optional_signed(out: &mut [u8], w: Put, v: OptionalSigned) -> Put
 
 // A float that may be missing, given by its 64 bits.
 pub fn optional_float(out: &mut [u8], w: Put, v: OptionalNumber) -> Put
-    ensures { λ r. ⌜ Adds (now (out .entry)) w (now (out .exit)) r (optionalW (littleW 8) (given v)) ⌝ }
+    ensures { λ r. ⌜ Adds (now (out .entry)) w (now (out .exit)) r (optionalW (littleW 8) (givenNumber v)) ⌝ }
 {
     match v {
         OptionalNumber::Absent => byte(out, w, 0),

@@ -11,7 +11,7 @@ use mir.Syntax.{w32, w64}
 use mir.Val.{SFits, Fits, toZ, ofZ}
 use mir.Facts.{toZ-ofZ}
 use Rattle.formats.specs.Number.{zig, zag}
-use Rattle.integers.specs.promises.Wrapped.{low32, signed32, wrap32}
+use Rattle.basics.specs.Integers.{low32, signed32, wrap32}
 
 flipped : ℤ → ℤ
 flipped (pos n) = negsuc n

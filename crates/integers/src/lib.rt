@@ -5,7 +5,7 @@ ghost use lib.IntN.{pos, negsuc, _+ℤ_, _-ℤ_};
 ghost use lib.Signed.{mag, nonNeg};
 ghost use lib.Dec.{T};
 ghost use Rattle.formats.specs.Number.{zig, zag};
-ghost use Rattle.integers.specs.promises.Wrapped.{low32, signed32, wrap32};
+ghost use Rattle.basics.specs.Integers.{low32, signed32, wrap32};
 
 // -1 - z
 fn flip(z: i64) -> i64

@@ -4,7 +4,8 @@ use mathlib.Core.List.{List}
 use lib.IntN.{ℤ, pos, negsuc}
 use Rattle.formats.specs.Class.{any, utf8}
 use Rattle.formats.specs.Format.{Format, number, signed, small, text, float, constant, list, choice, optional, _&_, Value}
-use Rattle.decode.specs.Trip.{Maybe, id, delay, number32}
+use Rattle.decode.specs.Trip.{id, delay, number32}
+use Rattle.basics.specs.Options.{Maybe}
 
 -- a scheduled time, and any other time of a card
 abbrev pub scheduled : Format

@@ -8,10 +8,11 @@ use lib.IntN.{ℤ, pos, negsuc, _-ℤ_}
 use lib.Dec.{eqb}
 use Rattle.formats.specs.Format.{Value}
 use Rattle.calendar.specs.Paris.{parisDigits}
-use Rattle.decode.specs.Trip.{Maybe, cancelledOf}
-use Rattle.decode.specs.Map.{puts}
-use Rattle.decode.specs.Order.{texts}
-use Rattle.alerts.specs.Lists.{any, filter, isEmpty, join}
+use Rattle.decode.specs.Trip.{cancelledOf}
+use Rattle.basics.specs.Options.{Maybe, givenOr}
+use Rattle.maps.specs.Map.{puts}
+use Rattle.maps.specs.Order.{texts}
+use Rattle.basics.specs.Lists.{any, filter, isEmpty, concatMap}
 use Rattle.alerts.specs.Alert.{Alert}
 use Rattle.alerts.specs.Index.{candidate}
 use Rattle.alerts.specs.Applies.{alert-applies-to-leg-with-mode}
@@ -146,7 +147,7 @@ keys [] = []
 keys (e ∷ l) = e .0 ∷ keys l
 
 unfoldable pub labels-of : Feeds → List Transit → List (List ℕ)
-labels-of B ts = filter (λ x. not (isEmpty x)) (join (λ t. map label (alerts-of B t)) ts)
+labels-of B ts = filter (λ x. not (isEmpty x)) (concatMap (λ t. map label (alerts-of B t)) ts)
 
 unfoldable pub headers-of : Feeds → List Transit → List (List ℕ)
 headers-of B ts = keys (puts texts (map {B = List ℕ × Unit {0}} (λ x. (x, tt)) (labels-of B ts)) [])
@@ -161,17 +162,13 @@ lastArrival [] = inl tt
 lastArrival (t ∷ []) = t .realtimeArrival
 lastArrival (t ∷ u ∷ ts) = lastArrival (u ∷ ts)
 
-abbrev pub given : ℤ → Maybe ℤ → ℤ
-given old (inl x) = old
-given old (inr z) = z
-
 -- THE FINISHED CARD
 unfoldable pub enrich-with-realtime : Feeds → Card → Card
 enrich-with-realtime B c =
     let arrived = transits (c .legs) in
     let legs = map (enrichLeg B) (c .legs) in
-    let departure = given (c .departure) (firstDeparture (transits legs)) in
-    let arrival = given (c .arrival) (lastArrival (transits legs)) in
+    let departure = givenOr (c .departure) (firstDeparture (transits legs)) in
+    let arrival = givenOr (c .arrival) (lastArrival (transits legs)) in
     record {
       departure = departure;
       arrival = arrival;

@@ -1,32 +1,27 @@
 -- Believe: 01, Times and status. Times: what a trip's record makes of a scheduled event.
-use Prim.Native.Nat.{ℕ, suc, _-_, _^_, _%_}
+use Prim.Native.Nat.{ℕ}
 use mathlib.Core.Bool.{Bool, true, false}
 use mathlib.Core.List.{List}
 use mathlib.Core.Logic.{inl, inr}
 use mathlib.Core.Option.{Option, none, some}
-use lib.IntN.{ℤ, pos, negsuc, _+ℤ_, _-ℤ_}
+use lib.IntN.{ℤ, pos, _+ℤ_, _-ℤ_}
 use lib.Dec.{eqb}
-use Rattle.realtime_views.specs.Typed.{int32}
-use Rattle.decode.specs.Trip.{Maybe, StopUpdate, Trip, arrivalDelayOf, arrivalTimeOf, departureDelayOf, departureTimeOf, delayOf, cancelledOf}
-use Rattle.overlay.specs.Change.{latest}
+use Rattle.decode.specs.Trip.{StopUpdate, Trip, arrivalDelayOf, arrivalTimeOf, departureDelayOf, departureTimeOf, delayOf, cancelledOf}
+use Rattle.basics.specs.Options.{Maybe, orOther}
 use Rattle.overlay.specs.Lookup.{Found, find-stop-update}
-
--- the low 32 bits of a signed number, read as a signed number
-abbrev pub wrap32 : ℤ → ℤ
-wrap32 (pos n) = int32 n
-wrap32 (negsuc n) = int32 (2 ^ 32 - suc (n % 2 ^ 32))
+use Rattle.basics.specs.Integers.{wrap32}
 
 pub data Event : Type 0 where
   arrival departure : Event
 
 -- of an update: the event's own time and delay, else the other event's
-abbrev pub timeOf : Event → StopUpdate → Maybe ℤ
-timeOf arrival u = latest (arrivalTimeOf u) (departureTimeOf u)
-timeOf departure u = latest (departureTimeOf u) (arrivalTimeOf u)
+abbrev pub eventTime : Event → StopUpdate → Maybe ℤ
+eventTime arrival u = orOther (arrivalTimeOf u) (departureTimeOf u)
+eventTime departure u = orOther (departureTimeOf u) (arrivalTimeOf u)
 
-abbrev pub delayAt : Event → StopUpdate → Maybe ℤ
-delayAt arrival u = latest (arrivalDelayOf u) (departureDelayOf u)
-delayAt departure u = latest (departureDelayOf u) (arrivalDelayOf u)
+abbrev pub eventDelay : Event → StopUpdate → Maybe ℤ
+eventDelay arrival u = orOther (arrivalDelayOf u) (departureDelayOf u)
+eventDelay departure u = orOther (departureDelayOf u) (arrivalDelayOf u)
 
 -- the event's time and delay, and whether it has realtime
 pub record StopRealtime : Type 0 where
@@ -47,7 +42,7 @@ timed at (inr t) r = record { time = t; delay = wrap32 (t -ℤ at); has = true }
 -- by the update that was found: its delay before the trip's
 abbrev pub updated : Event → ℤ → Trip → Option StopUpdate → StopRealtime
 updated e at t none = delayed at (eqb (cancelledOf t) 1) (delayOf t)
-updated e at t (some u) = timed at (timeOf e u) (delayed at true (latest (delayAt e u) (delayOf t)))
+updated e at t (some u) = timed at (eventTime e u) (delayed at true (orOther (eventDelay e u) (delayOf t)))
 
 -- APPLY_TIME: an event at a stop, by its sequence where one is given, else by the stop id. No record leaves it as scheduled
 unfoldable pub apply-time : Option Found → Event → ℤ → Maybe ℕ → List ℕ → StopRealtime

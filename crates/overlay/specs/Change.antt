@@ -2,15 +2,14 @@
 use Prim.Native.Nat.{ℕ, _+_, _^_, _%_}
 use mathlib.Core.Bool.{cond}
 use mathlib.Core.List.{List, [], _∷_}
-use mathlib.Core.Logic.{inl, inr}
 use mathlib.Core.Option.{Option·getD}
 use lib.IntN.{ℤ, pos, _-ℤ_}
 use lib.ListN.{length}
 use lib.Signed.{ltZ}
 use Rattle.realtime.specs.Tree.{Tree}
-use Rattle.decode.specs.Trip.{Maybe}
-use Rattle.decode.specs.Map.{get, put, puts}
-use Rattle.decode.specs.Order.{texts}
+use Rattle.basics.specs.Options.{orOther}
+use Rattle.maps.specs.Map.{get, put, puts}
+use Rattle.maps.specs.Order.{texts}
 use Rattle.decode.specs.Leaves as leaves
 use Rattle.alerts.specs.Alert.{Alert}
 use Rattle.overlay.specs.State.{Vehicles, Feed, State, timestampOf, countOf, tripsOf, vehiclesOf, alertsOf, updatedOf, versionOf, feedsOf, feedWith, stateWith, noFeed}
@@ -22,16 +21,12 @@ feedAt f s = Option·getD (get texts f (feedsOf s)) noFeed
 unfoldable pub putFeed : List ℕ → Feed → ℕ → State → State
 putFeed f F version s = stateWith version (put texts f F (feedsOf s))
 
-abbrev pub latest : {A : Type 0} → Maybe A → Maybe A → Maybe A
-latest (inl x) old = old
-latest (inr a) old = inr a
-
 -- A MESSAGE: the trips that it leaves, their count, and its timestamp where it has one
 unfoldable pub afterMessage : List ℕ → Tree → State → State
 afterMessage f m s =
     let F = feedAt f s in
     let trips = leaves.leaves f m (tripsOf F) in
-    putFeed f (feedWith (latest (leaves.timestampIn m) (timestampOf F)) (leaves.countOf f trips) trips (vehiclesOf F) (alertsOf F)) (versionOf s) s
+    putFeed f (feedWith (orOther (leaves.timestampIn m) (timestampOf F)) (leaves.countWithoutAt f trips) trips (vehiclesOf F) (alertsOf F)) (versionOf s) s
 
 -- AN ALERT SHEET replaces the alerts
 unfoldable pub afterAlerts : List ℕ → List Alert → State → State

@@ -5,7 +5,7 @@ use mathlib.Core.List.{List, _++_}
 use mathlib.Core.Option.{Option, none, some}
 use lib.Dec.{eqb, leb}
 use lib.ListN.{length, replicate}
-use Rattle.formats.specs.Class.{all}
+use Rattle.basics.specs.Lists.{all}
 use Rattle.formats.specs.Format.{read, write}
 use Rattle.overlay.specs.State.{State, overlay}
 use Rattle.overlay.specs.Valid.{valid}
@@ -22,10 +22,10 @@ unfoldable pub room : ℕ → State → Bool
 room n s = leb (length (write overlay s)) n
 
 -- what is read from a buffer, where zeros alone follow and it is valid
-abbrev pub accepted : Option (State × List ℕ) → Option State
-accepted none = none
-accepted (some p) = cond (all (eqb 0) (p .1) && valid (p .0)) (some (p .0)) none
+abbrev pub heldState : Option (State × List ℕ) → Option State
+heldState none = none
+heldState (some p) = cond (all (eqb 0) (p .1) && valid (p .0)) (some (p .0)) none
 
 -- THE STATE OF A BUFFER: none where the buffer is no overlay
 unfoldable pub stateOf : List ℕ → Option State
-stateOf b = accepted (read overlay b)
+stateOf b = heldState (read overlay b)

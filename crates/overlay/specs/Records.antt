@@ -3,8 +3,8 @@
 use Prim.Native.Nat.{ℕ}
 use mathlib.Core.List.{List}
 use mathlib.Core.Option.{Option, Option·map}
-use Rattle.decode.specs.Map.{get}
-use Rattle.decode.specs.Order.{texts}
+use Rattle.maps.specs.Map.{get}
+use Rattle.maps.specs.Order.{texts}
 use Rattle.decode.specs.Leaves.{Trips}
 use Rattle.alerts.specs.Alert.{Alert}
 use Rattle.overlay.specs.State.{Vehicles, Feed, State, tripsOf, vehiclesOf, alertsOf, feedsOf}

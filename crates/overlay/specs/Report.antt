@@ -6,7 +6,7 @@ use mathlib.Core.List.{List, _∷_, _++_}
 use mathlib.Core.Logic.{inl, inr}
 use lib.IntN.{ℤ, pos, negsuc}
 use Rattle.formats.specs.Number.{littleW}
-use Rattle.decode.specs.Trip.{Maybe}
+use Rattle.basics.specs.Options.{Maybe}
 use Rattle.overlay.specs.State.{State, versionOf, timestampOf, countOf}
 use Rattle.overlay.specs.Change.{feedAt}
 

@@ -7,7 +7,8 @@ use mathlib.Core.Logic.{inl}
 use lib.IntN.{ℤ, pos, negsuc}
 use Rattle.formats.specs.Class.{token}
 use Rattle.formats.specs.Format.{Format, number, signed, text, float, constant, list, optional, _&_, Value}
-use Rattle.decode.specs.Trip.{Maybe, id, instant, tripEntry}
+use Rattle.decode.specs.Trip.{id, instant, tripEntry}
+use Rattle.basics.specs.Options.{Maybe}
 use Rattle.decode.specs.Leaves.{Trips}
 use Rattle.alerts.specs.Alert.{Alert, alert}
 

@@ -5,12 +5,12 @@ use mathlib.Core.Bool.{Bool, _&&_, _||_}
 use mathlib.Core.List.{List}
 use lib.Dec.{eqb}
 use lib.ListN.{length}
-use Rattle.formats.specs.Class.{all}
+use Rattle.basics.specs.Lists.{all}
 use Rattle.formats.specs.Format.{Format, Value}
 use Rattle.formats_judge.specs.Judged.{ok}
 use Rattle.decode.specs.Trip.{Trip, updatesOf}
-use Rattle.decode.specs.Map.{ascending}
-use Rattle.decode.specs.Order.{texts, numbers}
+use Rattle.maps.specs.Map.{ascending}
+use Rattle.maps.specs.Order.{texts, numbers}
 use Rattle.decode.specs.Key.{keyOk}
 use Rattle.decode.specs.Leaves as leaves
 use Rattle.overlay.specs.State.{Feed, State, overlay, tripsOf, vehiclesOf, countOf, feedsOf}
@@ -20,7 +20,7 @@ tripValid f e = keyOk f (e .0) (e .1) && ascending numbers (updatesOf (e .1))
 
 -- the keys without '@', as after a message, or all keys, as after a vehicle sheet
 abbrev pub countValid : List ℕ → Feed → Bool
-countValid f F = eqb (countOf F) (leaves.countOf f (tripsOf F)) || eqb (countOf F) (length (tripsOf F))
+countValid f F = eqb (countOf F) (leaves.countWithoutAt f (tripsOf F)) || eqb (countOf F) (length (tripsOf F))
 
 unfoldable pub feedValid : List ℕ × Feed → Bool
 feedValid (f, F) =

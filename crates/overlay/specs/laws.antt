@@ -1,6 +1,9 @@
-pub mod Rules
 pub mod Buffer
-pub mod Keeps
-pub mod Kept
 pub mod Shown
-pub mod Entries
+pub mod Within
+pub mod EveryEntry
+pub mod StaysValid
+pub mod Entered
+pub mod Table
+pub mod Fills
+pub mod Largest

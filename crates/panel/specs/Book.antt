@@ -11,10 +11,10 @@ use lib.ListN.{replicate}
 use Rattle.formats.specs.Format.{Value, write}
 use Rattle.realtime.specs.Tree.{Tree, tree}
 use Rattle.realtime.specs.Schema.{feedMessage, feed}
-use Rattle.decode.specs.Map.{puts}
-use Rattle.decode.specs.Order.{texts}
+use Rattle.maps.specs.Map.{puts}
+use Rattle.maps.specs.Order.{texts}
 use Rattle.decode.specs.Leaves.{leaves}
-use Rattle.alerts.specs.Text.{same}
+use Rattle.basics.specs.Texts.{same}
 use Rattle.alerts.specs.Alert.{Alert, alertSheet as alertForm}
 use Rattle.overlay.specs.State.{Vehicles, vehicleSheet as vehicleForm}
 use Rattle.overlay.specs.Image.{filled}
@@ -23,7 +23,7 @@ use Rattle.overlay.specs.Change.{withoutStale}
 use Rattle.journey.specs.Card.{card as cardForm, cardOf, cardValue}
 use Rattle.journey.specs.Enrich.{enrich-with-realtime}
 use Rattle.panel.specs.Questions.{Lengths, whole}
-use Rattle.panel.specs.Calls.{Call, fresh, message, alertSheet, vehicleSheet, card, report, Gave, outOf, run, numbers}
+use Rattle.panel.specs.Calls.{Call, fresh, message, alertSheet, vehicleSheet, card, report, Gave, outOf, run, numbersGiven}
 
 -- each feed has trip records by key, vehicles by key, and alerts; at first there is no feed
 abbrev pub Book : Type 0
@@ -116,4 +116,4 @@ seenAll (c ∷ cs) (g ∷ gs) = seen c g ∷ seenAll cs gs
 
 -- THE CLAIM of the history over a list of calls, from the overlay `old` and the book bk on: one equation
 abbrev pub History : Lengths → List ℕ → Book → List Call → Type 0
-History L old bk cs = seenAll cs (run L old cs) ≡ saidAll bk cs (numbers (run L old cs))
+History L old bk cs = seenAll cs (run L old cs) ≡ saidAll bk cs (numbersGiven (run L old cs))

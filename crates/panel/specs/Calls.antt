@@ -66,8 +66,8 @@ writes (vehicleSheet f sheet clock new work) = true
 writes (card bytes out work) = false
 writes (report f out) = false
 
-abbrev pub after : List ℕ → Call → Gave → List ℕ
-after old c g = cond (writes c) (cond (eqb (g .number) 0) (g .out) old) old
+abbrev pub overlayAfter : List ℕ → Call → Gave → List ℕ
+overlayAfter old c g = cond (writes c) (cond (eqb (g .number) 0) (g .out) old) old
 
 -- what a fresh call writes
 abbrev pub freshOverlay : Lengths → List ℕ
@@ -75,7 +75,7 @@ freshOverlay L = gives L [] (fresh (L .overlay)) .out
 
 unfoldable pub run : Lengths → List ℕ → List Call → List Gave
 run L old [] = []
-run L old (c ∷ cs) = gives L old c ∷ run L (after old c (gives L old c)) cs
+run L old (c ∷ cs) = gives L old c ∷ run L (overlayAfter old c (gives L old c)) cs
 
-abbrev pub numbers : List Gave → List ℕ
-numbers gs = map (λ g. g .number) gs
+abbrev pub numbersGiven : List Gave → List ℕ
+numbersGiven gs = map (λ g. g .number) gs

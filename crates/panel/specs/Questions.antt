@@ -14,9 +14,9 @@ use Rattle.realtime.specs.Tree.{Tree, tree}
 use Rattle.realtime.specs.Schema.{feedMessage, feed}
 use Rattle.realtime.specs.Judge.{rules, textsFine, numbersFine}
 use Rattle.decode.specs.Trip.{instant}
-use Rattle.decode.specs.Map.{ascending}
-use Rattle.decode.specs.Order.{texts}
-use Rattle.alerts.specs.Text.{same}
+use Rattle.maps.specs.Map.{ascending}
+use Rattle.maps.specs.Order.{texts}
+use Rattle.basics.specs.Texts.{same}
 use Rattle.alerts.specs.Alert.{alertSheet}
 use Rattle.overlay.specs.State.{State, overlay, vehicleSheet, noState}
 use Rattle.overlay.specs.Image.{room, stateOf}
@@ -38,8 +38,8 @@ pub record Lengths : Type 0 where
   pub cardWork : List ℕ
 
 -- those of the overlay and the card, with the working buffers' that the code has
-abbrev pub published : List ℕ → List ℕ → List ℕ → List ℕ → Lengths
-published message alert vehicle card = record {
+abbrev pub publishedLengths : List ℕ → List ℕ → List ℕ → List ℕ → Lengths
+publishedLengths message alert vehicle card = record {
   overlay = buffer.published;
   card = 65536;
   messageWork = message;
@@ -49,13 +49,13 @@ published message alert vehicle card = record {
 }
 
 -- a value that ends at the last byte
-abbrev pub ended : {A : Type 0} → Option (A × List ℕ) → Option A
-ended none = none
-ended (some (v, [])) = some v
-ended (some (v, b ∷ s)) = none
+abbrev pub endedOnly : {A : Type 0} → Option (A × List ℕ) → Option A
+endedOnly none = none
+endedOnly (some (v, [])) = some v
+endedOnly (some (v, b ∷ s)) = none
 
 unfoldable pub whole : (f : Format) → List ℕ → Option (Value f)
-whole f s = ended (read f s)
+whole f s = endedOnly (read f s)
 
 abbrev pub feedOk : List ℕ → Bool
 feedOk f = ok 5 (text 16 token) f
@@ -69,49 +69,49 @@ abbrev pub opened : Lengths → List ℕ → ℕ → ℕ → List ℕ → List �
 opened L old out due work workDue k = need (lengthsOk L old out due work workDue) 1 (needSome (stateOf old) 2 k)
 
 -- question 7 of a changed state, which has to have room in n bytes. At the published length there always is room (`kept-room`)
-abbrev pub changed : ℕ → State → Outcome
-changed n s = need (ok 7 overlay s && room n s) 7 (accepted (write overlay s))
+abbrev pub changedState : ℕ → State → Outcome
+changedState n s = need (ok 7 overlay s && room n s) 7 (accepted (write overlay s))
 
 unfoldable pub freshOf : Lengths → ℕ → Outcome
 freshOf L new = need (eqb new (L .overlay)) 1 (accepted (write overlay noState))
 
-unfoldable pub treeOf : Lengths → List ℕ → State → Tree → Outcome
-treeOf L f s t = need (feedOk f && textsFine rules feedMessage t) 5 (need (numbersFine rules feedMessage t) 6 (changed (L .overlay) (afterMessage f t s)))
+unfoldable pub treeOutcome : Lengths → List ℕ → State → Tree → Outcome
+treeOutcome L f s t = need (feedOk f && textsFine rules feedMessage t) 5 (need (numbersFine rules feedMessage t) 6 (changedState (L .overlay) (afterMessage f t s)))
 
 unfoldable pub messageOf : Lengths → List ℕ → List ℕ → List ℕ → ℕ → List ℕ → Outcome
 messageOf L old f m new work =
     opened L old new (L .overlay) work (L .messageWork) (λ s.
-    need (leb (length m) 1048576) 3 (needSome (tree feed feedMessage m) 4 (treeOf L f s)))
+    need (leb (length m) 1048576) 3 (needSome (tree feed feedMessage m) 4 (treeOutcome L f s)))
 
-unfoldable pub alertsOf : Lengths → List ℕ → State → Value alertSheet → Outcome
-alertsOf L f s v = need (feedOk f && ok 5 alertSheet v) 5 (changed (L .overlay) (afterAlerts f (v .1) s))
+unfoldable pub alertsOutcome : Lengths → List ℕ → State → Value alertSheet → Outcome
+alertsOutcome L f s v = need (feedOk f && ok 5 alertSheet v) 5 (changedState (L .overlay) (afterAlerts f (v .1) s))
 
 unfoldable pub alertSheetOf : Lengths → List ℕ → List ℕ → List ℕ → ℕ → List ℕ → Outcome
 alertSheetOf L old f sheet new work =
     opened L old new (L .overlay) work (L .alertWork) (λ s.
-    need (leb (length sheet) 1048576) 3 (needSome (whole alertSheet sheet) 4 (alertsOf L f s)))
+    need (leb (length sheet) 1048576) 3 (needSome (whole alertSheet sheet) 4 (alertsOutcome L f s)))
 
 -- a vehicle sheet's keys ascend strictly: that is its form
 abbrev pub keysAscend : Option (Value vehicleSheet) → Option (Value vehicleSheet)
 keysAscend none = none
 keysAscend (some v) = cond (ascending texts (v .1)) (some v) none
 
-unfoldable pub vehiclesOf : Lengths → List ℕ → ℤ → State → Value vehicleSheet → Outcome
-vehiclesOf L f clock s v =
+unfoldable pub vehiclesOutcome : Lengths → List ℕ → ℤ → State → Value vehicleSheet → Outcome
+vehiclesOutcome L f clock s v =
     need (feedOk f && ok 5 vehicleSheet v) 5
-    (need (ok 6 vehicleSheet v && ok 6 instant clock) 6 (changed (L .overlay) (afterVehicles f (v .1) clock s)))
+    (need (ok 6 vehicleSheet v && ok 6 instant clock) 6 (changedState (L .overlay) (afterVehicles f (v .1) clock s)))
 
 unfoldable pub vehicleSheetOf : Lengths → List ℕ → List ℕ → List ℕ → ℤ → ℕ → List ℕ → Outcome
 vehicleSheetOf L old f sheet clock new work =
     opened L old new (L .overlay) work (L .vehicleWork) (λ s.
-    need (leb (length sheet) 1048576) 3 (needSome (keysAscend (whole vehicleSheet sheet)) 4 (vehiclesOf L f clock s)))
+    need (leb (length sheet) 1048576) 3 (needSome (keysAscend (whole vehicleSheet sheet)) 4 (vehiclesOutcome L f clock s)))
 
 -- the finished card of an arriving one, by what the state shows
 unfoldable pub finished : State → Value card → Value card
 finished s v = cardValue (enrich-with-realtime (shown s) (cardOf v))
 
-unfoldable pub arrivingOf : Lengths → State → Value card → Outcome
-arrivingOf L s v =
+unfoldable pub arrivingOutcome : Lengths → State → Value card → Outcome
+arrivingOutcome L s v =
     need (ok 5 card v) 5
     (need (ok 6 card v) 6
     (need (ok 7 card v && ok 7 card (finished s v)) 7
@@ -120,7 +120,7 @@ arrivingOf L s v =
 unfoldable pub cardCallOf : Lengths → List ℕ → List ℕ → ℕ → List ℕ → Outcome
 cardCallOf L old bytes out work =
     opened L old out (L .card) work (L .cardWork) (λ s.
-    need (leb (length bytes) 65536) 3 (needSome (whole card bytes) 4 (arrivingOf L s)))
+    need (leb (length bytes) 65536) 3 (needSome (whole card bytes) 4 (arrivingOutcome L s)))
 
 unfoldable pub reportOf : Lengths → List ℕ → List ℕ → ℕ → Outcome
 reportOf L old f out = opened L old out 25 [] [] (λ s. need (feedOk f) 5 (accepted (report.report f s)))

@@ -21,7 +21,7 @@ use Rattle.journey.specs.Card.{Transit, Card, transitValue}
 use Rattle.journey.specs.Times as times
 use Rattle.journey.specs.Enrich as enrich
 use Rattle.panel.specs.Questions.{Lengths}
-use Rattle.panel.specs.Calls.{Call, message, card, Gave, freshOverlay, run, numbers}
+use Rattle.panel.specs.Calls.{Call, message, card, Gave, freshOverlay, run, numbersGiven}
 
 -- a row: what is computed, and what document 01 says
 pub record Row : Type 1 where
@@ -32,9 +32,9 @@ pub record Row : Type 1 where
 abbrev pub row : {A : Type 0} → A → A → Row
 row {A} got due = record { of = A; got = got; due = due }
 
-abbrev pub Holds : List Row → Type 0
-Holds [] = Unit {0}
-Holds (r ∷ l) = (r .got ≡ r .due) × Holds l
+abbrev pub AllHold : List Row → Type 0
+AllHold [] = Unit {0}
+AllHold (r ∷ l) = (r .got ≡ r .due) × AllHold l
 
 -- ---- what the rows speak of
 
@@ -129,6 +129,6 @@ table =
     ∷ row (lookup.get-trip (text "f") (text "f:1@20260101") trips) (lookup.trip-at (text "f") (text "f:1") trips)
     ∷ row (enrich.enrich-with-realtime alerted arriving .headers) []
     ∷ row (enrich.enrich-with-realtime alerted arriving .status) 2
-    ∷ row (numbers (run small (freshOverlay small) (groups 16 ∷ groups 17 ∷ []))) (0 ∷ 4 ∷ [])
+    ∷ row (numbersGiven (run small (freshOverlay small) (groups 16 ∷ groups 17 ∷ []))) (0 ∷ 4 ∷ [])
     ∷ row (map keysFit (2048 ∷ 2049 ∷ [])) (true ∷ false ∷ [])
     ∷ []

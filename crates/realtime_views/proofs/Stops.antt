@@ -8,7 +8,7 @@ use native.Mathlib.Omega.{arith}
 use lib.ListN.{length, take, drop, length-take}
 use borrow.Author.Tests.{eq-eqb, ne-eqb}
 use Rattle.realtime.specs.Tree.{aNumber, aText, aMessage, Schema}
-use Rattle.realtime.specs.Schema.{rows, feed, stopTimeUpdate, stopTimeEvent}
+use Rattle.realtime.specs.Schema.{fieldRows, feed, stopTimeUpdate, stopTimeEvent}
 use Rattle.realtime.specs.promises.Steps.{Lies, Stepped}
 use Rattle.realtime.specs.declared.Step.{Step}
 use Rattle.realtime_views.specs.promises.Fold.{inside}
@@ -44,34 +44,34 @@ pub clash : (t f k : ℕ) → feed t f ≡ some aNumber → feed t k ≡ some aT
 clash t f k p q e = let r : some aNumber ≡ some aText = sym p ∙ ap (feed t) e ∙ q in let z : _≡_ {A = ℕ} 0 1 = cc in omega arith
 
 sequence-number : (f : ℕ) → feed stopTimeUpdate f ≡ some aText → f ≡ 1 → ⊥
-unfolding feed rows
+unfolding feed fieldRows
 sequence-number f p e = clash stopTimeUpdate 1 f refl p (sym e)
 
 stop-text : (f : ℕ) → feed stopTimeUpdate f ≡ some aNumber → f ≡ 4 → ⊥
-unfolding feed rows
+unfolding feed fieldRows
 stop-text f p e = clash stopTimeUpdate f 4 p refl e
 
 relationship-number : (f : ℕ) → feed stopTimeUpdate f ≡ some aText → f ≡ 5 → ⊥
-unfolding feed rows
+unfolding feed fieldRows
 relationship-number f p e = clash stopTimeUpdate 5 f refl p (sym e)
 
 delay-number : (f : ℕ) → feed stopTimeEvent f ≡ some aText → f ≡ 1 → ⊥
-unfolding feed rows
+unfolding feed fieldRows
 delay-number f p e = clash stopTimeEvent 1 f refl p (sym e)
 
 time-number : (f : ℕ) → feed stopTimeEvent f ≡ some aText → f ≡ 2 → ⊥
-unfolding feed rows
+unfolding feed fieldRows
 time-number f p e = clash stopTimeEvent 2 f refl p (sym e)
 
 typed : (f u k v : ℕ) → feed stopTimeUpdate f ≡ some (aMessage u) → feed stopTimeUpdate k ≡ some (aMessage v) → f ≡ k → u ≡ v
 typed f u k v p q e = let r : some (aMessage u) ≡ some (aMessage v) = sym p ∙ ap (feed stopTimeUpdate) e ∙ q in cc
 
 arrival-event : (f u : ℕ) → feed stopTimeUpdate f ≡ some (aMessage u) → f ≡ 2 → u ≡ stopTimeEvent
-unfolding feed rows
+unfolding feed fieldRows
 arrival-event f u p e = typed f u 2 stopTimeEvent p refl e
 
 departure-event : (f u : ℕ) → feed stopTimeUpdate f ≡ some (aMessage u) → f ≡ 3 → u ≡ stopTimeEvent
-unfolding feed rows
+unfolding feed fieldRows
 departure-event f u p e = typed f u 3 stopTimeEvent p refl e
 
 -- the loop over an event, over b

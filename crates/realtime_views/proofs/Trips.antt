@@ -5,7 +5,7 @@ use mathlib.Core.List.{List, [], _∷_}
 use mathlib.Core.Option.{some}
 use lib.ListN.{length, take}
 use Rattle.realtime.specs.Tree.{aMessage}
-use Rattle.realtime.specs.Schema.{rows, feed, feedEntity, tripUpdate}
+use Rattle.realtime.specs.Schema.{fieldRows, feed, feedEntity, tripUpdate}
 use Rattle.realtime.specs.promises.Steps.{Stepped}
 use Rattle.realtime.specs.declared.Step.{Step}
 use Rattle.realtime_views.specs.promises.Reading.{Reads}
@@ -55,7 +55,7 @@ entities-start {s} {from} h e g = record {
 }
 
 update-type : (f v : ℕ) → feed feedEntity f ≡ some (aMessage v) → f ≡ 3 → v ≡ tripUpdate
-unfolding feed rows
+unfolding feed fieldRows
 update-type f v p e = let r : some (aMessage v) ≡ some (aMessage tripUpdate) = sym p ∙ ap (feed feedEntity) e in cc
 
 module _ {s : List ℕ} {from at : ℕ} {d : TripScalars} (R : Entities s from at d) where

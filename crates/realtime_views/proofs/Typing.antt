@@ -3,14 +3,13 @@ use Prim.Native.Nat.{ℕ, _+_, _≤_}
 use mathlib.Core.Path.{_≡_, refl, sym, ap, subst, _∙_}
 use mathlib.Core.List.{List, [], _∷_}
 use mathlib.Core.Bool.{Bool, true, false, cond}
-use mathlib.Core.Option.{Option, none, some}
+use mathlib.Core.Option.{Option, none, some, Option·map}
 use native.Mathlib.Omega.{arith}
 use lib.Dec.{eqb}
 use lib.ListN.{length, take, drop, length-take}
 use lib.Seq.{take-length}
-use Rattle.wire.specs.Wire.{mapO}
 use Rattle.realtime.specs.Tree.{aNumber, Schema, Tree, Leaf, count, words, last, sub, tree}
-use Rattle.realtime.specs.Schema.{rows, feed, feedMessage, feedEntity, stopTimeUpdate}
+use Rattle.realtime.specs.Schema.{fieldRows, feed, feedMessage, feedEntity, stopTimeUpdate}
 use Rattle.realtime_views.specs.laws.Fold.{inside-sub}
 use Rattle.realtime_views.specs.promises.Fold.{Takes, folded, inside}
 use Rattle.realtime_views.specs.laws.Reading.{front-rest}
@@ -18,8 +17,9 @@ use Rattle.realtime_views.specs.promises.Reading.{Lens, Reads}
 use Rattle.realtime_views.specs.laws.Scalars.{Lasting}
 use Rattle.realtime_views.specs.promises.Scalars.{one, two, three, four, five, six, said, Lying}
 use Rattle.realtime_views.specs.laws.Numbers.{leaf, taking-last}
-use Rattle.realtime_views.specs.promises.Numbers.{orZeroAt, textAt, numberAt, taking, plain, spans, valueOf, noNumber, noSpan, fromEvent, EventsRead, NumberReady, NumberReads, StopReads}
-use Rattle.realtime_views.specs.Typed.{uint32, int32, int64, bool, enum, number, text, given, orZero}
+use Rattle.realtime_views.specs.promises.Numbers.{orZeroAt, singleText, singleNumber, taking, plain, spans, valueOf, noNumber, noSpan, fromEvent, EventsRead, NumberReady, NumberReads, StopReads}
+use Rattle.realtime_views.specs.Typed.{uint32, int32, int64, bool, enum, numberIn, textIn, orZero}
+use Rattle.basics.specs.Options.{someAnd}
 use Rattle.realtime_views.specs.promises.Narrow.{toSpan, toTimestamp, toDirection, toDelay, isValue, toHeader, toTrip}
 use Rattle.realtime_views.specs.Views.{event}
 use Rattle.realtime_views.specs.promises.Views.{spanIn, viewTimestamp, viewDirection, viewDelay, viewTime, viewEvent, SpanInside, HeaderRead, DeletedRead, TripRead, StopRead, SequenceRead}
@@ -36,27 +36,27 @@ use Rattle.realtime_views.specs.declared.StopUpdate.{StopUpdate}
 
 -- of one scalar
 module _ (s : List ℕ) where
-  span-says : (x : Scalar) → spanIn s (toSpan x) ≡ text (said s x)
+  span-says : (x : Scalar) → spanIn s (toSpan x) ≡ textIn (said s x)
   span-says (Scalar.Number n) = refl
   span-says (Scalar.Text i l) = refl
   span-says Scalar.Nothing = refl
 
-  timestamp-says : (x : Scalar) → viewTimestamp (toTimestamp x) ≡ number (said s x)
+  timestamp-says : (x : Scalar) → viewTimestamp (toTimestamp x) ≡ numberIn (said s x)
   timestamp-says (Scalar.Number n) = refl
   timestamp-says (Scalar.Text i l) = refl
   timestamp-says Scalar.Nothing = refl
 
-  direction-says : (x : Scalar) → viewDirection (toDirection x) ≡ mapO uint32 (number (said s x))
+  direction-says : (x : Scalar) → viewDirection (toDirection x) ≡ Option·map uint32 (numberIn (said s x))
   direction-says (Scalar.Number n) = refl
   direction-says (Scalar.Text i l) = refl
   direction-says Scalar.Nothing = refl
 
-  delay-says : (x : Scalar) → viewDelay (toDelay x) ≡ mapO int32 (number (said s x))
+  delay-says : (x : Scalar) → viewDelay (toDelay x) ≡ Option·map int32 (numberIn (said s x))
   delay-says (Scalar.Number n) = refl
   delay-says (Scalar.Text i l) = refl
   delay-says Scalar.Nothing = refl
 
-  value-says : (v : ℕ) (x : Scalar) → isValue v x ≡ given (λ n. eqb (enum n) v) (number (said s x))
+  value-says : (v : ℕ) (x : Scalar) → isValue v x ≡ someAnd (λ n. eqb (enum n) v) (numberIn (said s x))
   value-says v (Scalar.Number n) = refl
   value-says v (Scalar.Text i l) = refl
   value-says v Scalar.Nothing = refl
@@ -72,8 +72,8 @@ header-read {σ} {s} {h} {r} L e = subst (HeaderRead σ s) (sym e) (record {
   of = λ m q.
       let p = L .of m (ap (tree σ feedMessage) (take-length s) ∙ q) in
       λ j. record {
-        differential = (value-says s 1 (h .f2) ∙ ap (λ o. given (λ n. eqb (enum n) 1) (number o)) (p two)) j;
-        timestamp = (timestamp-says s (h .f3) ∙ ap number (p three)) j;
+        differential = (value-says s 1 (h .f2) ∙ ap (λ o. someAnd (λ n. eqb (enum n) 1) (numberIn o)) (p two)) j;
+        timestamp = (timestamp-says s (h .f3) ∙ ap numberIn (p three)) j;
       };
 })
 
@@ -83,13 +83,13 @@ trip-read {σ} {s} {i} {l} {d} {u} {r} L U e = subst (TripRead σ s i l) (sym e)
   of = λ m q.
       let p = L .of m q in
       λ j. record {
-        id = (span-says s (d .f1) ∙ ap text (p one)) j;
-        time = (span-says s (d .f2) ∙ ap text (p two)) j;
-        date = (span-says s (d .f3) ∙ ap text (p three)) j;
-        route = (span-says s (d .f5) ∙ ap text (p five)) j;
-        cancelled = (value-says s 3 (d .f4) ∙ ap (λ o. given (λ n. eqb (enum n) 3) (number o)) (p four)) j;
-        direction = (direction-says s (d .f6) ∙ ap (λ o. mapO uint32 (number o)) (p six)) j;
-        delay = (delay-says s (u .f5) ∙ ap (λ o. mapO int32 (number o)) (U .of m q five)) j;
+        id = (span-says s (d .f1) ∙ ap textIn (p one)) j;
+        time = (span-says s (d .f2) ∙ ap textIn (p two)) j;
+        date = (span-says s (d .f3) ∙ ap textIn (p three)) j;
+        route = (span-says s (d .f5) ∙ ap textIn (p five)) j;
+        cancelled = (value-says s 3 (d .f4) ∙ ap (λ o. someAnd (λ n. eqb (enum n) 3) (numberIn o)) (p four)) j;
+        direction = (direction-says s (d .f6) ∙ ap (λ o. Option·map uint32 (numberIn o)) (p six)) j;
+        delay = (delay-says s (u .f5) ∙ ap (λ o. Option·map int32 (numberIn o)) (U .of m q five)) j;
       };
   id = span-inside (length s) (d .f1) (L .within one);
   time = span-inside (length s) (d .f2) (L .within two);
@@ -110,49 +110,49 @@ module _ {D B : Type 0} {L : Lens D B} {φ : Takes B} {t : ℕ} (s : List ℕ) {
       sym (ap (λ y. L .look y r) e ∙ L .front s (i + l) r h room) ∙ Q .made .of m (ap (tree feed t) (ap (drop i) e ∙ front-rest s (i + l) i l refl h) ∙ q)
 
 -- of the numbers and the text of a stop_time_update
-leaf-zero : (k : ℕ) (o : Option Leaf) → leaf (orZeroAt k) 0 o ≡ orZero (number o)
+leaf-zero : (k : ℕ) (o : Option Leaf) → leaf (orZeroAt k) 0 o ≡ orZero (numberIn o)
 leaf-zero k none = refl
 leaf-zero k (some (count n)) = refl
 leaf-zero k (some (words x)) = refl
 
-leaf-text : (k : ℕ) (o : Option Leaf) → leaf (textAt k) [] o ≡ text o
+leaf-text : (k : ℕ) (o : Option Leaf) → leaf (singleText k) [] o ≡ textIn o
 leaf-text k none = refl
 leaf-text k (some (count n)) = refl
 leaf-text k (some (words x)) = refl
 
-leaf-given : (k : ℕ) (o : Option Leaf) → leaf (numberAt k) none o ≡ number o
+leaf-given : (k : ℕ) (o : Option Leaf) → leaf (singleNumber k) none o ≡ numberIn o
 leaf-given k none = refl
 leaf-given k (some (count n)) = refl
 leaf-given k (some (words x)) = refl
 
-value-given : (o : Option ℕ) → eqb (enum (orZero o)) 1 ≡ given (λ n. eqb (enum n) 1) o
+value-given : (o : Option ℕ) → eqb (enum (orZero o)) 1 ≡ someAnd (λ n. eqb (enum n) 1) o
 value-given none = refl
 value-given (some n) = refl
 
-delay-view : (b : Bool) (n : ℕ) → viewDelay (cond b (Delay.Given (int32 n)) Delay.Absent) ≡ mapO int32 (cond b (some n) none)
+delay-view : (b : Bool) (n : ℕ) → viewDelay (cond b (Delay.Given (int32 n)) Delay.Absent) ≡ Option·map int32 (cond b (some n) none)
 delay-view true n = refl
 delay-view false n = refl
 
-time-view : (b : Bool) (n : ℕ) → viewTime (cond b (Time.Given (int64 n)) Time.Absent) ≡ mapO int64 (cond b (some n) none)
+time-view : (b : Bool) (n : ℕ) → viewTime (cond b (Time.Given (int64 n)) Time.Absent) ≡ Option·map int64 (cond b (some n) none)
 time-view true n = refl
 time-view false n = refl
 
 zero-of : (t k : ℕ) (s : List ℕ) {x : List ℕ} (i l : ℕ) → i + l ≤ length s → x ≡ take (i + l) s → (m : Tree) → tree feed t (take l (drop i s)) ≡ some m → {r : ℕ}
-    → NumberReads x i t k r → r ≡ orZero (number (last k m))
+    → NumberReads x i t k r → r ≡ orZero (numberIn (last k m))
 zero-of t k s i l h e m q Q = made-of s i l h e Q m q ∙ taking-last (orZeroAt k) 0 m ∙ leaf-zero k (last k m)
 
 module _ (s : List ℕ) {x : List ℕ} (i l : ℕ) (h : i + l ≤ length s) (e : x ≡ take (i + l) s) (m : Tree) (q : tree feed stopTimeUpdate (take l (drop i s)) ≡ some m) where
-  text-of : (k : ℕ) {r : Span} → Reads spans (taking (textAt k)) feed stopTimeUpdate x i noSpan r → spanIn s r ≡ text (last k m)
-  text-of k Q = made-of s i l h e Q m q ∙ taking-last (textAt k) [] m ∙ leaf-text k (last k m)
+  text-of : (k : ℕ) {r : Span} → Reads spans (taking (singleText k)) feed stopTimeUpdate x i noSpan r → spanIn s r ≡ textIn (last k m)
+  text-of k Q = made-of s i l h e Q m q ∙ taking-last (singleText k) [] m ∙ leaf-text k (last k m)
 
-  given-of : (j k : ℕ) {r : Number} → Reads (plain valueOf) (inside j (taking (numberAt k))) feed stopTimeUpdate x i noNumber r → valueOf r ≡ number (last k (sub j m))
+  given-of : (j k : ℕ) {r : Number} → Reads (plain valueOf) (inside j (taking (singleNumber k))) feed stopTimeUpdate x i noNumber r → valueOf r ≡ numberIn (last k (sub j m))
   given-of j k Q =
-      made-of s i l h e Q m q ∙ inside-sub j (taking (numberAt k)) none m ∙ taking-last (numberAt k) none (sub j m) ∙ leaf-given k (last k (sub j m))
+      made-of s i l h e Q m q ∙ inside-sub j (taking (singleNumber k)) none m ∙ taking-last (singleNumber k) none (sub j m) ∙ leaf-given k (last k (sub j m))
 
   event-of : (j : ℕ) {r : EventNumbers} → EventsRead j x i r → viewEvent (fromEvent r) ≡ event (sub j m)
   event-of j {r} E = λ z. record {
-    delay = (delay-view (eqb (r .delay .given) 1) (r .delay .value) ∙ ap (mapO int32) (given-of j 1 (E .delay))) z;
-    time = (time-view (eqb (r .time .given) 1) (r .time .value) ∙ ap (mapO int64) (given-of j 2 (E .time))) z;
+    delay = (delay-view (eqb (r .delay .given) 1) (r .delay .value) ∙ ap (Option·map int32) (given-of j 1 (E .delay))) z;
+    time = (time-view (eqb (r .time .given) 1) (r .time .value) ∙ ap (Option·map int64) (given-of j 2 (E .time))) z;
   }
 
 pub stop-read : (s : List ℕ) {x : List ℕ} (i l : ℕ) {r : StopUpdate} → i + l ≤ length s → x ≡ take (i + l) s → StopReads x i r → StopRead feed s i l r
@@ -162,7 +162,7 @@ stop-read s i l h e R = subst (StopRead feed s i l) (sym (R .is)) (record {
     stop = text-of s i l h e m q 4 (R .stop) z;
     arrival = event-of s i l h e m q 2 (R .arrival) z;
     departure = event-of s i l h e m q 3 (R .departure) z;
-    skipped = (ap (λ k. eqb (enum k) 1) (zero-of stopTimeUpdate 5 s i l h e m q (R .relationship)) ∙ value-given (number (last 5 m))) z;
+    skipped = (ap (λ k. eqb (enum k) 1) (zero-of stopTimeUpdate 5 s i l h e m q (R .relationship)) ∙ value-given (numberIn (last 5 m))) z;
   };
   stop = room-far s i l h e (R .stop);
 })
@@ -170,21 +170,21 @@ stop-read s i l h e R = subst (StopRead feed s i l) (sym (R .is)) (record {
 pub sequence-read : (s : List ℕ) {x : List ℕ} (i l : ℕ) {n r : ℕ} → i + l ≤ length s → x ≡ take (i + l) s → NumberReads x i stopTimeUpdate 1 n → r ≡ uint32 n → SequenceRead feed s i l r
 sequence-read s i l h e Q g = record { of = λ m q. g ∙ ap uint32 (zero-of stopTimeUpdate 1 s i l h e m q Q) }
 
-mark-given : (o : Option ℕ) → bool (orZero o) ≡ given bool o
+mark-given : (o : Option ℕ) → bool (orZero o) ≡ someAnd bool o
 mark-given none = refl
 mark-given (some n) = refl
 
 pub deleted-read : (s : List ℕ) {x : List ℕ} (i l : ℕ) {n : ℕ} {r : Bool} → i + l ≤ length s → x ≡ take (i + l) s → NumberReads x i feedEntity 2 n → r ≡ bool n → DeletedRead feed s i l r
-deleted-read s i l h e Q g = record { of = λ m q. g ∙ ap bool (zero-of feedEntity 2 s i l h e m q Q) ∙ mark-given (number (last 2 m)) }
+deleted-read s i l h e Q g = record { of = λ m q. g ∙ ap bool (zero-of feedEntity 2 s i l h e m q Q) ∙ mark-given (numberIn (last 2 m)) }
 
 -- what the two readers of one number ask
 number-ready : (t k : ℕ) (s : List ℕ) {x : List ℕ} (i l : ℕ) → feed t k ≡ some aNumber → i + l ≤ length s → x ≡ take (i + l) s → NumberReady x i t k
 number-ready t k s i l g h e = record { inside = omega (arith, ap length e, length-take (i + l) s); listed = g }
 
 pub deleted-ready : (s : List ℕ) {x : List ℕ} (i l : ℕ) → i + l ≤ length s → x ≡ take (i + l) s → NumberReady x i feedEntity 2
-unfolding feed rows
+unfolding feed fieldRows
 deleted-ready s i l = number-ready feedEntity 2 s i l refl
 
 pub sequence-ready : (s : List ℕ) {x : List ℕ} (i l : ℕ) → i + l ≤ length s → x ≡ take (i + l) s → NumberReady x i stopTimeUpdate 1
-unfolding feed rows
+unfolding feed fieldRows
 sequence-ready s i l = number-ready stopTimeUpdate 1 s i l refl

@@ -3,19 +3,19 @@ use Prim.Native.Nat.{ℕ, _+_, _-_, _≤_}
 use mathlib.Core.Path.{_≡_, refl, sym, ap, _∙_}
 use mathlib.Core.List.{List, _∷_}
 use mathlib.Core.Bool.{Bool, true, false, cond}
-use mathlib.Core.Option.{Option, none, some}
+use mathlib.Core.Option.{Option, none, some, Option·map}
 use native.Mathlib.Omega.{arith}
 use lib.Dec.{eqb}
 use lib.ListN.{length, take, drop, length-take}
 use borrow.Author.Tests.{eq-eqb, ne-eqb, eqb-true, eqb-false}
-use Rattle.wire.specs.Wire.{mapO}
-use Rattle.wire.specs.laws.Fields.{none-some}
-use Rattle.realtime.specs.Tree.{aMessage, Schema, Tree, end, num, txt, msg, bindO, tree, join, sub, rep}
+use Rattle.basics.specs.laws.Options.{none-some}
+use Rattle.realtime.specs.Tree.{aMessage, Schema, Tree, end, num, txt, msg, tree, join, sub, rep}
+use Rattle.basics.specs.Options.{bindO}
 use Rattle.realtime.specs.laws.Steps.{step-is}
 use Rattle.realtime.specs.promises.Steps.{Goes, Stepped}
-use Rattle.realtime.specs.Schema.{rows, feed, feedMessage, feedEntity, tripUpdate}
+use Rattle.realtime.specs.Schema.{fieldRows, feed, feedMessage, feedEntity, tripUpdate}
 use Rattle.realtime_views.specs.laws.Reading.{front-part, front-rest}
-use Rattle.realtime_views.specs.promises.Walks.{leftOf, left, met, Sound, ahead, Walks, typeOf, Yields, NextEntity, NextUpdate}
+use Rattle.realtime_views.specs.promises.Walks.{leftOf, left, met, SoundWalk, ahead, Walks, typeOf, Yields, NextEntity, NextUpdate}
 use Rattle.realtime_views.specs.declared.Met.{Met}
 use Rattle.realtime_views.specs.declared.Walk.{Walk}
 use Rattle.realtime_views.specs.declared.Item.{Item}
@@ -23,31 +23,31 @@ use Rattle.realtime.specs.declared.Step.{Step}
 
 -- what a field in front, inside or outside, does to what is left
 module _ (a k : ℕ) where
-  in-number : (f n : ℕ) (i o : Option Tree) → leftOf a k (mapO (num f n) i) o ≡ leftOf a k i o
+  in-number : (f n : ℕ) (i o : Option Tree) → leftOf a k (Option·map (num f n) i) o ≡ leftOf a k i o
   in-number f n none o = refl
   in-number f n (some m) o = refl
 
-  in-text : (f : ℕ) (x : List ℕ) (i o : Option Tree) → leftOf a k (mapO (txt f x) i) o ≡ leftOf a k i o
+  in-text : (f : ℕ) (x : List ℕ) (i o : Option Tree) → leftOf a k (Option·map (txt f x) i) o ≡ leftOf a k i o
   in-text f x none o = refl
   in-text f x (some m) o = refl
 
-  out-number : (f n : ℕ) (i o : Option Tree) → leftOf a k i (mapO (num f n) o) ≡ leftOf a k i o
+  out-number : (f n : ℕ) (i o : Option Tree) → leftOf a k i (Option·map (num f n) o) ≡ leftOf a k i o
   out-number f n none o = refl
   out-number f n (some m) none = refl
   out-number f n (some m) (some t) = refl
 
-  out-text : (f : ℕ) (x : List ℕ) (i o : Option Tree) → leftOf a k i (mapO (txt f x) o) ≡ leftOf a k i o
+  out-text : (f : ℕ) (x : List ℕ) (i o : Option Tree) → leftOf a k i (Option·map (txt f x) o) ≡ leftOf a k i o
   out-text f x none o = refl
   out-text f x (some m) none = refl
   out-text f x (some m) (some t) = refl
 
-  in-other : (l : List Tree) (f u : ℕ) (p i o : Option Tree) → eqb f k ≡ false → leftOf a k (bindO p (λ m. mapO (msg f u m) i)) o ≡ some l → leftOf a k i o ≡ some l
+  in-other : (l : List Tree) (f u : ℕ) (p i o : Option Tree) → eqb f k ≡ false → leftOf a k (bindO p (λ m. Option·map (msg f u m) i)) o ≡ some l → leftOf a k i o ≡ some l
   in-other l f u none i o h e = none-some e
   in-other l f u (some m) none o h e = none-some e
   in-other l f u (some m) (some n) none h e = none-some e
   in-other l f u (some m) (some n) (some t) h e = sym (ap (λ b. some (cond b (m ∷ rep k (join n (sub a t))) (rep k (join n (sub a t))))) h) ∙ e
 
-  in-found : (l : List Tree) (f u : ℕ) (p i o : Option Tree) → eqb f k ≡ true → leftOf a k (bindO p (λ m. mapO (msg f u m) i)) o ≡ some l
+  in-found : (l : List Tree) (f u : ℕ) (p i o : Option Tree) → eqb f k ≡ true → leftOf a k (bindO p (λ m. Option·map (msg f u m) i)) o ≡ some l
       → (m : Tree) × (r : List Tree) × (l ≡ m ∷ r) × (p ≡ some m) × (leftOf a k i o ≡ some r)
   in-found l f u none i o h e = none-some e
   in-found l f u (some m) none o h e = none-some e
@@ -57,13 +57,13 @@ module _ (a k : ℕ) where
       let q : some (m ∷ r) ≡ some l = sym (ap (λ b. some (cond b (m ∷ r) r)) h) ∙ e in
       (m, r, (cc), refl, refl)
 
-  out-other : (l : List Tree) (f u : ℕ) (p i o : Option Tree) → eqb f a ≡ false → leftOf a k i (bindO p (λ m. mapO (msg f u m) o)) ≡ some l → leftOf a k i o ≡ some l
+  out-other : (l : List Tree) (f u : ℕ) (p i o : Option Tree) → eqb f a ≡ false → leftOf a k i (bindO p (λ m. Option·map (msg f u m) o)) ≡ some l → leftOf a k i o ≡ some l
   out-other l f u p none o h e = none-some e
   out-other l f u none (some n) o h e = none-some e
   out-other l f u (some m) (some n) none h e = none-some e
   out-other l f u (some m) (some n) (some t) h e = sym (ap (λ b. some (rep k (join n (cond b (join m (sub a t)) (sub a t))))) h) ∙ e
 
-  out-found : (l : List Tree) (f u : ℕ) (p o : Option Tree) → eqb f a ≡ true → leftOf a k (some end) (bindO p (λ m. mapO (msg f u m) o)) ≡ some l → leftOf a k p o ≡ some l
+  out-found : (l : List Tree) (f u : ℕ) (p o : Option Tree) → eqb f a ≡ true → leftOf a k (some end) (bindO p (λ m. Option·map (msg f u m) o)) ≡ some l → leftOf a k p o ≡ some l
   out-found l f u none o h e = none-some e
   out-found l f u (some m) none h e = none-some e
   out-found l f u (some m) (some t) h e = sym (ap (λ b. some (rep k (cond b (join m (sub a t)) (sub a t)))) h) ∙ e
@@ -130,10 +130,10 @@ module _ {σ : Schema} {t : ℕ} {s : List ℕ} {at : ℕ} (k : ℕ) where
 -- the loop stands at these places, and what was left at the start is left here
 pub record Leads (σ : Schema) (t a inner k : ℕ) (s : List ℕ) (w : Walk) (outer end at : ℕ) : Type 0 where
   pub of : (l : List Tree) → left σ t a inner k s w ≡ some l → leftOf a k (tree σ inner (drop at (take end s))) (tree σ t (drop outer s)) ≡ some l
-  pub sound : Sound s outer end at
+  pub sound : SoundWalk s outer end at
   pub fewer : length s - outer + (length s - at) ≤ ahead s w
 
-pub leads : {σ : Schema} {t a inner k : ℕ} {s : List ℕ} (w : Walk) → Sound s (w .outer) (w .end) (w .at) → Leads σ t a inner k s w (w .outer) (w .end) (w .at)
+pub leads : {σ : Schema} {t a inner k : ℕ} {s : List ℕ} (w : Walk) → SoundWalk s (w .outer) (w .end) (w .at) → Leads σ t a inner k s w (w .outer) (w .end) (w .at)
 leads w S = record { of = λ l e. e; sound = S; fewer = omega arith }
 
 module _ {σ : Schema} {t a inner k : ℕ} {s : List ℕ} {w : Walk} {outer stop at : ℕ} (L : Leads σ t a inner k s w outer stop at) (x : List ℕ) (X : x ≡ take stop s) where
@@ -239,18 +239,18 @@ module _ {σ : Schema} {t a inner k : ℕ} {s : List ℕ} {w : Walk} {outer stop
     }
 
 -- what the wrappers ask, and the types of their items
-pub entity-walks : {s : List ℕ} {w : Walk} → Sound s (w .outer) (w .end) (w .at) → Walks feed feedMessage 0 feedMessage s w
-unfolding feed rows
+pub entity-walks : {s : List ℕ} {w : Walk} → SoundWalk s (w .outer) (w .end) (w .at) → Walks feed feedMessage 0 feedMessage s w
+unfolding feed fieldRows
 entity-walks S = record { sound = S; opened = λ v e. none-some e }
 
 pub next-entity : {s : List ℕ} {w : Walk} {r : Item} → Yields feed feedMessage 0 feedMessage 2 (typeOf (feed feedMessage 2)) s w r → NextEntity s w r
-unfolding feed rows
+unfolding feed fieldRows
 next-entity Y = Y
 
-pub update-walks : {s : List ℕ} {w : Walk} → Sound s (w .outer) (w .end) (w .at) → Walks feed feedEntity 3 tripUpdate s w
-unfolding feed rows
+pub update-walks : {s : List ℕ} {w : Walk} → SoundWalk s (w .outer) (w .end) (w .at) → Walks feed feedEntity 3 tripUpdate s w
+unfolding feed fieldRows
 update-walks S = record { sound = S; opened = λ v e. cc }
 
 pub next-update : {s : List ℕ} {w : Walk} {r : Item} → Yields feed feedEntity 3 tripUpdate 2 (typeOf (feed tripUpdate 2)) s w r → NextUpdate s w r
-unfolding feed rows
+unfolding feed fieldRows
 next-update Y = Y

@@ -2,7 +2,7 @@
 -- field says.
 use Prim.Native.Nat.{ℕ, _%_}
 use mathlib.Core.List.{List, []}
-use mathlib.Core.Bool.{Bool, false, not}
+use mathlib.Core.Bool.{Bool, not}
 use mathlib.Core.Option.{Option, none, some}
 use lib.Dec.{eqb}
 use lib.IntN.{ℤ}
@@ -29,20 +29,15 @@ abbrev pub enum : ℕ → ℕ
 enum n = uint32 n
 
 -- the number of a scalar, or none; the bytes of a text, none where it is absent
-abbrev pub number : Option Leaf → Option ℕ
-number none = none
-number (some (count n)) = some n
-number (some (words x)) = none
+abbrev pub numberIn : Option Leaf → Option ℕ
+numberIn none = none
+numberIn (some (count n)) = some n
+numberIn (some (words x)) = none
 
-abbrev pub text : Option Leaf → List ℕ
-text none = []
-text (some (count n)) = []
-text (some (words x)) = x
-
--- a test of a number that is false where it is absent
-abbrev pub given : (ℕ → Bool) → Option ℕ → Bool
-given p none = false
-given p (some n) = p n
+abbrev pub textIn : Option Leaf → List ℕ
+textIn none = []
+textIn (some (count n)) = []
+textIn (some (words x)) = x
 
 abbrev pub orZero : Option ℕ → ℕ
 orZero none = 0

@@ -23,7 +23,7 @@ ghost use Rattle.realtime_views.specs.promises.Scalars.{TripReads, TripR
 ghost use Rattle.realtime_views.specs.promises.Narrow.{isValue, toDelay, toDirection, toHeader, toSpan, toTimestamp, toTrip};
 ghost use Rattle.realtime_views.specs.promises.Numbers.{EventReads, NumberReads, NumberReady, StopReads, fromDelay, fromEvent, fromStop, fromTime, noNumbers};
 ghost use Rattle.realtime_views.specs.Typed as typed;
-ghost use Rattle.realtime_views.specs.promises.Walks.{NextEntity, NextUpdate, Sound, Walks, Yields, met, typeOf};
+ghost use Rattle.realtime_views.specs.promises.Walks.{NextEntity, NextUpdate, SoundWalk, Walks, Yields, met, typeOf};
 ghost use Rattle.realtime_views.specs.promises.Starts.{atMerged, atPlain};
 ghost use Rattle.realtime_views.specs.promises.Views.{DeletedRead, HeaderRead, SequenceRead, StopRead, TripRead};
 
@@ -689,7 +689,7 @@ pub fn entities(s: &[u8]) -> Walk
 }
 
 pub fn next_entity(s: &[u8], walk: Walk) -> Item
-    requires { ⌜ Sound (now s) (walk .outer) (walk .end) (walk .at) ⌝ }
+    requires { ⌜ SoundWalk (now s) (walk .outer) (walk .end) (walk .at) ⌝ }
     ensures { λ r. ⌜ NextEntity (now (s .entry)) walk r ⌝ }
 {
     next_item(
@@ -714,7 +714,7 @@ pub fn updates(start: usize) -> Walk
 }
 
 pub fn next_update(s: &[u8], walk: Walk) -> Item
-    requires { ⌜ Sound (now s) (walk .outer) (walk .end) (walk .at) ⌝ }
+    requires { ⌜ SoundWalk (now s) (walk .outer) (walk .end) (walk .at) ⌝ }
     ensures { λ r. ⌜ NextUpdate (now (s .entry)) walk r ⌝ }
 {
     next_item(

@@ -10,8 +10,11 @@ use lib.Dec.{eqb}
 use lib.ListN.{length, getD, drop, drop-of-length-le}
 use lib.Seq.{drop-cons}
 use borrow.Author.Tests.{eq-eqb, ne-eqb, eqb-true, eqb-false, lt-ltb, le-ltb}
-use Rattle.slices.specs.Lists.{equal, lexOf, alike, commonOf}
-use Rattle.slices.specs.laws.Lists.{and-left, and-right, equal-true}
+use Rattle.slices.specs.Lists.{lexOf}
+use Rattle.slices.specs.promises.Agreement.{alikeFrom, commonOf}
+use Rattle.basics.specs.Texts.{same}
+use Rattle.slices.specs.laws.Lists.{and-left, and-right}
+use Rattle.basics.specs.laws.Texts.{same-true}
 use Rattle.slices.specs.declared.Order.the-variants.{Less, Same, More}
 
 -- a and b agree before i: what they have in common goes on there
@@ -28,7 +31,7 @@ same-at a b i = eqb (getD a i 0) (getD b i 0)
 
 pub alike-eight : (a b : List ℕ) (i : ℕ)
     → (same-at a b i && same-at a b (i + 1) && same-at a b (i + 2) && same-at a b (i + 3) && same-at a b (i + 4) && same-at a b (i + 5) && same-at a b (i + 6) && same-at a b (i + 7))
-    ≡ alike 8 a b i
+    ≡ alikeFrom 8 a b i
 alike-eight a b i = rw (add-zero i)
 
 module _ {a b : List ℕ} where
@@ -39,12 +42,12 @@ module _ {a b : List ℕ} where
       rw (add-one i, drop-cons a i 0 p, drop-cons b i 0 q, eq-eqb (getD a i 0) (getD b i 0) e) in
       record { left = omega arith; right = omega arith; rest = omega (arith, C .rest) }
 
-  pub common-alike : (n i : ℕ) → Common a b i → i + n ≤ length a → i + n ≤ length b → alike n a b i ≡ true → Common a b (i + n)
+  pub common-alike : (n i : ℕ) → Common a b i → i + n ≤ length a → i + n ≤ length b → alikeFrom n a b i ≡ true → Common a b (i + n)
   common-alike zero i C p q e = rw (add-zero i) C
   common-alike (suc n) i C p q e =
       let t = eqb (getD a (i + n) 0) (getD b (i + n) 0) in
-      let next = common-more (common-alike n i C (omega arith) (omega arith) (and-left (alike n a b i) t e)) (omega arith) (omega arith)
-      (eqb-true (getD a (i + n) 0) (getD b (i + n) 0) (and-right (alike n a b i) t e)) in
+      let next = common-more (common-alike n i C (omega arith) (omega arith) (and-left (alikeFrom n a b i) t e)) (omega arith) (omega arith)
+      (eqb-true (getD a (i + n) 0) (getD b (i + n) 0) (and-right (alikeFrom n a b i) t e)) in
       let same : i + n + 1 ≡ i + suc n = omega arith in
       rw same at next
 
@@ -67,15 +70,15 @@ common-self [] = refl
 common-self (x ∷ a) = rw (eq-eqb x x refl) (ap suc (common-self a))
 
 -- lists of one length are the same where that much is in common
-common-equal : (a b : List ℕ) → length a ≡ length b → commonOf a b ≡ length a → equal a b ≡ true
-unfolding commonOf equal
+common-equal : (a b : List ℕ) → length a ≡ length b → commonOf a b ≡ length a → same a b ≡ true
+unfolding commonOf
 common-equal [] [] l e = refl
 common-equal [] (y ∷ b) l e = absurd (omega arith)
 common-equal (x ∷ a) [] l e = absurd (omega arith)
 common-equal (x ∷ a) (y ∷ b) l e = go (common-equal a b) (eqb x y) e
   where
-    go : (length a ≡ length b → commonOf a b ≡ length a → equal a b ≡ true)
-        → (t : Bool) → cond t (suc (commonOf a b)) 0 ≡ suc (length a) → (t && equal a b) ≡ true
+    go : (length a ≡ length b → commonOf a b ≡ length a → same a b ≡ true)
+        → (t : Bool) → cond t (suc (commonOf a b)) 0 ≡ suc (length a) → (t && same a b) ≡ true
     go ih true e₁ = ih (omega arith) (omega arith)
     go ih false e₁ = absurd (omega arith)
 
@@ -83,16 +86,16 @@ not-true : (t : Bool) → (t ≡ true → ⊥) → t ≡ false
 not-true true h = absurd (h refl)
 not-true false h = refl
 
-pub equal-long : (a b : List ℕ) → (length a ≡ length b → ⊥) → equal a b ≡ false
-equal-long a b h = not-true (equal a b) (λ e. h (ap length (equal-true a b e)))
+pub equal-long : (a b : List ℕ) → (length a ≡ length b → ⊥) → false ≡ same a b
+equal-long a b h = sym (not-true (same a b) (λ e. h (ap length (same-true a b e))))
 
-pub equal-common : (a b : List ℕ) → length a ≡ length b → eqb (commonOf a b) (length a) ≡ equal a b
+pub equal-common : (a b : List ℕ) → length a ≡ length b → eqb (commonOf a b) (length a) ≡ same a b
 equal-common a b l = go (eqb (commonOf a b) (length a)) refl
   where
-    go : (t : Bool) → eqb (commonOf a b) (length a) ≡ t → t ≡ equal a b
+    go : (t : Bool) → eqb (commonOf a b) (length a) ≡ t → t ≡ same a b
     go true e = sym (common-equal a b l (eqb-true (commonOf a b) (length a) e))
     go false e =
-        sym (not-true (equal a b) (λ t. eqb-false (commonOf a b) (length a) e (rw (← equal-true a b t) (common-self a))))
+        sym (not-true (same a b) (λ t. eqb-false (commonOf a b) (length a) e (rw (← same-true a b t) (common-self a))))
 
 -- the order is decided behind what is in common
 pub lex-common : (a b : List ℕ) → lexOf a b ≡ lexOf (drop (commonOf a b) a) (drop (commonOf a b) b)

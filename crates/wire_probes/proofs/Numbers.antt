@@ -2,11 +2,11 @@
 use Prim.Native.Nat.{ℕ, _-_, _≤_, _<_}
 use mathlib.Core.Path.{_≡_, refl, ap, _∙_}
 use mathlib.Core.List.{List, [], _∷_}
-use mathlib.Core.Option.{Option, none, some}
+use mathlib.Core.Option.{Option, none, some, Option·map}
 use native.Mathlib.Omega.{arith}
 use lib.Bits.{bitXor}
 use lib.ListN.{length, drop, length-drop, drop-of-length-le}
-use Rattle.wire.specs.Wire.{Read, broken, digits, varint, mapO, many}
+use Rattle.wire.specs.Wire.{Read, broken, digits, varint, many}
 use Rattle.wire.specs.laws.Wire.{reader-varint, moves}
 use Rattle.wire.specs.laws.Fields.{many-step}
 use Rattle.wire.specs.laws.At.{number-read, number-broken}
@@ -46,7 +46,7 @@ module _ (s : List ℕ) (acc at : ℕ) (inv : Passed s acc at) where
         ∙ ap (xorOf acc) (many-step varint reader-varint varint-nil (drop at s) n (drop (c .at) s) (number-read s at n c e .same))
         ∙ go (many varint (length (drop (c .at) s)) (drop (c .at) s))
       where
-        go : (o : Option (List ℕ)) → xorOf acc (mapO (λ l. n ∷ l) o) ≡ xorOf (bitXor acc n) o
+        go : (o : Option (List ℕ)) → xorOf acc (Option·map (λ l. n ∷ l) o) ≡ xorOf (bitXor acc n) o
         go none = refl
         go (some l) = refl
 

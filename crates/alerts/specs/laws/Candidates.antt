@@ -5,11 +5,13 @@ use mathlib.Core.Bool.{Bool, true, false, cond, not, _&&_, _||_}
 use Prim.Native.Nat.{ℕ, suc}
 use lib.Dec.{eqb}
 use borrow.Author.Tests.{eqb-true, eq-eqb}
-use Rattle.alerts.specs.Lists.{any, member, join}
-use Rattle.alerts.specs.Text.{same}
+use Rattle.basics.specs.Lists.{any, member, concatMap}
+use Rattle.basics.specs.Texts.{same}
 use Rattle.alerts.specs.Alert.{Alert, informed-trip-ids, informed-route-ids, informed-stop-ids}
-use Rattle.alerts.specs.Index.{undated, tripKeys, idKeys, Map, push, get, pushAll, indexed, rebuild-alert-index, legTrips, legRoutes, legStops, distinct, alert-candidates-for-leg, meets, numbers, search}
-use Rattle.alerts.specs.laws.Lists.{and-no, false-true, or-false, or-assoc, or-comm, both-ways, any-append, any-same, any-join, any-swap, same-true}
+use Rattle.alerts.specs.Index.{undated, tripKeys, idKeys, Map, push, numbersAt, pushAll, indexed, rebuild-alert-index, legTrips, legRoutes, legStops, distinct, alert-candidates-for-leg, meets, numbersWhere, search}
+use Rattle.basics.specs.laws.Lists.{any-append, any-same, any-join, any-swap}
+use Rattle.basics.specs.laws.Texts.{same-true}
+use Rattle.basics.specs.laws.Booleans.{and-no, false-true, or-false, or-assoc, or-comm, both-ways}
 
 -- a number is left once where it stood, unless it was seen
 distinct-step : (j i : ℕ) (seen l : List ℕ) (t : Bool) → member i seen ≡ t
@@ -31,7 +33,7 @@ member-distinct j seen (i ∷ l) =
     distinct-step j i seen l (member i seen) refl (member-distinct j seen l) (member-distinct j (i ∷ seen) l)
 
 -- what a push leaves at a key
-get-push : (k k′ : List ℕ) (i : ℕ) (m : Map) → get k (push k′ i m) ≡ cond (same k k′) (get k m ++ (i ∷ [])) (get k m)
+get-push : (k k′ : List ℕ) (i : ℕ) (m : Map) → numbersAt k (push k′ i m) ≡ cond (same k k′) (numbersAt k m ++ (i ∷ [])) (numbersAt k m)
 get-push k k′ i [] = refl
 get-push k k′ i (e ∷ m) = go (same k′ (e .0)) refl (same k (e .0)) refl (get-push k k′ i m)
   where
@@ -42,26 +44,26 @@ get-push k k′ i (e ∷ m) = go (same k′ (e .0)) refl (same k (e .0)) refl (g
     other g h false x = refl
 
     go : (t : Bool) → same k′ (e .0) ≡ t → (u : Bool) → same k (e .0) ≡ u
-        → get k (push k′ i m) ≡ cond (same k k′) (get k m ++ (i ∷ [])) (get k m)
-        → get k (push k′ i (e ∷ m)) ≡ cond (same k k′) (get k (e ∷ m) ++ (i ∷ [])) (get k (e ∷ m))
+        → numbersAt k (push k′ i m) ≡ cond (same k k′) (numbersAt k m ++ (i ∷ [])) (numbersAt k m)
+        → numbersAt k (push k′ i (e ∷ m)) ≡ cond (same k k′) (numbersAt k (e ∷ m) ++ (i ∷ [])) (numbersAt k (e ∷ m))
     go true g true h ih = rw (g, h, ap (same k) (same-true k′ (e .0) g) ∙ h) refl
     go true g false h ih = rw (g, h, ap (same k) (same-true k′ (e .0) g) ∙ h) refl
     go false g true h ih = rw (g, h, other g h (same k k′) refl) refl
     go false g false h ih = rw (g, h) ih
 
-member-push : (j : ℕ) (k k′ : List ℕ) (i : ℕ) (m : Map) → member j (get k (push k′ i m)) ≡ member j (get k m) || same k k′ && eqb j i
+member-push : (j : ℕ) (k k′ : List ℕ) (i : ℕ) (m : Map) → member j (numbersAt k (push k′ i m)) ≡ member j (numbersAt k m) || same k k′ && eqb j i
 member-push j k k′ i m = ap (member j) (get-push k k′ i m) ∙ go (same k k′)
   where
-    go : (t : Bool) → member j (cond t (get k m ++ (i ∷ [])) (get k m)) ≡ member j (get k m) || t && eqb j i
-    go true = any-append (eqb j) (get k m) (i ∷ []) ∙ ap (λ x. member j (get k m) || x) (or-false (eqb j i))
-    go false = sym (or-false (member j (get k m)))
+    go : (t : Bool) → member j (cond t (numbersAt k m ++ (i ∷ [])) (numbersAt k m)) ≡ member j (numbersAt k m) || t && eqb j i
+    go true = any-append (eqb j) (numbersAt k m) (i ∷ []) ∙ ap (λ x. member j (numbersAt k m) || x) (or-false (eqb j i))
+    go false = sym (or-false (member j (numbersAt k m)))
 
 member-pushAll : (j : ℕ) (k : List ℕ) (ks : List (List ℕ)) (i : ℕ) (m : Map)
-    → member j (get k (pushAll ks i m)) ≡ member j (get k m) || any (same k) ks && eqb j i
-member-pushAll j k [] i m = sym (or-false (member j (get k m)))
+    → member j (numbersAt k (pushAll ks i m)) ≡ member j (numbersAt k m) || any (same k) ks && eqb j i
+member-pushAll j k [] i m = sym (or-false (member j (numbersAt k m)))
 member-pushAll j k (k′ ∷ ks) i m =
     member-pushAll j k ks i (push k′ i m) ∙ ap (λ x. x || any (same k) ks && eqb j i) (member-push j k k′ i m)
-    ∙ go (same k k′) (member j (get k m)) (any (same k) ks) (eqb j i)
+    ∙ go (same k k′) (member j (numbersAt k m)) (any (same k) ks) (eqb j i)
   where
     go : (t x u e : Bool) → x || t && e || u && e ≡ x || (t || u) && e
     go t true u e = refl
@@ -73,34 +75,34 @@ member-pushAll j k (k′ ∷ ks) i m =
 
 -- the index gives at a key the numbers of the alerts that have it
 member-indexed : (j : ℕ) (k : List ℕ) (keys : Alert → List (List ℕ)) (i : ℕ) (l : List Alert) (m : Map)
-    → member j (get k (indexed keys i l m)) ≡ member j (get k m) || member j (numbers (λ a. any (same k) (keys a)) i l)
-member-indexed j k keys i [] m = sym (or-false (member j (get k m)))
+    → member j (numbersAt k (indexed keys i l m)) ≡ member j (numbersAt k m) || member j (numbersWhere (λ a. any (same k) (keys a)) i l)
+member-indexed j k keys i [] m = sym (or-false (member j (numbersAt k m)))
 member-indexed j k keys i (a ∷ l) m =
     member-indexed j k keys (suc i) l (pushAll (keys a) i m)
-    ∙ ap (λ x. x || member j (numbers (λ a. any (same k) (keys a)) (suc i) l)) (member-pushAll j k (keys a) i m)
+    ∙ ap (λ x. x || member j (numbersWhere (λ a. any (same k) (keys a)) (suc i) l)) (member-pushAll j k (keys a) i m)
     ∙ go (any (same k) (keys a))
   where
-    go : (t : Bool) → member j (get k m) || t && eqb j i || member j (numbers (λ a. any (same k) (keys a)) (suc i) l)
-        ≡ member j (get k m) || member j (cond t (i ∷ numbers (λ a. any (same k) (keys a)) (suc i) l) (numbers (λ a. any (same k) (keys a)) (suc i) l))
-    go true = or-assoc (member j (get k m)) (eqb j i) (member j (numbers (λ a. any (same k) (keys a)) (suc i) l))
-    go false = ap (λ x. x || member j (numbers (λ a. any (same k) (keys a)) (suc i) l)) (or-false (member j (get k m)))
+    go : (t : Bool) → member j (numbersAt k m) || t && eqb j i || member j (numbersWhere (λ a. any (same k) (keys a)) (suc i) l)
+        ≡ member j (numbersAt k m) || member j (cond t (i ∷ numbersWhere (λ a. any (same k) (keys a)) (suc i) l) (numbersWhere (λ a. any (same k) (keys a)) (suc i) l))
+    go true = or-assoc (member j (numbersAt k m)) (eqb j i) (member j (numbersWhere (λ a. any (same k) (keys a)) (suc i) l))
+    go false = ap (λ x. x || member j (numbersWhere (λ a. any (same k) (keys a)) (suc i) l)) (or-false (member j (numbersAt k m)))
 
 -- the numbers that one of two tests takes, and that one of several takes
 numbers-or : (j : ℕ) (p q : Alert → Bool) (i : ℕ) (l : List Alert)
-    → member j (numbers (λ a. p a || q a) i l) ≡ member j (numbers p i l) || member j (numbers q i l)
+    → member j (numbersWhere (λ a. p a || q a) i l) ≡ member j (numbersWhere p i l) || member j (numbersWhere q i l)
 numbers-or j p q i [] = refl
 numbers-or j p q i (a ∷ l) = go (p a) (q a) (numbers-or j p q (suc i) l)
   where
-    go : (t u : Bool) → member j (numbers (λ a. p a || q a) (suc i) l) ≡ member j (numbers p (suc i) l) || member j (numbers q (suc i) l)
-        → member j (cond (t || u) (i ∷ numbers (λ a. p a || q a) (suc i) l) (numbers (λ a. p a || q a) (suc i) l))
-        ≡ member j (cond t (i ∷ numbers p (suc i) l) (numbers p (suc i) l)) || member j (cond u (i ∷ numbers q (suc i) l) (numbers q (suc i) l))
-    go true true ih = rw ih (once (eqb j i) (member j (numbers p (suc i) l)) (member j (numbers q (suc i) l)))
+    go : (t u : Bool) → member j (numbersWhere (λ a. p a || q a) (suc i) l) ≡ member j (numbersWhere p (suc i) l) || member j (numbersWhere q (suc i) l)
+        → member j (cond (t || u) (i ∷ numbersWhere (λ a. p a || q a) (suc i) l) (numbersWhere (λ a. p a || q a) (suc i) l))
+        ≡ member j (cond t (i ∷ numbersWhere p (suc i) l) (numbersWhere p (suc i) l)) || member j (cond u (i ∷ numbersWhere q (suc i) l) (numbersWhere q (suc i) l))
+    go true true ih = rw ih (once (eqb j i) (member j (numbersWhere p (suc i) l)) (member j (numbersWhere q (suc i) l)))
       where
         once : (e x y : Bool) → e || (x || y) ≡ e || x || (e || y)
         once true x y = refl
         once false x y = refl
-    go true false ih = rw ih (sym (or-assoc (eqb j i) (member j (numbers p (suc i) l)) (member j (numbers q (suc i) l))))
-    go false true ih = rw ih (past (eqb j i) (member j (numbers p (suc i) l)) (member j (numbers q (suc i) l)))
+    go true false ih = rw ih (sym (or-assoc (eqb j i) (member j (numbersWhere p (suc i) l)) (member j (numbersWhere q (suc i) l))))
+    go false true ih = rw ih (past (eqb j i) (member j (numbersWhere p (suc i) l)) (member j (numbersWhere q (suc i) l)))
       where
         past : (e x y : Bool) → e || (x || y) ≡ x || (e || y)
         past true true y = refl
@@ -108,29 +110,29 @@ numbers-or j p q i (a ∷ l) = go (p a) (q a) (numbers-or j p q (suc i) l)
         past false x y = refl
     go false false ih = ih
 
-numbers-none : (j i : ℕ) (l : List Alert) → member j (numbers (λ a. false) i l) ≡ false
+numbers-none : (j i : ℕ) (l : List Alert) → member j (numbersWhere (λ a. false) i l) ≡ false
 numbers-none j i [] = refl
 numbers-none j i (a ∷ l) = numbers-none j (suc i) l
 
 numbers-any : (j : ℕ) (p : List ℕ → Alert → Bool) (ks : List (List ℕ)) (i : ℕ) (l : List Alert)
-    → any (λ k. member j (numbers (p k) i l)) ks ≡ member j (numbers (λ a. any (λ k. p k a) ks) i l)
+    → any (λ k. member j (numbersWhere (p k) i l)) ks ≡ member j (numbersWhere (λ a. any (λ k. p k a) ks) i l)
 numbers-any j p [] i l = sym (numbers-none j i l)
 numbers-any j p (k ∷ ks) i l =
-    ap (λ x. member j (numbers (p k) i l) || x) (numbers-any j p ks i l)
+    ap (λ x. member j (numbersWhere (p k) i l) || x) (numbers-any j p ks i l)
     ∙ sym (numbers-or j (p k) (λ a. any (λ k. p k a) ks) i l)
 
-numbers-same : (p q : Alert → Bool) → ((a : Alert) → p a ≡ q a) → (i : ℕ) (l : List Alert) → numbers p i l ≡ numbers q i l
+numbers-same : (p q : Alert → Bool) → ((a : Alert) → p a ≡ q a) → (i : ℕ) (l : List Alert) → numbersWhere p i l ≡ numbersWhere q i l
 numbers-same p q h i [] = refl
 numbers-same p q h i (a ∷ l) = rw (h a, numbers-same p q h (suc i) l) refl
 
 -- one of the three maps, looked up by a leg's keys
 member-lookup : (j : ℕ) (ks : List (List ℕ)) (keys : List ℕ → List (List ℕ)) (ids : Alert → List (List ℕ)) (l : List Alert)
-    → member j (join (λ k. get k (indexed (λ a. join keys (ids a)) 0 l [])) ks)
-    ≡ member j (numbers (λ a. any (λ x. meets ks (keys x)) (ids a)) 0 l)
+    → member j (concatMap (λ k. numbersAt k (indexed (λ a. concatMap keys (ids a)) 0 l [])) ks)
+    ≡ member j (numbersWhere (λ a. any (λ x. meets ks (keys x)) (ids a)) 0 l)
 member-lookup j ks keys ids l =
-    any-join (eqb j) (λ k. get k (indexed (λ a. join keys (ids a)) 0 l [])) ks
-    ∙ any-same _ _ (λ k. member-indexed j k (λ a. join keys (ids a)) 0 l []) ks
-    ∙ numbers-any j (λ k a. any (same k) (join keys (ids a))) ks 0 l
+    any-join (eqb j) (λ k. numbersAt k (indexed (λ a. concatMap keys (ids a)) 0 l [])) ks
+    ∙ any-same _ _ (λ k. member-indexed j k (λ a. concatMap keys (ids a)) 0 l []) ks
+    ∙ numbers-any j (λ k a. any (same k) (concatMap keys (ids a))) ks 0 l
     ∙ ap (member j) (numbers-same _ _ (λ a. any-same _ _ (λ k. any-join (same k) keys (ids a)) ks ∙ any-swap (λ k x. any (same k) (keys x)) ks (ids a)) 0 l)
 
 -- the keys of a trip id are the id and the undated one
@@ -155,13 +157,13 @@ module _ (l : List Alert) (trip route from to : List ℕ) where
   pub search-is-index : (j : ℕ) → member j (alert-candidates-for-leg l trip route from to) ≡ member j (search l trip route from to)
   search-is-index j =
       let x = rebuild-alert-index l in
-      let trips = join (λ k. get k (x .by-trip)) (legTrips trip) in
-      let routes = join (λ k. get k (x .by-route)) (legRoutes route) in
-      let stops = join (λ k. get k (x .by-stop)) (legStops from to) in
+      let trips = concatMap (λ k. numbersAt k (x .by-trip)) (legTrips trip) in
+      let routes = concatMap (λ k. numbersAt k (x .by-route)) (legRoutes route) in
+      let stops = concatMap (λ k. numbersAt k (x .by-stop)) (legStops from to) in
       let byTrip : Alert → Bool = λ a. any (λ t. meets (legTrips trip) (t ∷ undated t ∷ [])) (informed-trip-ids a) in
       let byRoute : Alert → Bool = λ a. any (λ r. meets (legRoutes route) (idKeys r)) (informed-route-ids a) in
       let byStop : Alert → Bool = λ a. any (λ s. meets (legStops from to) (idKeys s)) (informed-stop-ids a) in
-      let each : member j trips || member j routes || member j stops ≡ member j (numbers (λ a. byTrip a || byRoute a || byStop a) 0 l) =
+      let each : member j trips || member j routes || member j stops ≡ member j (numbersWhere (λ a. byTrip a || byRoute a || byStop a) 0 l) =
       rw (
         member-lookup j (legTrips trip) tripKeys informed-trip-ids l,
         member-lookup j (legRoutes route) idKeys informed-route-ids l,

@@ -9,33 +9,35 @@ use Prim.Native.String.{String}
 use lib.Dec.{leb, eqb}
 use lib.ListN.{length, drop}
 use borrow.Author.Tests.{eqb-true}
-use Rattle.formats.specs.Class.{all}
-use Rattle.alerts.specs.Lists.{any, filter, isEmpty}
-use Rattle.alerts.specs.Text.{text, same, begins, ends, contains, find, upper, alike, alphanumeric, trimStart, trimEnd, trim, rsplit-once, onto, split}
-use Rattle.alerts.specs.Alert.{Alert, header, description, given, informed-trip-ids, informed-route-ids, informed-stop-ids}
-use Rattle.alerts.specs.Index.{undated, after, tail}
-use Rattle.alerts.specs.Applies.{firstCode, product-code-token, lastOf, segment, stop-tail, decided, tails-match, route-refs-match, short-names-equal, has, roadBlob, road-traffic, is-rail-like-mode, trip-hit, stop-hit, route-hit, by-name, by-product, unaccented, folded, fold-alert-blob, letters, numerals, trams, around, names, letterRows, numberRows, bareRows, names-number, names-tram, commercial-lines-in-text, markers, marked, needleRows, window, near, advised, is-secondary-line-context, is-primary-context, legBlob, text-compatible, alert-text-compatible-with-leg, alert-applies-to-leg-with-mode}
+use Rattle.basics.specs.Lists.{all, any, filter, isEmpty}
+use Rattle.alerts.specs.Text.{text, begins, ends, contains, find, upper, sameIgnoringCase, alphanumeric, trimStart, trimEnd, trim, rsplit-once, onto, split}
+use Rattle.basics.specs.Texts.{same}
+use Rattle.alerts.specs.Alert.{Alert, header, description, orEmptyText, informed-trip-ids, informed-route-ids, informed-stop-ids}
+use Rattle.alerts.specs.Index.{undated, partAfter, tail}
+use Rattle.alerts.specs.Applies.{firstCode, product-code-token, lastOf, segment, stop-tail, decided, tails-match, route-refs-match, short-names-equal, hasText, roadBlob, road-traffic, is-rail-like-mode, trip-hit, stop-hit, route-hit, by-name, by-product, unaccented, folded, fold-alert-blob, letters, numerals, trams, around, names, letterRows, numberRows, bareRows, names-number, names-tram, commercial-lines-in-text, markers, anyMarker, needleRows, window, markerNear, advised, is-secondary-line-context, is-primary-context, legBlob, text-compatible, alert-text-compatible-with-leg, alert-applies-to-leg-with-mode}
 use Rattle.alerts.specs.promises.Reduced.{firstToken, token, refs, named, hitsRoute, hitsTrip, hitsStop, road, adviceMarkers, secondary, subjectRows, primary, textOk, textFits, hits, applies}
 use Rattle.alerts.specs.laws.ProductCodes.{product-code-never-decides}
-use Rattle.alerts.specs.laws.Lists.{and-no, false-true, or-false, or-assoc, or-comm, or-true, and-true, pick-or, pick-and, not-true, absorb-left, absorb-right, implied-false, any-append, any-or, any-same, any-implies, same-true}
+use Rattle.basics.specs.laws.Lists.{any-append, any-or, any-same, any-implies}
+use Rattle.basics.specs.laws.Texts.{same-true}
+use Rattle.basics.specs.laws.Booleans.{and-no, false-true, or-false, or-assoc, or-comm, or-true, and-true, pick-or, pick-and, not-true, absorb-left, absorb-right, implied-false}
 use Rattle.alerts.specs.laws.Text.{contains-append, contains-end, contains-trans, begins-contains, ends-append, ends-contains, rsplit-joined}
 
 -- road traffic
 road-reduced : (blob : List ℕ) → road-traffic blob ≡ road blob
 road-reduced blob =
-    let h : (p q : String) → contains (text q) (text p) ≡ true → has blob p ≡ true → has blob q ≡ true =
+    let h : (p q : String) → contains (text q) (text p) ≡ true → hasText blob p ≡ true → hasText blob q ≡ true =
     λ p q e. contains-trans (text q) (text p) blob e in
     rw (
-      absorb-right (has blob "TRAFIC ROUTIER") (has blob "INFO TRAFIC ROUTIER") (h "INFO TRAFIC ROUTIER" "TRAFIC ROUTIER" refl),
-      absorb-right (has blob "CIRCULATION") (has blob "SENS DE CIRCULATION") (h "SENS DE CIRCULATION" "CIRCULATION" refl),
-      or-assoc (has blob "DEPLACE") (has blob "DÉPLACÉ") (has blob "DEPLAC"),
-      absorb-left (has blob "DEPLACE") (has blob "DÉPLACÉ" || has blob "DEPLAC")
-          (λ e. rw (h "DEPLACE" "DEPLAC" refl e) (or-comm (has blob "DÉPLACÉ") true)),
+      absorb-right (hasText blob "TRAFIC ROUTIER") (hasText blob "INFO TRAFIC ROUTIER") (h "INFO TRAFIC ROUTIER" "TRAFIC ROUTIER" refl),
+      absorb-right (hasText blob "CIRCULATION") (hasText blob "SENS DE CIRCULATION") (h "SENS DE CIRCULATION" "CIRCULATION" refl),
+      or-assoc (hasText blob "DEPLACE") (hasText blob "DÉPLACÉ") (hasText blob "DEPLAC"),
+      absorb-left (hasText blob "DEPLACE") (hasText blob "DÉPLACÉ" || hasText blob "DEPLAC")
+          (λ e. rw (h "DEPLACE" "DEPLAC" refl e) (or-comm (hasText blob "DÉPLACÉ") true)),
     )
     refl
 
 -- a trip id whose tail past the last ':' is b ends with ":b"
-tail-ends : (b t : List ℕ) (o : Option (List ℕ × List ℕ)) → rsplit-once 0x3a t ≡ o → any (same b) (after o) ≡ true → ends (text ":" ++ b) t ≡ true
+tail-ends : (b t : List ℕ) (o : Option (List ℕ × List ℕ)) → rsplit-once 0x3a t ≡ o → any (same b) (partAfter o) ≡ true → ends (text ":" ++ b) t ≡ true
 tail-ends b t none eo e = false-true e
 tail-ends b t (some p) eo e =
     let same-b : b ≡ p .1 = same-true b (p .1) (sym (or-false (same b (p .1))) ∙ e) in
@@ -63,7 +65,7 @@ stop-reduced : (a : Alert) (stop : List ℕ) → stop-hit a stop ≡ hitsStop a 
 stop-reduced a stop = go (isEmpty stop) refl
   where
     hit : Bool
-    hit = any (λ s. same s stop || alike (stop-tail s) (stop-tail stop)) (informed-stop-ids a)
+    hit = any (λ s. same s stop || sameIgnoringCase (stop-tail s) (stop-tail stop)) (informed-stop-ids a)
 
     go : (t : Bool) → isEmpty stop ≡ t → not t && not (isEmpty (stop-tail stop)) && hit ≡ not t && hit
     go true e = refl
@@ -118,13 +120,13 @@ token-reduced x =
     first-token (split (λ b. not (alphanumeric b)) x) (split-pieces (λ b. not (alphanumeric b)) x)
 
 -- route ids
-tails-reduced : (x y : List ℕ) → tails-match x y ≡ leb 3 (length x) && alike x y
+tails-reduced : (x y : List ℕ) → tails-match x y ≡ leb 3 (length x) && sameIgnoringCase x y
 tails-reduced [] y = refl
 tails-reduced (b ∷ x) y = refl
 
 refs-reduced : (q r : List ℕ) → route-refs-match q r ≡ refs q r
 refs-reduced q r =
-    let other = decided (token q) (token r) (leb 3 (length (segment q)) && alike (segment q) (segment r)) in
+    let other = decided (token q) (token r) (leb 3 (length (segment q)) && sameIgnoringCase (segment q) (segment r)) in
     rw (token-reduced q, token-reduced r, tails-reduced (segment q) (segment r))
     (pick-and (isEmpty q || isEmpty r) (cond (same q r) true other) ∙ ap (λ x. not (isEmpty q || isEmpty r) && x) (pick-or (same q r) other))
 
@@ -150,11 +152,11 @@ trimStart-once (b ∷ s) = go (eqb b 32) refl (trimStart-once s)
 trim-twice : (s : List ℕ) → trim (trim s) ≡ trim s
 trim-twice s = ap trimEnd (trimStart-once s) ∙ trimEnd-twice (trimStart s)
 
-name-reduced : (s t : List ℕ) → isEmpty s ≡ false → trim s ≡ s → short-names-equal s t ≡ alike s (trim t)
+name-reduced : (s t : List ℕ) → isEmpty s ≡ false → trim s ≡ s → short-names-equal s t ≡ sameIgnoringCase s (trim t)
 name-reduced [] t e h = false-true (sym e)
 name-reduced (b ∷ s) t e h = rw h (go (trim t))
   where
-    go : (x : List ℕ) → cond (isEmpty x) false (alike (b ∷ s) x) ≡ alike (b ∷ s) x
+    go : (x : List ℕ) → cond (isEmpty x) false (sameIgnoringCase (b ∷ s) x) ≡ sameIgnoringCase (b ∷ s) x
     go [] = refl
     go (c ∷ x) = refl
 
@@ -204,13 +206,13 @@ blob-nonempty [] d = folded-nonempty 32 d
 blob-nonempty (b ∷ h) d = folded-nonempty b (h ++ text " " ++ d)
 
 -- a text with a marker has one that isn't implied
-marked-reduced : (s : List ℕ) → marked markers s ≡ marked adviceMarkers s
+marked-reduced : (s : List ℕ) → anyMarker markers s ≡ anyMarker adviceMarkers s
 marked-reduced s =
-    sym (or-assoc (contains (text "PRIVILEGIE") s) (contains (text "PRIVILEGIEZ") s) (marked (drop 2 markers) s))
-    ∙ ap (λ x. x || marked (drop 2 markers) s)
+    sym (or-assoc (contains (text "PRIVILEGIE") s) (contains (text "PRIVILEGIEZ") s) (anyMarker (drop 2 markers) s))
+    ∙ ap (λ x. x || anyMarker (drop 2 markers) s)
     (absorb-right (contains (text "PRIVILEGIE") s) (contains (text "PRIVILEGIEZ") s) (contains-trans (text "PRIVILEGIE") (text "PRIVILEGIEZ") s refl))
 
-near-reduced : (blob needle : List ℕ) (o : Option ℕ) → near markers blob needle o ≡ near adviceMarkers blob needle o
+near-reduced : (blob needle : List ℕ) (o : Option ℕ) → markerNear markers blob needle o ≡ markerNear adviceMarkers blob needle o
 near-reduced blob needle none = refl
 near-reduced blob needle (some i) = marked-reduced (window blob i (length needle))
 
@@ -261,9 +263,9 @@ line-contained blob u =
     (names-contains letterRows blob u) (number-contains blob u) (λ h. and-true {x = contains u blob} h .0)
 
 secondary-reduced : (blob u : List ℕ) → contains u blob ≡ true → is-secondary-line-context blob u ≡ secondary blob u
-secondary-reduced blob u e = rw (advised-reduced blob u, marked-reduced blob, e) (go (marked adviceMarkers blob))
+secondary-reduced blob u e = rw (advised-reduced blob u, marked-reduced blob, e) (go (anyMarker adviceMarkers blob))
   where
-    go : (t : Bool) → advised adviceMarkers blob u || t && true && (has blob "RER " || has blob "TRAVAUX SUR") ≡ advised adviceMarkers blob u || t && (has blob "RER " || has blob "TRAVAUX SUR")
+    go : (t : Bool) → advised adviceMarkers blob u || t && true && (hasText blob "RER " || hasText blob "TRAVAUX SUR") ≡ advised adviceMarkers blob u || t && (hasText blob "RER " || hasText blob "TRAVAUX SUR")
     go true = refl
     go false = refl
 
@@ -312,7 +314,7 @@ text-reduced blob u e = rw e (go (commercial-lines-in-text blob) (line-contained
 
 fits-reduced : (a : Alert) (short : List ℕ) → alert-text-compatible-with-leg a short ≡ textFits a (trim short)
 fits-reduced a short =
-    rw (text-reduced (legBlob a) (upper (trim short)) (blob-nonempty (given (header a)) (given (description a))))
+    rw (text-reduced (legBlob a) (upper (trim short)) (blob-nonempty (orEmptyText (header a)) (orEmptyText (description a))))
     (pick-or (isEmpty (trim short)) (textOk (legBlob a) (commercial-lines-in-text (legBlob a)) (upper (trim short))))
 
 pub applies-reduced : (a : Alert) (trip route short from to mode : List ℕ)

@@ -10,9 +10,10 @@ use native.Mathlib.Omega.{arith}
 use lib.Dec.{leb, ltb}
 use lib.ListN.{length}
 use borrow.Author.Tests.{leb-true, ltb-true, le-leb, lt-leb}
-use Rattle.formats.specs.laws.Law.{none-some}
-use Rattle.formats.specs.Class.{Range, all, inside, rows, due, goesOn, sequences, inClass, utf8}
-use Rattle.alerts.specs.laws.Lists.{false-true, or-true, and-true}
+use Rattle.basics.specs.laws.Options.{none-some}
+use Rattle.formats.specs.Class.{Range, inside, utf8Rows, due, goesOn, sequences, inClass, utf8}
+use Rattle.basics.specs.Lists.{all}
+use Rattle.basics.specs.laws.Booleans.{false-true, or-true, and-true}
 use Rattle.alerts.specs.Label.{continues, characters, labelOf}
 
 -- a byte that goes on with a character, and one that begins one
@@ -74,7 +75,7 @@ pub record Cut (n : ℕ) (s : List ℕ) (rest : List Range) : Type 0 where
 cut-on : (n b : ℕ) (s : List ℕ) (r : Range) (rest : List Range) → inside r b ≡ true → continues b ≡ true → Cut n s rest → Cut n (b ∷ s) (r ∷ rest)
 cut-on n b s r rest h e c = record { whole = rw (on-byte n b s e, h) (c .whole); short = rw (on-byte n b s e) (omega (arith, c .short)) }
 
-cut-first : (n b : ℕ) (s : List ℕ) (rest : List Range) → due rows b ≡ some rest → Lead b rest → ((m : ℕ) → Cut m s rest) → Cut n (b ∷ s) []
+cut-first : (n b : ℕ) (s : List ℕ) (rest : List Range) → due utf8Rows b ≡ some rest → Lead b rest → ((m : ℕ) → Cut m s rest) → Cut n (b ∷ s) []
 cut-first zero b s rest e l c = record { whole = rw (l .begins) refl; short = rw (l .begins) (omega arith) }
 cut-first (suc n) b s rest e l c = record {
   whole = rw (l .begins, e) (c n .whole);
@@ -84,12 +85,12 @@ cut-first (suc n) b s rest e l c = record {
 pub cut : (n : ℕ) (s : List ℕ) (rest : List Range) → all trailing rest ≡ true → sequences s rest ≡ true → Cut n s rest
 cut n [] [] t e = record { whole = refl; short = omega arith }
 cut n [] (r ∷ rest) t e = false-true e
-cut n (b ∷ s) [] t e = go (due rows b) refl e (λ m rest. cut m s rest)
+cut n (b ∷ s) [] t e = go (due utf8Rows b) refl e (λ m rest. cut m s rest)
   where
-    go : (o : Option (List Range)) → due rows b ≡ o → goesOn o (λ rest. sequences s rest) ≡ true
+    go : (o : Option (List Range)) → due utf8Rows b ≡ o → goesOn o (λ rest. sequences s rest) ≡ true
         → ((m : ℕ) (rest : List Range) → all trailing rest ≡ true → sequences s rest ≡ true → Cut m s rest) → Cut n (b ∷ s) []
     go none d h ih = false-true h
-    go (some rest) d h ih = let l = due-leads rows b rest refl d in cut-first n b s rest d l (λ m. ih m rest (l .trails) h)
+    go (some rest) d h ih = let l = due-leads utf8Rows b rest refl d in cut-first n b s rest d l (λ m. ih m rest (l .trails) h)
 cut n (b ∷ s) (r ∷ rest) t e = go (inside r b) refl e (λ f. cut n s rest (and-true {x = trailing r} t .1) f)
   where
     go : (i : Bool) → inside r b ≡ i → goesOn (cond i (some rest) none) (λ rest. sequences s rest) ≡ true → (sequences s rest ≡ true → Cut n s rest) → Cut n (b ∷ s) (r ∷ rest)

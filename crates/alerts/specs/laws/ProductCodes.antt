@@ -9,12 +9,15 @@ use Prim.Native.Nat.{ℕ, _-_, _≤_}
 use native.Mathlib.Omega.{arith}
 use borrow.Author.Tests.{leb-true, lt-leb}
 use lib.Dec.{leb}
-use Rattle.formats.specs.laws.Law.{none-some, headed}
+use Rattle.basics.specs.laws.Options.{none-some}
+use Rattle.basics.specs.laws.Lists.{headed}
+use Rattle.basics.specs.laws.Texts.{same-refl, same-true}
 use Rattle.formats.specs.Class.{inside}
-use Rattle.alerts.specs.Lists.{any}
-use Rattle.alerts.specs.Text.{same, upperByte, upper, alphanumeric, trim, split}
-use Rattle.alerts.specs.Applies.{isCode, firstCode, product-code-token, segment, decided, tails-match, route-refs-match, short-names-equal, products, nameOf, idfm-product-to-short, is, same-line, by-product}
-use Rattle.alerts.specs.laws.Lists.{false-true, or-comm, or-true, and-true, same-refl, same-true}
+use Rattle.basics.specs.Lists.{any}
+use Rattle.alerts.specs.Text.{upperByte, upper, alphanumeric, trim, split}
+use Rattle.basics.specs.Texts.{same}
+use Rattle.alerts.specs.Applies.{isCode, firstCode, product-code-token, segment, decided, tails-match, route-refs-match, short-names-equal, products, nameOf, idfm-product-to-short, isText, same-line, by-product}
+use Rattle.basics.specs.laws.Booleans.{false-true, or-comm, or-true, and-true}
 
 -- a code is in capitals already
 upper-byte : (b : ℕ) → upperByte (upperByte b) ≡ upperByte b
@@ -79,9 +82,9 @@ one-line short b c hb hc e = go (idfm-product-to-short c) refl e
     go : (o : Option (List ℕ)) → idfm-product-to-short c ≡ o → same-line (some b) short c o ≡ true → b ≡ c
     go none eo e = false-true e
     go (some n) eo e =
-        ⊎-elim (same-true b c) (λ h. found (idfm-product-to-short b) refl h) (or-true (same b c) (is (idfm-product-to-short b) n) (and-true {x = short-names-equal short n} e .1))
+        ⊎-elim (same-true b c) (λ h. found (idfm-product-to-short b) refl h) (or-true (same b c) (isText (idfm-product-to-short b) n) (and-true {x = short-names-equal short n} e .1))
       where
-        found : (o : Option (List ℕ)) → idfm-product-to-short b ≡ o → is o n ≡ true → b ≡ c
+        found : (o : Option (List ℕ)) → idfm-product-to-short b ≡ o → isText o n ≡ true → b ≡ c
         found none en h = false-true h
         found (some m) en h = named-once b c n hb hc (en ∙ ap some (same-true m n h)) eo
 

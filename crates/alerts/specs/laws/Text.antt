@@ -8,10 +8,14 @@ use mathlib.Core.Bool.{Bool, true, false}
 use Prim.Native.Nat.{ℕ}
 use lib.Dec.{eqb}
 use borrow.Author.Tests.{eqb-true, eq-eqb}
-use Rattle.formats.specs.laws.Law.{headed, none-some, found}
-use Rattle.alerts.specs.Lists.{isEmpty}
-use Rattle.alerts.specs.Text.{same, begins, ends, contains, splitOff, rsplit-once}
-use Rattle.alerts.specs.laws.Lists.{or-comm, or-true, and-true, same-refl, same-true, false-true}
+use Rattle.formats.specs.laws.Law.{found}
+use Rattle.basics.specs.laws.Options.{none-some}
+use Rattle.basics.specs.laws.Lists.{headed}
+use Rattle.basics.specs.laws.Texts.{same-refl, same-true}
+use Rattle.basics.specs.Lists.{isEmpty}
+use Rattle.alerts.specs.Text.{begins, ends, contains, splitOff, rsplit-once}
+use Rattle.basics.specs.Texts.{same}
+use Rattle.basics.specs.laws.Booleans.{or-comm, or-true, and-true, false-true}
 
 -- what is empty
 pub isEmpty-true : (s : List ℕ) → isEmpty s ≡ true → s ≡ []

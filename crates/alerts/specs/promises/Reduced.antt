@@ -7,11 +7,12 @@ use Prim.Native.Nat.{ℕ}
 use Prim.Native.String.{String}
 use lib.Dec.{leb}
 use lib.ListN.{length}
-use Rattle.alerts.specs.Lists.{any, isEmpty}
-use Rattle.alerts.specs.Text.{text, same, begins, ends, upper, alike, alphanumeric, trim, split}
+use Rattle.basics.specs.Lists.{any, isEmpty}
+use Rattle.alerts.specs.Text.{text, begins, ends, upper, sameIgnoringCase, alphanumeric, trim, split}
+use Rattle.basics.specs.Texts.{same}
 use Rattle.alerts.specs.Alert.{Alert, informed-trip-ids, informed-route-ids, informed-stop-ids}
 use Rattle.alerts.specs.Index.{undated}
-use Rattle.alerts.specs.Applies.{isCode, isNone, segment, stop-tail, decided, has, roadBlob, is-rail-like-mode, around, names, commercial-lines-in-text, marked, advised, legBlob}
+use Rattle.alerts.specs.Applies.{isCode, isNone, segment, stop-tail, decided, hasText, roadBlob, is-rail-like-mode, around, names, commercial-lines-in-text, anyMarker, advised, legBlob}
 
 abbrev pub firstToken : List (List ℕ) → Option (List ℕ)
 firstToken [] = none
@@ -23,10 +24,10 @@ token x = firstToken (split (λ b. not (alphanumeric b)) x)
 abbrev pub refs : List ℕ → List ℕ → Bool
 refs q r =
     not (isEmpty q || isEmpty r)
-    && (same q r || decided (token q) (token r) (leb 3 (length (segment q)) && alike (segment q) (segment r)))
+    && (same q r || decided (token q) (token r) (leb 3 (length (segment q)) && sameIgnoringCase (segment q) (segment r)))
 
 abbrev pub named : List ℕ → List ℕ → Bool
-named short r = alike short (trim (segment r)) && isNone (token r) && leb (length (segment r)) 4
+named short r = sameIgnoringCase short (trim (segment r)) && isNone (token r) && leb (length (segment r)) 4
 
 abbrev pub hitsRoute : Alert → List ℕ → List ℕ → Bool
 hitsRoute a route short =
@@ -39,12 +40,12 @@ hitsTrip a trip =
 
 abbrev pub hitsStop : Alert → List ℕ → Bool
 hitsStop a stop =
-    not (isEmpty stop) && any (λ s. same s stop || alike (stop-tail s) (stop-tail stop)) (informed-stop-ids a)
+    not (isEmpty stop) && any (λ s. same s stop || sameIgnoringCase (stop-tail s) (stop-tail stop)) (informed-stop-ids a)
 
 abbrev pub road : List ℕ → Bool
 road blob =
-    has blob "TRAFIC ROUTIER"
-    || has blob "ARRET" && (has blob "DÉPLACÉ" || has blob "DEPLAC") && has blob "CIRCULATION"
+    hasText blob "TRAFIC ROUTIER"
+    || hasText blob "ARRET" && (hasText blob "DÉPLACÉ" || hasText blob "DEPLAC") && hasText blob "CIRCULATION"
 
 abbrev pub adviceMarkers : List (List ℕ)
 adviceMarkers =
@@ -53,7 +54,7 @@ adviceMarkers =
 
 abbrev pub secondary : List ℕ → List ℕ → Bool
 secondary blob short =
-    advised adviceMarkers blob short || marked adviceMarkers blob && (has blob "RER " || has blob "TRAVAUX SUR")
+    advised adviceMarkers blob short || anyMarker adviceMarkers blob && (hasText blob "RER " || hasText blob "TRAVAUX SUR")
 
 abbrev pub subjectRows : List (String × String)
 subjectRows =

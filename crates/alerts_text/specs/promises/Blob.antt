@@ -6,7 +6,7 @@ use mathlib.Core.Option.{Option, none, some}
 use mathlib.Core.Bool.{Bool, cond, _||_}
 use Prim.Native.Nat.{ℕ, _+_, _-_, _≤_, _<_}
 use lib.ListN.{length, take, drop}
-use Rattle.alerts.specs.Lists.{isEmpty}
+use Rattle.basics.specs.Lists.{isEmpty}
 use Rattle.alerts.specs.Text.{text, upper}
 use Rattle.alerts.specs.Applies.{fold-alert-blob, commercial-lines-in-text}
 use Rattle.alerts.specs.promises.Reduced.{textOk, road}

@@ -1,4 +1,4 @@
--- Law. Bytes written into a list at a place, one after the other.
+-- Law. Writings at a place, one after the other; what stood before them stays.
 use Prim.Native.Nat.{ℕ, _+_, _≤_}
 use mathlib.Core.Path.{_≡_, refl, sym, ap, _∙_}
 use mathlib.Core.List.{List, [], _++_, append-assoc, append-nil}

@@ -5,7 +5,7 @@ use native.Mathlib.Omega.{arith}
 use Rattle.decode_slots.specs.Index.{index}
 use Rattle.realtime_views.specs.laws.Walks.{found}
 use Rattle.realtime_views.specs.promises.Walks.{ahead}
-use Rattle.decode_index.proofs.Going.{Going, starts, done, entity-inside, entity-read, on, over}
+use Rattle.decode_index.proofs.Entities.{Going, starts, done, entity-inside, entity-read, on, over}
 use Rattle.decode_index.proofs.apply_entities.Statement.{statement}
 use Rattle.decode_index.proofs.apply_entities.Tie as tie
 

@@ -1,7 +1,7 @@
 -- `decode_index::begin`: the old trips join, or there are none. Assumes nothing.
 use borrow.Author.Needs.{needs}
 use Rattle.decode_slots.specs.laws.Slots.{sound-none}
-use Rattle.decode_index.proofs.Together.{begun-none, begun-old}
+use Rattle.decode_index.proofs.Leaves.{begun-none, begun-old}
 use Rattle.decode_index.proofs.begin.Statement.{statement}
 use Rattle.decode_index.proofs.begin.Tie as tie
 

@@ -1,7 +1,7 @@
 -- `decode_index::leave`: the index is what the message leaves. Assumes nothing.
 use borrow.Author.Needs.{needs}
 use native.Mathlib.Omega.{arith}
-use Rattle.decode_index.proofs.Together.{leaves-many, readable-slots, leaves-crowded, leaves-trips}
+use Rattle.decode_index.proofs.Leaves.{leaves-many, readable-slots, leaves-crowded, leaves-trips}
 use Rattle.decode_index.proofs.leave.Statement.{statement}
 use Rattle.decode_index.proofs.leave.Tie as tie
 

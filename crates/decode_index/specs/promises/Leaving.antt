@@ -4,18 +4,18 @@ use Prim.Native.Nat.{ℕ, _≤_}
 use mathlib.Core.Path.{_≡_}
 use mathlib.Core.Bool.{Bool, false, cond}
 use mathlib.Core.List.{List, []}
-use Rattle.formats.specs.Readers.{All}
+use Rattle.basics.specs.Lists.{All}
 use Rattle.formats.specs.Format.{list}
 use Rattle.formats_read.specs.promises.Here.{Here}
 use Rattle.decode.specs.Trip.{tripEntry}
-use Rattle.decode.specs.Map.{puts}
-use Rattle.decode.specs.Order.{texts}
+use Rattle.maps.specs.Map.{puts}
+use Rattle.maps.specs.Order.{texts}
 use Rattle.decode_slots.specs.Index.{index}
-use Rattle.decode_slots.specs.promises.Index.{Sound}
+use Rattle.decode_slots.specs.promises.Index.{SoundIndex}
 use Rattle.decode.specs.Leaves.{Trips, leaves}
 use Rattle.decode_slots.specs.Places.{held, isNew, crowded}
 use Rattle.decode_old.specs.promises.Old.{Stands}
-use Rattle.decode_index.specs.Message.{messageOf}
+use Rattle.decode_index.specs.Message.{messageTree}
 use Rattle.decode_index.specs.promises.Message.{AllFit}
 use Rattle.decode_index.specs.declared.Left.{Left}
 use Rattle.decode_index.specs.Leaving.{Leaving, manyTrips, manyUpdates, trips, leaving}
@@ -33,7 +33,7 @@ pub record Old (o : List ℕ) (at : ℕ) : Type 0 where
 
 -- the index before the entities: the old trips that stand at `at`, or none
 pub record Begun (o : List ℕ) (at : ℕ) (differential : Bool) (keys marks order : List ℕ) (r : ℕ) : Type 0 where
-  pub sound : Sound keys marks order r
+  pub sound : SoundIndex keys marks order r
   pub few : r ≤ 2048
   pub aged : All (λ e. isNew (e .1) ≡ false) (index keys marks order r)
   pub of : (v : Trips) (q : ℕ) → Here (list 2048 tripEntry) o at q v → (s : List ℕ) → held s o (index keys marks order r) ≡ cond differential (puts texts v []) []
@@ -41,6 +41,6 @@ pub record Begun (o : List ℕ) (at : ℕ) (differential : Bool) (keys marks ord
 -- THE INDEX IS WHAT THE MESSAGE LEAVES, in order, and every place of it can be read. The old trips of a state ascend, and then `puts texts v []` is v
 -- (`puts-itself`)
 pub record Leaves (feed s o : List ℕ) (at : ℕ) (keys marks order : List ℕ) (r : Left) : Type 0 where
-  pub sound : (n : ℕ) → r ≡ Left.Trips n → Sound keys marks order n
+  pub sound : (n : ℕ) → r ≡ Left.Trips n → SoundIndex keys marks order n
   pub fit : (n : ℕ) → r ≡ Left.Trips n → AllFit s o (index keys marks order n)
-  pub of : (v : Trips) (q : ℕ) → Here (list 2048 tripEntry) o at q v → viewLeft (λ n. held s o (index keys marks order n)) r ≡ leaving (leaves feed (messageOf s) (puts texts v []))
+  pub of : (v : Trips) (q : ℕ) → Here (list 2048 tripEntry) o at q v → viewLeft (λ n. held s o (index keys marks order n)) r ≡ leaving (leaves feed (messageTree s) (puts texts v []))

@@ -4,23 +4,24 @@ use mathlib.Core.Path.{_≡_}
 use mathlib.Core.Bool.{true, false}
 use mathlib.Core.List.{List}
 use lib.ListN.{length}
-use Rattle.formats.specs.Readers.{All}
+use Rattle.basics.specs.Lists.{All}
 use Rattle.realtime.specs.Tree.{tree, rep}
 use Rattle.realtime.specs.Schema.{feedMessage}
 use Rattle.realtime.specs.Schema as schema
 use Rattle.realtime.specs.Judge.{rules, asked}
 use Rattle.realtime.specs.declared.Verdict.{Verdict}
-use Rattle.decode.specs.Map.{puts}
-use Rattle.decode.specs.Order.{texts}
+use Rattle.maps.specs.Map.{puts}
+use Rattle.maps.specs.Order.{texts}
 use Rattle.decode_slots.specs.Index.{Place, index}
-use Rattle.decode_slots.specs.promises.Index.{Sound}
+use Rattle.decode_slots.specs.promises.Index.{SoundIndex}
 use Rattle.decode.specs.Leaves.{Trips, entries}
-use Rattle.decode_slots.specs.Places.{oldAt, held, isNew, crowded, Readable}
-use Rattle.decode_index.specs.Message.{messageOf}
+use Rattle.decode_slots.specs.Places.{oldAt, held, isNew, crowded}
+use Rattle.decode_slots.specs.promises.Places.{Readable}
+use Rattle.decode_index.specs.Message.{messageTree}
 
 -- the message is within questions 4 to 6
-abbrev pub Judged : List ℕ → Type 0
-Judged s = asked rules feedMessage (tree schema.feed feedMessage s) ≡ Verdict.Fine
+abbrev pub JudgedMessage : List ℕ → Type 0
+JudgedMessage s = asked rules feedMessage (tree schema.feed feedMessage s) ≡ Verdict.Fine
 
 -- a place of the message can be read, and one of the old overlay has a record of at most 128 updates
 pub record Fit (s o : List ℕ) (p : Place) : Type 0 where
@@ -32,11 +33,11 @@ AllFit s o m = All (λ e. Fit s o (e .1)) m
 
 -- the trips of an index, with every entity's record at its keys, over old ones
 abbrev pub withEntities : List ℕ → List ℕ → Trips → Trips
-withEntities feed s m = puts texts (entries feed (rep 2 (messageOf s))) m
+withEntities feed s m = puts texts (entries feed (rep 2 (messageTree s))) m
 
 -- every entity is applied to the index m, whatever the old overlay o is; above 2,048 keys are too many, whatever follows
 pub record Indexed (feed s : List ℕ) (m : List (List ℕ × Place)) (keys marks order : List ℕ) (r : ℕ) : Type 0 where
-  pub sound : Sound keys marks order r
+  pub sound : SoundIndex keys marks order r
   pub few : r ≤ 2048 → (o : List ℕ) → held s o (index keys marks order r) ≡ withEntities feed s (held s o m)
   pub many : 2048 < r → (o : List ℕ) → 2048 < length (withEntities feed s (held s o m))
   pub fit : r ≤ 2048 → (o : List ℕ) → AllFit s o m → AllFit s o (index keys marks order r)

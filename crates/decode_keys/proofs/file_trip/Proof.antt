@@ -9,7 +9,7 @@ pub file-trip-spec : {M : Type 1} → statement M
 file-trip-spec =
     tie.close
     (tie.spec
-    (λ c. let a = c .before .before .before .before .before .before .before .before .before .args in enters-none (a .feed .now) (a .s .now) (a .t) (c .before .before .before .before .before .before .before .before .before .pre .1 .1) (a .from) (a .till) (c .before .before .before .before .before .before .before .before .before .pre .0) (c .before .before .before .before .before .before .before .before .before .pre .1 .0 .0) (c .before .before .if1 .taken) (c .if2 .taken))
+    (λ c. let a = c .before .before .before .before .before .before .before .before .before .args in enters-none (a .feed .now) (a .s .now) (a .t) (c .before .before .before .before .before .before .before .before .before .pre .1 .1) (a .from) (a .to) (c .before .before .before .before .before .before .before .before .before .pre .0) (c .before .before .before .before .before .before .before .before .before .pre .1 .0 .0) (c .before .before .if1 .taken) (c .if2 .taken))
     (λ c κs. search needs)
     (λ c. search needs)
     (λ c. search needs)

@@ -10,24 +10,24 @@ use Rattle.realtime.specs.Tree.{Tree, tree}
 use Rattle.realtime.specs.Schema.{feedEntity}
 use Rattle.realtime.specs.Schema as schema
 use Rattle.realtime_views.specs.declared.Trip.{Trip}
-use Rattle.decode.specs.Map.{put, puts}
-use Rattle.decode.specs.Order.{texts}
+use Rattle.maps.specs.Map.{put, puts}
+use Rattle.maps.specs.Order.{texts}
 use Rattle.decode_slots.specs.Index.{Place, index}
-use Rattle.decode_slots.specs.promises.Index.{Sound}
+use Rattle.decode_slots.specs.promises.Index.{SoundIndex}
 use Rattle.decode.specs.Trip as held
-use Rattle.decode.specs.Record.{maybe}
+use Rattle.basics.specs.Options.{maybe}
 use Rattle.decode.specs.Key.{inserts, entriesIn}
 use Rattle.decode.specs.Leaves.{Trips}
 
 -- key k has gone into the index with its place: the map, and how many slots are in use
-pub record Filed (keys marks order : List ℕ) (n : ℕ) (k : List ℕ) (from till : ℕ) (keys′ marks′ order′ : List ℕ) (r : ℕ) : Type 0 where
-  pub map : index keys′ marks′ order′ r ≡ put texts k (from, till) (index keys marks order n)
-  pub sound : Sound keys′ marks′ order′ r
+pub record Filed (keys marks order : List ℕ) (n : ℕ) (k : List ℕ) (from to : ℕ) (keys′ marks′ order′ : List ℕ) (r : ℕ) : Type 0 where
+  pub map : index keys′ marks′ order′ r ≡ put texts k (from, to) (index keys marks order n)
+  pub sound : SoundIndex keys′ marks′ order′ r
 
 -- entries, each with a place for its record
-abbrev pub placed : Place → Trips → List (List ℕ × Place)
-placed p [] = []
-placed p (e ∷ l) = (e .0, p) ∷ placed p l
+abbrev pub placedAt : Place → Trips → List (List ℕ × Place)
+placedAt p [] = []
+placedAt p (e ∷ l) = (e .0, p) ∷ placedAt p l
 
 -- record u has what the keys of an entity are made of
 pub record Agrees (s : List ℕ) (t : Trip) (u : held.Trip) : Type 0 where
@@ -37,17 +37,17 @@ pub record Agrees (s : List ℕ) (t : Trip) (u : held.Trip) : Type 0 where
   pub time : spanIn s (t .time) ≡ held.timeOf u
 
 -- the index after an entity's entries, with their place
-abbrev pub entered : List ℕ → List ℕ → Trip → held.Trip → Place → List (List ℕ × Place) → List (List ℕ × Place)
-entered feed s t u p m = puts texts (placed p (inserts feed (spanIn s (t .id)) u)) m
+abbrev pub enteredIndex : List ℕ → List ℕ → Trip → held.Trip → Place → List (List ℕ × Place) → List (List ℕ × Place)
+enteredIndex feed s t u p m = puts texts (placedAt p (inserts feed (spanIn s (t .id)) u)) m
 
 -- all keys of an entity have gone into the index with its place; above 2,048 are too many, whatever follows
-pub record Entered (feed s : List ℕ) (t : Trip) (from till : ℕ) (keys marks order : List ℕ) (n : ℕ) (keys′ marks′ order′ : List ℕ) (r : ℕ) : Type 0 where
-  pub sound : Sound keys′ marks′ order′ r
-  pub few : r ≤ 2048 → (u : held.Trip) → Agrees s t u → index keys′ marks′ order′ r ≡ entered feed s t u (from, till) (index keys marks order n)
-  pub many : 2048 < r → (u : held.Trip) → Agrees s t u → 2048 < length (entered feed s t u (from, till) (index keys marks order n))
+pub record Entered (feed s : List ℕ) (t : Trip) (from to : ℕ) (keys marks order : List ℕ) (n : ℕ) (keys′ marks′ order′ : List ℕ) (r : ℕ) : Type 0 where
+  pub sound : SoundIndex keys′ marks′ order′ r
+  pub few : r ≤ 2048 → (u : held.Trip) → Agrees s t u → index keys′ marks′ order′ r ≡ enteredIndex feed s t u (from, to) (index keys marks order n)
+  pub many : 2048 < r → (u : held.Trip) → Agrees s t u → 2048 < length (enteredIndex feed s t u (from, to) (index keys marks order n))
 
 -- an entity that is not broken, with texts as long as question 5 lets them be
-pub record Fine (s : List ℕ) (start len : ℕ) : Type 0 where
+pub record FineEntity (s : List ℕ) (start len : ℕ) : Type 0 where
   pub entity : Tree
   pub read : tree schema.feed feedEntity (take len (drop start s)) ≡ some entity
   pub id : length (trip entity .id) ≤ 64
@@ -57,13 +57,13 @@ pub record Fine (s : List ℕ) (start len : ℕ) : Type 0 where
 
 -- the index after an entity's entries, with its place
 abbrev pub applied : List ℕ → Tree → Place → List (List ℕ × Place) → List (List ℕ × Place)
-applied feed e p m = puts texts (placed p (entriesIn feed e)) m
+applied feed e p m = puts texts (placedAt p (entriesIn feed e)) m
 
 -- an entity is applied: above 2,048 keys are too many, whatever follows
-pub record Applied (feed : List ℕ) (e : Tree) (from till : ℕ) (keys marks order : List ℕ) (n : ℕ) (keys′ marks′ order′ : List ℕ) (r : ℕ) : Type 0 where
-  pub few : r ≤ 2048 → index keys′ marks′ order′ r ≡ applied feed e (from, till) (index keys marks order n)
-  pub many : 2048 < r → 2048 < length (applied feed e (from, till) (index keys marks order n))
+pub record Applied (feed : List ℕ) (e : Tree) (from to : ℕ) (keys marks order : List ℕ) (n : ℕ) (keys′ marks′ order′ : List ℕ) (r : ℕ) : Type 0 where
+  pub few : r ≤ 2048 → index keys′ marks′ order′ r ≡ applied feed e (from, to) (index keys marks order n)
+  pub many : 2048 < r → 2048 < length (applied feed e (from, to) (index keys marks order n))
 
 pub record Applies (feed s : List ℕ) (start len : ℕ) (keys marks order : List ℕ) (n : ℕ) (keys′ marks′ order′ : List ℕ) (r : ℕ) : Type 0 where
-  pub sound : Sound keys′ marks′ order′ r
+  pub sound : SoundIndex keys′ marks′ order′ r
   pub of : (e : Tree) → tree schema.feed feedEntity (take len (drop start s)) ≡ some e → Applied feed e start (start + len) keys marks order n keys′ marks′ order′ r

@@ -4,14 +4,14 @@ use mathlib.Core.Path.{_≡_}
 use mathlib.Core.Bool.{false}
 use mathlib.Core.List.{List, []}
 use lib.ListN.{length}
-use Rattle.formats.specs.Readers.{All}
+use Rattle.basics.specs.Lists.{All}
 use Rattle.formats.specs.Format.{list, Value}
 use Rattle.formats_read.specs.promises.Here.{Here}
 use Rattle.decode.specs.Trip.{trip, tripEntry}
-use Rattle.decode.specs.Map.{puts}
-use Rattle.decode.specs.Order.{texts}
+use Rattle.maps.specs.Map.{puts}
+use Rattle.maps.specs.Order.{texts}
 use Rattle.decode_slots.specs.Index.{index}
-use Rattle.decode_slots.specs.promises.Index.{Sound}
+use Rattle.decode_slots.specs.promises.Index.{SoundIndex}
 use Rattle.decode_keys.specs.promises.Entity.{Filed}
 use Rattle.decode.specs.Leaves.{Trips}
 use Rattle.decode_slots.specs.Places.{beyond, isNew, held}
@@ -27,7 +27,7 @@ pub record Stands (o : List ℕ) (at : ℕ) : Type 0 where
 
 -- THE OLD TRIPS HAVE JOINED: the index holds them, whatever the message, and nothing else. Those of a state ascend, and then `puts texts v []` is v
 pub record Joined (o : List ℕ) (at : ℕ) (keys marks order : List ℕ) (r : ℕ) : Type 0 where
-  pub sound : Sound keys marks order r
+  pub sound : SoundIndex keys marks order r
   pub few : r ≤ 2048
   pub aged : All (λ e. isNew (e .1) ≡ false) (index keys marks order r)
   pub of : (v : Trips) (q : ℕ) → Here (list 2048 tripEntry) o at q v → (s : List ℕ) → held s o (index keys marks order r) ≡ puts texts v []
@@ -48,7 +48,7 @@ pub record Passes (o : List ℕ) (p : ℕ) (keys marks order : List ℕ) (n : �
 
 -- the entries us have joined
 pub record Filled (o keys marks order : List ℕ) (n : ℕ) (us : Trips) : Type 0 where
-  pub sound : Sound keys marks order n
+  pub sound : SoundIndex keys marks order n
   pub few : n ≤ length us
   pub aged : All (λ e. isNew (e .1) ≡ false) (index keys marks order n)
   pub holds : (s : List ℕ) → held s o (index keys marks order n) ≡ puts texts us []

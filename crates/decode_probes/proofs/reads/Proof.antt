@@ -2,7 +2,7 @@
 use borrow.Author.Needs.{needs}
 use denote.Ref.{now}
 use mathlib.Core.Path.{ap, _∙_}
-use Rattle.slices.specs.Lists.{equal}
+use Rattle.basics.specs.Texts.{same}
 use Rattle.decode_probes.proofs.reads.Statement.{statement}
 use Rattle.decode_probes.proofs.reads.Tie as tie
 
@@ -12,4 +12,4 @@ reads-spec =
     (tie.spec
     (λ c κs. search needs)
     (λ c κs. search needs)
-    (λ c. c .same .ensures ∙ ap (λ y. equal y (now (c .before .before .before .before .args .x))) (c .before .part .ensures)))
+    (λ c. c .same .ensures ∙ ap (λ y. same y (now (c .before .before .before .before .args .x))) (c .before .part .ensures)))

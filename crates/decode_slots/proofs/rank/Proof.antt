@@ -5,9 +5,9 @@ use Prim.Native.Nat.{_+_, _-_, _/_, _≤_, _<_}
 use native.Mathlib.Omega.{arith}
 use lib.ListN.{getD}
 use Rattle.slices.specs.Lists.{lexOf}
-use Rattle.decode.specs.Map.{isMore}
-use Rattle.decode.specs.Order.{texts}
-use Rattle.decode_slots.specs.Index.{keyAt, index}
+use Rattle.maps.specs.Map.{isMore}
+use Rattle.maps.specs.Order.{texts}
+use Rattle.decode_slots.specs.Index.{slotKey, index}
 use Rattle.decode_slots.specs.promises.Index.{keyIn, rankOf}
 use Rattle.decode_slots.proofs.Ranks.{rank-within, rank-more, rank-else, slot-below}
 use Rattle.decode_slots.proofs.rank.Statement.{statement}
@@ -42,14 +42,14 @@ rank-spec =
     (λ c. let a = c .before .before .before .before .before .before .before .before .before .args in
     let k = keyIn (a .keys .now) (a .n) (a .len) in
     let mid = c .before .before .before .before .before .loop .lo + (c .before .before .before .before .before .loop .hi - c .before .before .before .before .before .loop .lo) / 2 in
-    let e : isMore (lexOf k (keyAt (a .keys .now) (a .marks .now) (getD (a .order .now) mid 0))) ≡ true = cc in
+    let e : isMore (lexOf k (slotKey (a .keys .now) (a .marks .now) (getD (a .order .now) mid 0))) ≡ true = cc in
     let h = rank-more (a .keys .now) (a .marks .now) (a .order .now) (a .n) (c .before .before .before .before .before .before .before .before .before .pre .0) k mid (omega arith) e in
     (omega arith, omega arith, omega arith))
     (λ c. omega arith)
     (λ c. let a = c .before .before .before .before .before .before .before .before .before .args in
     let k = keyIn (a .keys .now) (a .n) (a .len) in
     let mid = c .before .before .before .before .before .loop .lo + (c .before .before .before .before .before .loop .hi - c .before .before .before .before .before .loop .lo) / 2 in
-    let e : isMore (lexOf k (keyAt (a .keys .now) (a .marks .now) (getD (a .order .now) mid 0))) ≡ false = cc in
+    let e : isMore (lexOf k (slotKey (a .keys .now) (a .marks .now) (getD (a .order .now) mid 0))) ≡ false = cc in
     let h = rank-else (a .keys .now) (a .marks .now) (a .order .now) (a .n) (c .before .before .before .before .before .before .before .before .before .pre .0) k mid (omega arith) e in
     (omega arith, omega arith, omega arith))
     (λ c. omega arith))

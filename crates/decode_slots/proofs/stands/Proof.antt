@@ -5,8 +5,8 @@ use Prim.Native.Nat.{_<_}
 use native.Mathlib.Omega.{arith}
 use borrow.Author.Tests.{lt-ltb, le-ltb}
 use Rattle.slices.specs.Lists.{lexOf}
-use Rattle.decode.specs.Map.{isSame}
-use Rattle.decode_slots.specs.Index.{keyAt}
+use Rattle.maps.specs.Map.{isSame}
+use Rattle.decode_slots.specs.Index.{slotKey}
 use Rattle.decode_slots.specs.promises.Index.{keyIn}
 use Rattle.decode_slots.proofs.Ranks.{slot-below}
 use Rattle.decode_slots.proofs.stands.Statement.{statement}
@@ -27,4 +27,4 @@ stands-spec =
     (λ c κs. search needs)
     (λ c. let a = c .before .before .before .before .before .before .before .args in
     rw (lt-ltb (a .r) (a .n) (omega arith))
-    (c .is-same .ensures ∙ ap isSame (c .before .key-order .ensures) ∙ ap (λ j. isSame (lexOf (keyIn (a .keys .now) (a .n) (a .len)) (keyAt (a .keys .now) (a .marks .now) j))) (c .before .before .word .ensures))))
+    (c .is-same .ensures ∙ ap isSame (c .before .key-order .ensures) ∙ ap (λ j. isSame (lexOf (keyIn (a .keys .now) (a .n) (a .len)) (slotKey (a .keys .now) (a .marks .now) j))) (c .before .before .word .ensures))))

@@ -5,13 +5,13 @@ use mathlib.Core.Path.{_≡_}
 use mathlib.Core.Bool.{true}
 use mathlib.Core.List.{List, [], _∷_, _++_}
 use lib.ListN.{length, getD, take, drop, set}
-use Rattle.formats.specs.Readers.{All}
-use Rattle.decode.specs.Map.{Ordered, byOrder, put, ascending}
-use Rattle.decode.specs.Order.{texts}
+use Rattle.basics.specs.Lists.{All}
+use Rattle.maps.specs.Map.{Ordered, byOrder, put, ascending}
+use Rattle.maps.specs.Order.{texts}
 use Rattle.decode_slots.specs.Index.{index}
 
 -- the slices have their lengths, with room for one key more than a feed may have, and the first n slots are in use
-pub record Sound (keys marks order : List ℕ) (n : ℕ) : Type 0 where
+pub record SoundIndex (keys marks order : List ℕ) (n : ℕ) : Type 0 where
   pub counted : n ≤ 2049
   pub ordered : length order ≡ 2049
   pub marked : length marks ≡ 6147
@@ -36,9 +36,9 @@ inserted a at end v = take at a ++ v ∷ (take (end - at) (drop at a) ++ drop (e
 
 -- the place of a slot becomes another
 abbrev pub remarked : List ℕ → ℕ → ℕ → ℕ → List ℕ
-remarked marks j from till = set (set marks (3 * j + 1) from) (3 * j + 2) till
+remarked marks j from to = set (set marks (3 * j + 1) from) (3 * j + 2) to
 
 -- after the key in slot n has gone in at its place: the map, and how many slots are in use
-pub record Settled (keys marks order : List ℕ) (n len from till : ℕ) (marks′ order′ : List ℕ) (r : ℕ) : Type 0 where
-  pub map : index keys marks′ order′ r ≡ put texts (keyIn keys n len) (from, till) (index keys marks order n)
-  pub sound : Sound keys marks′ order′ r
+pub record Settled (keys marks order : List ℕ) (n len from to : ℕ) (marks′ order′ : List ℕ) (r : ℕ) : Type 0 where
+  pub map : index keys marks′ order′ r ≡ put texts (keyIn keys n len) (from, to) (index keys marks order n)
+  pub sound : SoundIndex keys marks′ order′ r

@@ -25,4 +25,4 @@ line-spec =
     (λ c κs. search needs)
     (λ c. search needs)
     (λ c. let a = c .before .before .before .before .before .before .before .before .before .before .before .before .before .args in
-    c .before .before .insert3 .ensures ∙ ap (λ u. inserted u (3 * a .r + 2) (3 * a .n + 2) (a .till)) (c .before .before .before .before .before .before .insert2 .ensures ∙ ap (λ u. inserted u (3 * a .r + 1) (3 * a .n + 1) (a .from)) (c .before .before .before .before .before .before .before .before .before .before .insert .ensures))))
+    c .before .before .insert3 .ensures ∙ ap (λ u. inserted u (3 * a .r + 2) (3 * a .n + 2) (a .to)) (c .before .before .before .before .before .before .insert2 .ensures ∙ ap (λ u. inserted u (3 * a .r + 1) (3 * a .n + 1) (a .from)) (c .before .before .before .before .before .before .before .before .before .before .insert .ensures))))

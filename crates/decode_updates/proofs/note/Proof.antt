@@ -14,9 +14,9 @@ note-spec =
     (λ c κs. let h = rank-most (c .before .before .before .before .before .before .before .args .updates .now) (c .before .before .before .before .before .before .before .args .n) (c .before .before .before .before .before .before .before .pre .0) (c .before .before .before .before .before .before .before .args .sequence) in omega (arith, c .before .before .before .before .place-of .ensures, c .before .before .before .before .before .before .before .pre .0 .long, c .before .before .before .before .before .before .before .pre .1))
     (λ c. search needs)
     (λ c. let a = c .before .before .before .before .before .before .before .before .before .before .args in
-    notes-over (a .updates .now) (a .n) (c .before .before .before .before .before .before .before .before .before .before .pre .0) (a .sequence) (c .before .before .before .before .before .before .before .place-of .result) (a .from) (a .till) (c .before .before .before .before .before .is-at .result) (c .before .before .mark .last .0) (c .before .before .before .before .before .before .before .place-of .ensures) (c .before .before .before .before .before .is-at .ensures) (c .before .before .before .before .if1 .taken) (c .before .before .mark .ensures))
+    notes-over (a .updates .now) (a .n) (c .before .before .before .before .before .before .before .before .before .before .pre .0) (a .sequence) (c .before .before .before .before .before .before .before .place-of .result) (a .from) (a .to) (c .before .before .before .before .before .is-at .result) (c .before .before .mark .last .0) (c .before .before .before .before .before .before .before .place-of .ensures) (c .before .before .before .before .before .is-at .ensures) (c .before .before .before .before .if1 .taken) (c .before .before .mark .ensures))
     (λ c κs. let h = rank-most (c .before .before .before .before .before .before .before .args .updates .now) (c .before .before .before .before .before .before .before .args .n) (c .before .before .before .before .before .before .before .pre .0) (c .before .before .before .before .before .before .before .args .sequence) in (omega (arith, c .before .before .before .before .place-of .ensures), c .before .before .before .before .before .before .before .pre .1, c .before .before .before .before .before .before .before .pre .0 .long))
     (λ c. search needs)
     (λ c. search needs)
     (λ c. let a = c .before .before .before .before .before .before .before .before .before .before .args in
-    notes-into (a .updates .now) (a .n) (c .before .before .before .before .before .before .before .before .before .before .pre .0) (a .sequence) (a .from) (a .till) (c .before .before .before .before .before .before .before .place-of .result) (c .before .before .before .before .before .is-at .result) (c .before .before .line .last .0) (c .before .before .before .before .before .before .before .place-of .ensures) (c .before .before .before .before .before .is-at .ensures) (c .before .before .before .before .if1 .left) (c .before .before .before .before .before .before .before .before .before .before .pre .1) (c .before .before .line .ensures)))
+    notes-into (a .updates .now) (a .n) (c .before .before .before .before .before .before .before .before .before .before .pre .0) (a .sequence) (a .from) (a .to) (c .before .before .before .before .before .before .before .place-of .result) (c .before .before .before .before .before .is-at .result) (c .before .before .line .last .0) (c .before .before .before .before .before .before .before .place-of .ensures) (c .before .before .before .before .before .is-at .ensures) (c .before .before .before .before .if1 .left) (c .before .before .before .before .before .before .before .before .before .before .pre .1) (c .before .before .line .ensures)))

@@ -1,7 +1,7 @@
 -- `decode_updates::place_of`: the rank is at most r. Assumes nothing.
 use Prim.Native.Nat.{_-_, _≤_}
 use native.Mathlib.Omega.{arith}
-use Rattle.decode.specs.Order.{numbers}
+use Rattle.maps.specs.Order.{numbers}
 use Rattle.decode_slots.specs.promises.Index.{rankOf}
 use Rattle.decode_updates.specs.Line.{laid}
 use Rattle.decode_updates.proofs.Noting.{rank-most, rank-down, rank-up}

@@ -10,21 +10,22 @@ use Rattle.realtime.specs.Tree.{Tree, tree, sub, rep}
 use Rattle.realtime.specs.Schema.{feedEntity}
 use Rattle.realtime.specs.Schema as schema
 use Rattle.decode.specs.Record.{updatesIn, tripIn}
-use Rattle.decode_slots.specs.Index.{placeAt}
+use Rattle.decode_slots.specs.Index.{slotPlace}
 use Rattle.decode_updates.specs.Line.{laid}
 use Rattle.decode_updates.specs.promises.Line.{Lined}
-use Rattle.decode_slots.specs.Places.{recordAt, isNew, Readable, crowded}
+use Rattle.decode_slots.specs.Places.{recordAt, isNew, crowded}
+use Rattle.decode_slots.specs.promises.Places.{Readable}
 use Rattle.decode_updates.specs.Updates.{updatesAt}
 
 -- the first r places of u are those of the updates of entity e; above 128 are too many, whatever follows
-pub record Holds (s u : List ℕ) (r : ℕ) (e : Tree) : Type 0 where
+pub record HoldsUpdates (s u : List ℕ) (r : ℕ) (e : Tree) : Type 0 where
   pub few : r ≤ 128 → updatesAt s (laid r u) ≡ updatesIn e
   pub many : 128 < r → 128 < length (updatesIn e)
 
 -- THE UPDATES of the entity in `len` bytes at `start`
-pub record Listed (s : List ℕ) (start len : ℕ) (u : List ℕ) (r : ℕ) : Type 0 where
+pub record ListedUpdates (s : List ℕ) (start len : ℕ) (u : List ℕ) (r : ℕ) : Type 0 where
   pub lined : Lined u r
-  pub of : (e : Tree) → tree schema.feed feedEntity (take len (drop start s)) ≡ some e → Holds s u r e
+  pub of : (e : Tree) → tree schema.feed feedEntity (take len (drop start s)) ≡ some e → HoldsUpdates s u r e
 
 -- THE ANSWER r of how many there are, before a later one at a sequence is over an earlier one; above 128 it is 129
 pub record Counted (s : List ℕ) (start len : ℕ) (r : ℕ) : Type 0 where
@@ -36,11 +37,11 @@ pub record CrowdedRead (s : List ℕ) (start len : ℕ) (r : Bool) : Type 0 wher
 
 -- a slot of the index whose record, where it is of the message, is not broken
 abbrev pub ReadableSlot : List ℕ → List ℕ → ℕ → Type 0
-ReadableSlot s marks j = (j < 2049) × (isNew (placeAt marks j) ≡ true → Readable s (placeAt marks j))
+ReadableSlot s marks j = (j < 2049) × (isNew (slotPlace marks j) ≡ true → Readable s (slotPlace marks j))
 
 -- whether a slot's record is of the message, and has more than 128 updates
 abbrev pub crowdedSlot : List ℕ → List ℕ → ℕ → Bool
-crowdedSlot s marks j = isNew (placeAt marks j) && crowded (recordAt s (placeAt marks j))
+crowdedSlot s marks j = isNew (slotPlace marks j) && crowded (recordAt s (slotPlace marks j))
 
 -- WHETHER ONE OF THE SLOTS has such a record
 unfoldable pub crowdedIn : List ℕ → List ℕ → List ℕ → Bool

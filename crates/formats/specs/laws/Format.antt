@@ -9,8 +9,10 @@ use native.Mathlib.Omega.{arith}
 use lib.ListN.{length, length-append}
 use lib.Dec.{leb}
 use borrow.Author.Tests.{ltb-true}
-use Rattle.formats.specs.Readers.{bytesR, manyW, manyR, All}
-use Rattle.formats.specs.laws.Law.{Law, none-some, emptyLaw, pairLaw, mapLaw, onlyLaw, constLaw, choiceLaw, bytesLaw, manyLaw, countedLaw}
+use Rattle.formats.specs.Readers.{bytesR, manyW, manyR}
+use Rattle.basics.specs.Lists.{All}
+use Rattle.formats.specs.laws.Law.{Law, emptyLaw, pairLaw, mapLaw, onlyLaw, constLaw, choiceLaw, bytesLaw, manyLaw, countedLaw}
+use Rattle.basics.specs.laws.Options.{none-some}
 use Rattle.formats.specs.Number.{zig, zag}
 use Rattle.formats.specs.laws.Number.{numberLaw, number-some, zag-zig, zig-zag, littleLaw}
 use Rattle.formats.specs.Format.{Format, never, empty, number, signed, small, text, float, constant, list, choice, _&_, Value, write, takes, read, Fits, element}

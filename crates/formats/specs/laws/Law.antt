@@ -11,15 +11,14 @@ use lib.ListN.{length, length-append, take-append-drop}
 use lib.Seq.{take-append-seam, drop-append-seam, length-take-le}
 use lib.Dec.{leb, eqb}
 use borrow.Author.Tests.{le-leb, leb-true, eqb-true, eq-eqb}
-use Rattle.formats.specs.Readers.{Reader, bind, pairW, pairR, mapR, onlyR, constR, choiceW, choiceR, choiceOk, bytesR, manyW, manyR, All, countedR}
+use Rattle.formats.specs.Readers.{Reader, bind, pairW, pairR, mapR, onlyR, constR, choiceW, choiceR, choiceOk, bytesR, manyW, manyR, countedR}
+use Rattle.basics.specs.Lists.{All}
+use Rattle.basics.specs.laws.Lists.{headed}
+use Rattle.basics.specs.laws.Options.{none-some}
 
 pub record Law {A : Type 0} (w : A → List ℕ) (r : Reader A) (ok : A → Type 0) : Type 0 where
   pub there : (v : A) (rest : List ℕ) → ok v → r (w v ++ rest) ≡ some (v, rest)
   pub back : (s : List ℕ) (v : A) (rest : List ℕ) → r s ≡ some (v, rest) → (s ≡ w v ++ rest) × ok v
-
--- taking a reader's outcome apart
-pub none-some : {A : Type 0} {C : Type 0} {a : A} → none ≡ some a → C
-none-some {A} {C} {a} e = absurd (let z : _≡_ {A = ℕ} 0 1 = cc in omega arith)
 
 pub bind-some : {A B : Type 0} (o : Option (A × List ℕ)) (k : A → List ℕ → Option (B × List ℕ)) (q : B × List ℕ)
     → bind o k ≡ some q → (p : A × List ℕ) × (o ≡ some p) × (k (p .0) (p .1) ≡ some q)
@@ -36,9 +35,6 @@ unsome {a} {b} e = cc
 -- what holds of what was found holds of what the outcome says
 pub found : {A : Type 0} {x v : A} {t rest : List ℕ} (P : A → List ℕ → Type 0) → _≡_ {A = Option (A × List ℕ)} (some (x, t)) (some (v, rest)) → P x t → P v rest
 found {A} P e p = subst (λ (q : A × List ℕ). P (q .0) (q .1)) (unsome e) p
-
-pub headed : {a b : ℕ} {s t : List ℕ} → a ≡ b → s ≡ t → a ∷ s ≡ b ∷ t
-headed p q = cc
 
 -- nothing at all
 pub emptyLaw : Law {A = Unit {0}} (λ v. []) (λ s. some (tt, s)) (λ v. Unit {0})

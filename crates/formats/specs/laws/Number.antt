@@ -11,7 +11,9 @@ use lib.IntN.{ℤ, pos, negsuc}
 use lib.ListN.{length}
 use lib.Dec.{ltb, eqb}
 use borrow.Author.Tests.{lt-ltb, le-ltb, ltb-true, ltb-false, eqb-true, eqb-false, eq-eqb, ne-eqb}
-use Rattle.formats.specs.laws.Law.{Law, bind-some, cond-some, none-some, found, headed}
+use Rattle.formats.specs.laws.Law.{Law, bind-some, cond-some, found}
+use Rattle.basics.specs.laws.Options.{none-some}
+use Rattle.basics.specs.laws.Lists.{headed}
 use Rattle.formats.specs.Number.{top, groupsW, groupsR, numberW, numberR, zig, zag, littleW, littleR}
 
 top-pos : (k : ℕ) → 0 < top k

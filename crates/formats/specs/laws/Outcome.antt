@@ -1,4 +1,4 @@
--- Law. What a reader finds, as a place in the whole: how the interpreter's answers are said.
+-- Law. A reader's answer as a place: what is left is a suffix of what was read.
 use mathlib.Core.Path.{_≡_, refl, sym, ap, _∙_}
 use mathlib.Core.List.{List, _++_, append-assoc}
 use mathlib.Core.Option.{Option, none, some}

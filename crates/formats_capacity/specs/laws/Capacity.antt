@@ -11,11 +11,12 @@ use lib.IntN.{ℤ, pos, negsuc}
 use lib.ListN.{length, length-append, replicate, length-replicate}
 use lib.Dec.{leb, ltb, eqb}
 use borrow.Author.Tests.{ltb-true, ltb-false, le-leb, leb-true, leb-false}
-use Rattle.formats.specs.Readers.{manyW, All}
+use Rattle.formats.specs.Readers.{manyW}
+use Rattle.basics.specs.Lists.{All, all}
 use Rattle.formats.specs.Number.{groupsW, numberW, zig, littleW}
-use Rattle.formats.specs.Class.{Class, any, printable, token, utf8, all, allowed, sequences, inClass}
+use Rattle.formats.specs.Class.{Class, any, printable, token, utf8, allowed, sequences, inClass}
 use Rattle.formats.specs.Format.{Format, never, empty, number, signed, small, text, float, constant, list, choice, _&_, optional, Value, write, takes, Fits}
-use Rattle.formats_judge.specs.Judged.{atMost, put, ok}
+use Rattle.formats_judge.specs.Judged.{atMost, forQuestion, ok}
 
 -- how many bytes a number takes
 abbrev pub size : ℕ → ℕ
@@ -115,7 +116,7 @@ capacity-bounds float v h k = omega (arith, little-size 8 v)
 capacity-bounds (constant c) v h k = omega arith
 capacity-bounds (list l f) v h k =
     let n = leb-true (length v) l (left (leb (length v) l) (all (ok 7 f) v) (k 7 (omega arith) (omega arith))) in
-    let b = many-size f (capacity f) (capacity-bounds f) v (h .1) (λ q i j. right (put q 7 (leb (length v) l)) (all (ok q f) v) (k q i j)) in
+    let b = many-size f (capacity f) (capacity-bounds f) v (h .1) (λ q i j. right (forQuestion q 7 (leb (length v) l)) (all (ok q f) v) (k q i j)) in
     rw length-append (omega (arith, b, mul-le-mul-right (capacity f) n, size-mono (length v) l n))
 capacity-bounds (choice a b) (inl x) h k = omega (arith, capacity-bounds a x h k, larger-left (capacity a) (capacity b))
 capacity-bounds (choice a b) (inr y) h k = omega (arith, capacity-bounds b y h k, larger-right (capacity a) (capacity b))
@@ -128,11 +129,11 @@ capacity-bounds (a & b) v h k =
     ))
 
 -- whether the limits of a format can be met at once: a test that computes
-abbrev pub filled : Class → ℕ → Bool
-filled any l = true
-filled printable l = true
-filled token l = ltb 0 l
-filled utf8 l = true
+abbrev pub classFilled : Class → ℕ → Bool
+classFilled any l = true
+classFilled printable l = true
+classFilled token l = ltb 0 l
+classFilled utf8 l = true
 
 abbrev pub attained : Format → Bool
 attained never = false
@@ -140,7 +141,7 @@ attained empty = true
 attained (number lo hi) = leb lo hi && ltb hi (2 ^ 64)
 attained (signed lo hi) = atMost lo hi && (ltb (zig lo) (2 ^ 64) && ltb (zig hi) (2 ^ 64))
 attained (small k) = ltb k (2 ^ 64)
-attained (text l c) = ltb l (2 ^ 64) && filled c l
+attained (text l c) = ltb l (2 ^ 64) && classFilled c l
 attained float = true
 attained (constant c) = true
 attained (list l f) = ltb l (2 ^ 64) && (attained f && ltb 0 (capacity f))
@@ -156,7 +157,7 @@ pub record Largest (f : Format) : Type 0 where
 both : (x y : Bool) → x ≡ true → y ≡ true → (x && y) ≡ true
 both x y e f = rw (e, f) refl
 
-put-yes : (q m : ℕ) (x : Bool) → x ≡ true → put q m x ≡ true
+put-yes : (q m : ℕ) (x : Bool) → x ≡ true → forQuestion q m x ≡ true
 put-yes q m x e = rw e (go (eqb q m))
   where
     go : (t : Bool) → cond t true true ≡ true
@@ -186,7 +187,7 @@ utf8-letters : (l : ℕ) → sequences (replicate l 97) [] ≡ true
 utf8-letters zero = refl
 utf8-letters (suc l) = utf8-letters l
 
-class-letters : (c : Class) (l : ℕ) → filled c l ≡ true → inClass c (replicate l 97) ≡ true
+class-letters : (c : Class) (l : ℕ) → classFilled c l ≡ true → inClass c (replicate l 97) ≡ true
 class-letters any l e = refl
 class-letters printable l e = all-same 97 (allowed printable) refl l
 class-letters token zero e = absurd (false≢true e)

@@ -9,12 +9,13 @@ use lib.IntN.{ℤ, pos, negsuc}
 use lib.ListN.{length}
 use lib.Dec.{leb, ltb}
 use borrow.Author.Tests.{lt-ltb, ltb-true, le-leb, leb-true}
-use Rattle.formats.specs.Readers.{All, choiceOk}
+use Rattle.formats.specs.Readers.{choiceOk}
+use Rattle.basics.specs.Lists.{All, all}
 use Rattle.formats.specs.Number.{zig}
-use Rattle.formats.specs.Class.{all, inClass}
+use Rattle.formats.specs.Class.{inClass}
 use Rattle.formats.specs.Format.{Format, never, empty, number, signed, small, text, float, constant, list, choice, _&_, Value, write, takes, Fits}
 use Rattle.formats.specs.laws.Format.{nonempty, takes-nonempty}
-use Rattle.formats_judge.specs.Judged.{atMost, put, ok}
+use Rattle.formats_judge.specs.Judged.{atMost, forQuestion, ok}
 use Rattle.formats_capacity.specs.laws.Capacity.{Keeps, capacity, capacity-bounds, left, right}
 
 abbrev pub sensible : Format → Bool
@@ -85,7 +86,7 @@ keeps-fits (list l f) e v h k =
         ltb-true l (2 ^ 64) (left (ltb l (2 ^ 64)) (sensible f && nonempty f) e),
       ),
       many-fit f (keeps-fits f (left (sensible f) (nonempty f) s)) (right (sensible f) (nonempty f) s) v h
-          (λ q i j. right (put q 7 (leb (length v) l)) (all (ok q f) v) (k q i j)),
+          (λ q i j. right (forQuestion q 7 (leb (length v) l)) (all (ok q f) v) (k q i j)),
     )
 keeps-fits (choice a b) e (inl x) h k = keeps-fits a (left (sensible a) (sensible b) e) x h k
 keeps-fits (choice a b) e (inr y) h k = keeps-fits b (right (sensible a) (sensible b) e) y h k

@@ -1,5 +1,4 @@
--- Law. A list in which some values give way to others: to put one in, to replace one and to take one out are each a
--- case of it.
+-- Law. To put one in, to replace one and to take one out are each a case of the one edit.
 use mathlib.Core.Path.{_≡_, refl, sym, ap, _∙_}
 use mathlib.Core.List.{List, [], _∷_, _++_, append-nil}
 use Prim.Native.Nat.{ℕ, _+_, _-_, _≤_, _<_}

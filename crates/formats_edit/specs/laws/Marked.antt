@@ -1,4 +1,4 @@
--- Law. Texts of a slice that marks point at, in order; and a loop that writes them.
+-- Law. A loop that writes the texts that marks point at.
 use mathlib.Core.Path.{_≡_, refl, sym, ap, _∙_}
 use mathlib.Core.List.{List, [], _∷_, _++_}
 use Prim.Native.Nat.{ℕ, zero, suc, _+_, _≤_, _<_}

@@ -7,7 +7,7 @@ use borrow.Fn.Kinds.{In}
 use borrow.Fn.PlainCycle.{Measures, is, falls, and}
 use Rattle.formats.specs.promises.Outcome.{formatAt}
 use Rattle.formats.proofs.Passes.{count-within, tag-within}
-use Rattle.formats_judge.specs.promises.Judged.{judgeMany, after}
+use Rattle.formats_judge.specs.promises.Judged.{judgeMany, judgedAfter}
 use Rattle.formats_judge.proofs.Judging.{value-none, value-leaf, list-bad, list-over, list-good, choice-0, choice-1, choice-2, pair-bad, pair-bad-2, pair-good, value-never, judged-in, many-none, many-bad, many-flat, many-more}
 use Rattle.formats_judge.proofs.judge_many.Reads as judge-many
 use Rattle.formats_judge.proofs.judge_many.Kinds as judge-many-kinds
@@ -48,7 +48,7 @@ judge-value-below t =
 
 abbrev Inv-loop : judge-many-lts.InvT-loop
 Inv-loop t depth node n s at x p₀ left₀ found₀ p left found =
-    (p ≤ length s) × (after found (judgeMany (formatAt depth t node) left s p) ≡ after x (judgeMany (formatAt depth t node) n s at))
+    (p ≤ length s) × (judgedAfter found (judgeMany (formatAt depth t node) left s p) ≡ judgedAfter x (judgeMany (formatAt depth t node) n s at))
 
 abbrev μ-loop : judge-many-lts.MeasureT-loop
 μ-loop t depth node n s at x p₀ left₀ found₀ p left found = left

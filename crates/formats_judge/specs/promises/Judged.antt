@@ -5,18 +5,19 @@ use Prim.Native.Nat.{ℕ, zero, suc}
 use lib.ListN.{length, drop}
 use lib.Dec.{leb}
 use Rattle.formats.specs.Readers.{manyR}
-use Rattle.formats.specs.Class.{Class, inClass, all}
+use Rattle.formats.specs.Class.{Class, inClass}
+use Rattle.basics.specs.Lists.{all}
 use Rattle.formats.specs.Format.{Format, Value, element}
 use Rattle.formats_judge.specs.declared.Judge.{Judge}
 use Rattle.formats_judge.specs.declared.Judge.the-variants.{At, Broken}
-use Rattle.formats_judge.specs.Judged.{ok, answer, first, judged}
+use Rattle.formats_judge.specs.Judged.{ok, answer, firstNo, judged}
 
 -- a text, for every limit
 abbrev pub textAnswer : ℕ → Class → List ℕ → ℕ
 textAnswer limit c v = answer 5 (leb (length v) limit && inClass c v)
 
 abbrev pub verdicts : (f : Format) → List (Value f) → ℕ
-verdicts f v = first (all (ok 5 f) v) (all (ok 6 f) v) (all (ok 7 f) v)
+verdicts f v = firstNo (all (ok 5 f) v) (all (ok 6 f) v) (all (ok 7 f) v)
 
 -- of two verdicts the one that comes first, where 0 is none
 abbrev pub sooner : ℕ → ℕ → ℕ
@@ -28,6 +29,6 @@ abbrev pub judgeMany : Format → ℕ → List ℕ → ℕ → Judge
 judgeMany f n s at = judged (verdicts f) s (manyR (element f) n (drop at s))
 
 -- a verdict that was reached before, and what the judge answers
-abbrev pub after : ℕ → Judge → Judge
-after x Broken = Broken
-after x (At p y) = At p (sooner x y)
+abbrev pub judgedAfter : ℕ → Judge → Judge
+judgedAfter x Broken = Broken
+judgedAfter x (At p y) = At p (sooner x y)

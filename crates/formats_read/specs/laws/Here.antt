@@ -1,4 +1,4 @@
--- Law. A value of a format that stands at a place: its bytes, its parts, and what the interpreter answers there.
+-- Law. A value at a place, by its parts: where each stands, and what the interpreter answers there.
 use mathlib.Core.Path.{_≡_, refl, sym, ap, _∙_}
 use mathlib.Core.List.{List, [], _∷_, _++_, append-assoc}
 use mathlib.Core.Option.{some}

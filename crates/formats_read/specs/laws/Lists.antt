@@ -1,5 +1,4 @@
--- Law. Values of one format that stand one after another: the list they are, their bytes, and the place of the value
--- i.
+-- Law. A loop that reaches the value i of a list.
 use mathlib.Core.Path.{_≡_, refl, sym, ap, _∙_}
 use mathlib.Core.List.{List, [], _∷_, _++_, append-assoc, append-nil}
 use mathlib.Core.Bool.{true}
@@ -7,7 +6,8 @@ use Prim.Native.Nat.{ℕ, _+_, _≤_, _<_}
 use native.Mathlib.Omega.{arith}
 use lib.ListN.{length, length-append}
 use lib.Seq.{slice, slice-empty, length-slice}
-use Rattle.formats.specs.Readers.{manyW, All}
+use Rattle.formats.specs.Readers.{manyW}
+use Rattle.basics.specs.Lists.{All}
 use Rattle.formats.specs.Format.{Format, number, list, Value, write, Fits, takes}
 use Rattle.formats_write.specs.laws.Slices.{slice-join}
 use Rattle.formats_read.specs.laws.Here.{meet}

@@ -4,7 +4,8 @@ use native.Mathlib.Omega.{arith}
 use lib.ListN.{length, drop}
 use borrow.Author.Tests.{not-true, not-false}
 use borrow.Author.Needs.{needs}
-use Rattle.formats.specs.Class.{all, allowed}
+use Rattle.formats.specs.Class.{allowed}
+use Rattle.basics.specs.Lists.{all}
 use Rattle.formats.specs.promises.Outcome.{classOf}
 use Rattle.formats_text.proofs.Bytewise.{all-end, all-stop, all-more}
 use Rattle.formats_text.proofs.all_allowed.Statement.{statement}

@@ -3,7 +3,7 @@ use Rattle.formats_write.proofs.Laws
 use Rattle.formats_write.proofs.optional_float.Tie as tie
 use Rattle.formats.specs.Number.{littleW}
 use Rattle.formats_write.proofs.optional_float.Statement.{statement}
-use Rattle.formats_write.specs.promises.Given.{given}
+use Rattle.formats_write.specs.promises.Given.{givenNumber}
 use borrow.Author.Needs.{needs}
 use mathlib.Core.Path.{ap}
 
@@ -17,6 +17,6 @@ optional-float-spec =
     (λ c κs. search needs)
     (λ c κs. search needs)
     (λ c. search needs)
-    (λ c. Laws.absent-is (littleW 8) (ap given (c .before .before .before .before .enum-told .given .1)) (c .before .before .byte .ensures))
+    (λ c. Laws.absent-is (littleW 8) (ap givenNumber (c .before .before .before .before .enum-told .given .1)) (c .before .before .byte .ensures))
     (λ c. search needs)
-    (λ c. Laws.present-is (littleW 8) _ (ap given (c .before .before .before .before .before .before .before .before .before .v .given .1)) (c .before .before .before .before .before .before .byte2 .ensures) (c .before .before .float .ensures)))
+    (λ c. Laws.present-is (littleW 8) _ (ap givenNumber (c .before .before .before .before .before .before .before .before .before .v .given .1)) (c .before .before .before .before .before .before .byte2 .ensures) (c .before .before .float .ensures)))

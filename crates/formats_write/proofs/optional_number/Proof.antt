@@ -3,7 +3,7 @@ use Rattle.formats_write.proofs.Laws
 use Rattle.formats_write.proofs.optional_number.Tie as tie
 use Rattle.formats.specs.Number.{numberW}
 use Rattle.formats_write.proofs.optional_number.Statement.{statement}
-use Rattle.formats_write.specs.promises.Given.{given}
+use Rattle.formats_write.specs.promises.Given.{givenNumber}
 use borrow.Author.Needs.{needs}
 use mathlib.Core.Path.{ap}
 
@@ -17,6 +17,6 @@ optional-number-spec =
     (λ c κs. search needs)
     (λ c κs. search needs)
     (λ c. search needs)
-    (λ c. Laws.absent-is numberW (ap given (c .before .before .before .before .enum-told .given .1)) (c .before .before .byte .ensures))
+    (λ c. Laws.absent-is numberW (ap givenNumber (c .before .before .before .before .enum-told .given .1)) (c .before .before .byte .ensures))
     (λ c. search needs)
-    (λ c. Laws.present-is numberW _ (ap given (c .before .before .before .before .before .before .before .before .before .v .given .1)) (c .before .before .before .before .before .before .byte2 .ensures) (c .before .before .number .ensures)))
+    (λ c. Laws.present-is numberW _ (ap givenNumber (c .before .before .before .before .before .before .before .before .before .v .given .1)) (c .before .before .before .before .before .before .byte2 .ensures) (c .before .before .number .ensures)))

@@ -1,5 +1,4 @@
--- Law. An output that is written from its start on, and may be too short: what a writer adds to it, and what it
--- leaves as it was.
+-- Law. Writers one after the other.
 use mathlib.Core.Path.{_≡_, refl, sym, ap, _∙_}
 use mathlib.Core.List.{List, [], _∷_, _++_}
 use mathlib.Core.Bool.{Bool, true, false}

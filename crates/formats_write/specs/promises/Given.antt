@@ -18,9 +18,9 @@ use Rattle.formats_write.specs.declared.OptionalText.the-variants as tex
 abbrev pub optionalW : {A : Type 0} → (A → List ℕ) → Unit {0} ⊎ A → List ℕ
 optionalW w v = choiceW (λ u. []) w v
 
-abbrev pub given : OptionalNumber → Unit {0} ⊎ ℕ
-given number.Absent = inl tt
-given (number.Present n) = inr n
+abbrev pub givenNumber : OptionalNumber → Unit {0} ⊎ ℕ
+givenNumber number.Absent = inl tt
+givenNumber (number.Present n) = inr n
 
 abbrev pub givenSigned : OptionalSigned → Unit {0} ⊎ ℤ
 givenSigned signed.Absent = inl tt

@@ -8,13 +8,14 @@ use Prim.Native.Nat.{ℕ, _≤_}
 use native.Mathlib.Omega.{arith}
 use lib.ListN.{length}
 use borrow.Author.Tests.{le-leb}
-use Rattle.formats.specs.Class.{all, utf8}
+use Rattle.formats.specs.Class.{utf8}
+use Rattle.basics.specs.Lists.{all}
 use Rattle.formats.specs.Format.{Format, text, list, _&_, Value}
 use Rattle.formats_judge.specs.Judged.{ok}
 use Rattle.overlay.specs.State.{State, overlay}
 use Rattle.overlay.specs.Records.{Feeds, shown}
-use Rattle.decode.specs.laws.Map.{both-true}
-use Rattle.overlay.specs.laws.Rules.{and-true, all-true, few, counted, judges, unjudged}
+use Rattle.basics.specs.laws.Booleans.{both-true}
+use Rattle.overlay.specs.laws.Within.{both, all-true, few, counted, judges, unjudged}
 use Rattle.journey.specs.Card.{middle, transit, leg, card, cardOf, transitOf, middleOf, cardValue, transitValue, middleValue}
 use Rattle.journey.specs.Enrich.{trip-rt, enrichMiddle, enrichTransit, enrichLeg, transits, headers-of, enrich-with-realtime}
 use Rattle.journey.specs.laws.Headers.{map-length, headers-few}
@@ -36,7 +37,7 @@ module _ {a b : Format} {v : Value (a & b)} where
   rest w = record { yes = both-true (ok 7 a (v .0)) (ok 7 b (v .1)) (w .yes) .1 }
 
   joined : Seven a (v .0) → Seven b (v .1) → Seven (a & b) v
-  joined x y = record { yes = and-true (x .yes) (y .yes) }
+  joined x y = record { yes = both (x .yes) (y .yes) }
 
   -- behind a first part without lists
   behind : judges 7 a ≡ false → Seven b (v .1) → Seven (a & b) v
@@ -44,7 +45,7 @@ module _ {a b : Format} {v : Value (a & b)} where
 
 -- a list that is not too long, of values without lists
 listed : (l : ℕ) (f : Format) → judges 7 f ≡ false → (v : List (Value f)) → length v ≤ l → Seven (list l f) v
-listed l f h v n = record { yes = and-true (le-leb (length v) l n) (all-true (ok 7 f) (unjudged 7 f h) v) }
+listed l f h v n = record { yes = both (le-leb (length v) l n) (all-true (ok 7 f) (unjudged 7 f h) v) }
 
 module _ (B : Feeds) where
   transit-seven : (t : Value transit) → Seven transit t → Seven transit (transitValue (enrichTransit B (transitOf t)))
@@ -65,7 +66,7 @@ module _ (B : Feeds) where
 
   legs-seven : (l : List (Value leg)) → all (ok 7 leg) l ≡ true → all (ok 7 leg) (map (enrichLeg B) l) ≡ true
   legs-seven [] e = refl
-  legs-seven (x ∷ l) e = let q = both-true (ok 7 leg x) (all (ok 7 leg) l) e in and-true (leg-seven x (q .0)) (legs-seven l (q .1))
+  legs-seven (x ∷ l) e = let q = both-true (ok 7 leg x) (all (ok 7 leg) l) e in both (leg-seven x (q .0)) (legs-seven l (q .1))
 
 -- A FINISHED CARD IS WITHIN QUESTION 7 where the arriving card and the state are
 pub finished-seven : (s : State) → ok 7 overlay s ≡ true → (v : Value card) → ok 7 card v ≡ true → ok 7 card (cardValue (enrich-with-realtime (shown s) (cardOf v))) ≡ true
@@ -77,7 +78,7 @@ finished-seven s h v e =
     let n = few 16 leg legs (ls .yes) in
     let B = shown s in
     let new : Seven (list 16 leg) (map (enrichLeg B) legs) =
-    record { yes = and-true (le-leb (length (map (enrichLeg B) legs)) 16 (omega (arith, map-length (enrichLeg B) legs, n))) (legs-seven B legs (counted 16 leg legs (ls .yes))) } in
+    record { yes = both (le-leb (length (map (enrichLeg B) legs)) 16 (omega (arith, map-length (enrichLeg B) legs, n))) (legs-seven B legs (counted 16 leg legs (ls .yes))) } in
     let hs = headers-of B (transits legs) in
     let done : Seven card (cardValue (enrich-with-realtime B (cardOf v))) =
     behind refl (behind refl (behind refl (behind refl (behind refl (joined (listed 1024 (text 512 utf8) refl hs (headers-few s h (transits legs))) new))))) in

@@ -10,22 +10,21 @@ use native.Mathlib.Nat.{suc-mul}
 use lib.ListN.{length, length-append}
 use Rattle.slices.specs.declared.Order.{Order}
 use Rattle.slices.specs.declared.Order.the-variants.{Less, Same, More}
-use Rattle.formats.specs.Readers.{All}
-use Rattle.formats.specs.laws.Law.{none-some}
-use Rattle.formats.specs.Class.{all}
+use Rattle.basics.specs.Lists.{All, filter, isEmpty, concatMap, all}
+use Rattle.basics.specs.laws.Options.{none-some}
 use Rattle.formats.specs.Format.{list, optional, _&_}
 use Rattle.formats_judge.specs.Judged.{ok}
-use Rattle.decode.specs.Map.{isLess, byOrder, get, put, puts, above, ascending}
-use Rattle.decode.specs.Order.{texts}
-use Rattle.decode.specs.laws.Order.{texts-order}
-use Rattle.decode.specs.laws.Map.{both-true, is-less, get-put, puts-ascending, rest-ascending}
-use Rattle.alerts.specs.Lists.{filter, isEmpty, join}
+use Rattle.maps.specs.Map.{isLess, byOrder, get, put, puts, above, ascending}
+use Rattle.maps.specs.Order.{texts}
+use Rattle.maps.specs.laws.Order.{texts-order}
+use Rattle.maps.specs.laws.Map.{is-less, get-put, puts-ascending, rest-ascending}
+use Rattle.basics.specs.laws.Booleans.{both-true}
 use Rattle.alerts.specs.Alert.{Alert, alert}
 use Rattle.alerts.specs.Label.{label}
 use Rattle.overlay.specs.State.{Feed, State, timestamp, vehicleEntry, feedEntry, overlay, timestampOf, tripsOf, vehiclesOf, alertsOf, feedsOf}
 use Rattle.decode.specs.Trip.{tripEntry}
-use Rattle.overlay.specs.laws.Rules.{few, counted}
-use Rattle.overlay.specs.laws.Keeps.{each-map, each-both, each-puts, get-each, lower}
+use Rattle.overlay.specs.laws.Within.{few, counted}
+use Rattle.overlay.specs.laws.EveryEntry.{each-map, each-both, each-puts, get-each, lower}
 use Rattle.decode.specs.laws.Fine.{Given}
 use Rattle.overlay.specs.Records.{Records, Feeds, recordsOf, shown}
 use Rattle.overlay.specs.Lookup.{feed-of}
@@ -76,14 +75,14 @@ module _ (B : Feeds) (P : List ℕ → Type 0) (h : (f : List ℕ) → Given (λ
       go none x = tt
       go (some R) x = x
 
-  legs-each : (ts : List Transit) → All P (join (λ t. map label (alerts-of B t)) ts)
+  legs-each : (ts : List Transit) → All P (concatMap (λ t. map label (alerts-of B t)) ts)
   legs-each [] = tt
   legs-each (t ∷ ts) = each-append P (map label (alerts-of B t)) _ (each-mapped label P (alerts-of B t) (alerts-each t)) (legs-each ts)
 
   labels-each : (ts : List Transit) → All (λ e. P (e .0)) (set (labels-of B ts))
   unfolding labels-of
   labels-each ts =
-      let every = join (λ t. map label (alerts-of B t)) ts in
+      let every = concatMap (λ t. map label (alerts-of B t)) ts in
       let l = filter (λ x. not (isEmpty x)) every in
       each-puts texts (λ e. P (e .0)) (map entry l) [] (each-mapped entry (λ e. P (e .0)) l (each-filter P (λ x. not (isEmpty x)) every (legs-each ts))) tt
 
@@ -181,14 +180,14 @@ alerts-few e h =
     few 256 alert (alertsOf F) (both-true (ok 7 (list 1024 vehicleEntry) (vehiclesOf F)) (ok 7 (list 256 alert) (alertsOf F)) (b .1) .1)
 
 abbrev every-label : State → List (List ℕ)
-every-label s = join (λ e. map label (alertsOf (e .1))) (feedsOf s)
+every-label s = concatMap (λ e. map label (alertsOf (e .1))) (feedsOf s)
 
-feed-labels : (P : List ℕ → Type 0) (l : List (List ℕ × Feed)) → All P (join (λ e. map label (alertsOf (e .1))) l) → All (λ e. All (λ a. P (label a)) (alertsOf (e .1))) l
+feed-labels : (P : List ℕ → Type 0) (l : List (List ℕ × Feed)) → All P (concatMap (λ e. map label (alertsOf (e .1))) l) → All (λ e. All (λ a. P (label a)) (alertsOf (e .1))) l
 feed-labels P [] h = tt
 feed-labels P (e ∷ l) h = (unmapped (alertsOf (e .1)) (front (map label (alertsOf (e .1))) h), feed-labels P l (back (map label (alertsOf (e .1))) h))
   where
     rest : List (List ℕ)
-    rest = join (λ e. map label (alertsOf (e .1))) l
+    rest = concatMap (λ e. map label (alertsOf (e .1))) l
 
     front : (x : List (List ℕ)) → All P (x ++ rest) → All P x
     front [] h = tt
@@ -214,7 +213,7 @@ pub map-length : {A B : Type 0} (g : A → B) (l : List A) → length (map g l) 
 map-length g [] = refl
 map-length g (x ∷ l) = ap suc (map-length g l)
 
-labels-length : (l : List (List ℕ × Feed)) → all (ok 7 feedEntry) l ≡ true → length (join (λ e. map label (alertsOf (e .1))) l) ≤ length l * 256
+labels-length : (l : List (List ℕ × Feed)) → all (ok 7 feedEntry) l ≡ true → length (concatMap (λ e. map label (alertsOf (e .1))) l) ≤ length l * 256
 labels-length [] h = omega arith
 labels-length (e ∷ l) h =
     let q = both-true (ok 7 feedEntry e) (all (ok 7 feedEntry) l) h in

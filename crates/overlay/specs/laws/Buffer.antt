@@ -9,19 +9,19 @@ use native.Mathlib.Omega.{arith}
 use lib.Dec.{eqb}
 use lib.ListN.{length, replicate, length-append, length-replicate}
 use borrow.Author.Tests.{eqb-true}
-use Rattle.formats.specs.laws.Law.{none-some}
-use Rattle.formats.specs.Class.{all}
+use Rattle.basics.specs.laws.Options.{none-some}
+use Rattle.basics.specs.Lists.{all}
 use Rattle.formats.specs.Format.{Fits, read, write}
 use Rattle.formats.specs.laws.Format.{read-write, write-read}
 use Rattle.formats_judge.specs.Judged.{ok}
 use Rattle.formats_capacity.specs.laws.Capacity.{capacity, capacity-bounds}
-use Rattle.decode.specs.laws.Map.{both-true}
-use Rattle.overlay.specs.laws.Rules.{Judged, formed-of, keeps}
-use Rattle.decode.specs.Map.{ascending}
-use Rattle.decode.specs.Order.{texts}
+use Rattle.basics.specs.laws.Booleans.{both-true}
+use Rattle.overlay.specs.laws.Within.{Judged56, formed-of, keeps}
+use Rattle.maps.specs.Map.{ascending}
+use Rattle.maps.specs.Order.{texts}
 use Rattle.overlay.specs.State.{State, overlay, feedsOf}
 use Rattle.overlay.specs.Valid.{feedValid, within, valid}
-use Rattle.overlay.specs.Image.{filled, image, accepted, stateOf}
+use Rattle.overlay.specs.Image.{filled, image, heldState, stateOf}
 use Rattle.overlay.specs.Buffer.{Buffer, published}
 
 all-zeros : (n : ℕ) → all (eqb 0) (replicate n 0) ≡ true
@@ -37,10 +37,10 @@ pub image-state : (n : ℕ) (s : State) → Fits overlay s → valid s ≡ true 
 unfolding stateOf image filled
 image-state n s f h =
     let k = n - length (write overlay s) in
-    ap accepted (read-write overlay s (replicate k 0) f) ∙ (λ i. cond (all-zeros k i && h i) (some s) none)
+    ap heldState (read-write overlay s (replicate k 0) f) ∙ (λ i. cond (all-zeros k i && h i) (some s) none)
 
 -- what an accepted buffer holds
-accepted-some : (o : Option (State × List ℕ)) (s : State) → accepted o ≡ some s
+accepted-some : (o : Option (State × List ℕ)) (s : State) → heldState o ≡ some s
     → (rest : List ℕ) × (o ≡ some (s, rest)) × (all (eqb 0) rest ≡ true) × (valid s ≡ true)
 accepted-some none s e = none-some e
 accepted-some (some p) s e = go (all (eqb 0) (p .1) && valid (p .0)) refl e
@@ -89,7 +89,7 @@ no-state zero = refl
 no-state (suc n) = refl
 
 -- a valid state is within the rules
-pub valid-rules : (s : State) → Fits overlay s → valid s ≡ true → Judged overlay s × (ok 7 overlay s ≡ true)
+pub valid-rules : (s : State) → Fits overlay s → valid s ≡ true → Judged56 overlay s × (ok 7 overlay s ≡ true)
 unfolding valid within
 valid-rules s f h =
     let w = both-true (ok 5 overlay s && (ok 6 overlay s && ok 7 overlay s)) (ascending texts (feedsOf s) && all feedValid (feedsOf s)) h .0 in

@@ -10,11 +10,11 @@ use borrow.Author.Tests.{eq-eqb, ne-eqb, ltb-true, ltb-false}
 use Rattle.slices.specs.Lists.{lexOf}
 use Rattle.slices.specs.declared.Order.{Order}
 use Rattle.slices.specs.declared.Order.the-variants.{Less, Same, More}
-use Rattle.decode.specs.Map.{isSame, byOrder, get}
-use Rattle.decode.specs.Order.{texts}
-use Rattle.decode.specs.laws.Order.{texts-order}
-use Rattle.decode.specs.laws.Map.{get-put}
-use Rattle.alerts.specs.Text.{same}
+use Rattle.maps.specs.Map.{isSame, byOrder, get}
+use Rattle.maps.specs.Order.{texts}
+use Rattle.maps.specs.laws.Order.{texts-order}
+use Rattle.maps.specs.laws.Map.{get-put}
+use Rattle.basics.specs.Texts.{same}
 use Rattle.overlay.specs.State.{Feed, State, feedsOf, noFeed}
 use Rattle.overlay.specs.Records.{recordsOf, shown}
 use Rattle.overlay.specs.Change.{feedAt, putFeed}

@@ -12,9 +12,9 @@ pub record Yes (b : Bool) (n : ℕ) (o : Outcome) : Type 0 where
   pub same : need b n o ≡ o
   pub next : numberOf o ≡ 0
 
-pub asked : (b : Bool) (n : ℕ) (o : Outcome) → 0 < n → numberOf (need b n o) ≡ 0 → Yes b n o
-asked true n o l e = record { yes = refl; same = refl; next = e }
-asked false n o l e = absurd (omega arith)
+pub acceptedYes : (b : Bool) (n : ℕ) (o : Outcome) → 0 < n → numberOf (need b n o) ≡ 0 → Yes b n o
+acceptedYes true n o l e = record { yes = refl; same = refl; next = e }
+acceptedYes false n o l e = absurd (omega arith)
 
 pub record Got {A : Type 0} (a : Option A) (n : ℕ) (k : A → Outcome) : Type 0 where
   pub value : A
@@ -22,6 +22,6 @@ pub record Got {A : Type 0} (a : Option A) (n : ℕ) (k : A → Outcome) : Type 
   pub same : needSome a n k ≡ k value
   pub next : numberOf (k value) ≡ 0
 
-pub askedSome : {A : Type 0} (a : Option A) (n : ℕ) (k : A → Outcome) → 0 < n → numberOf (needSome a n k) ≡ 0 → Got a n k
-askedSome none n k l e = absurd (omega arith)
-askedSome (some v) n k l e = record { value = v; is = refl; same = refl; next = e }
+pub acceptedSome : {A : Type 0} (a : Option A) (n : ℕ) (k : A → Outcome) → 0 < n → numberOf (needSome a n k) ≡ 0 → Got a n k
+acceptedSome none n k l e = absurd (omega arith)
+acceptedSome (some v) n k l e = record { value = v; is = refl; same = refl; next = e }

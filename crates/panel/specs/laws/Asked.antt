@@ -21,7 +21,7 @@ use Rattle.overlay.specs.Report as report
 use Rattle.overlay.specs.Change.{afterMessage, afterAlerts, afterVehicles}
 use Rattle.journey.specs.Card.{card as cardForm}
 use Rattle.panel.specs.Outcome.{Outcome, refused, accepted, need, needSome, numberOf}
-use Rattle.panel.specs.Questions.{Lengths, lengthsOk, feedOk, whole, changed, treeOf, freshOf, messageOf, alertsOf, alertSheetOf, keysAscend, vehiclesOf, vehicleSheetOf, finished, arrivingOf, cardCallOf, reportOf}
+use Rattle.panel.specs.Questions.{Lengths, lengthsOk, feedOk, whole, changedState, treeOutcome, freshOf, messageOf, alertsOutcome, alertSheetOf, keysAscend, vehiclesOutcome, vehicleSheetOf, finished, arrivingOutcome, cardCallOf, reportOf}
 use Rattle.panel.specs.Calls.{Call, fresh, message, alertSheet, vehicleSheet, card, report, ends, gives}
 
 -- whether each overlay, output and working buffer of a call has its published length
@@ -58,10 +58,10 @@ shortEnough (report f out) = true
 -- what the questions after the third give
 abbrev later : Lengths → State → Call → Outcome
 later L s (fresh new) = accepted (write overlay noState)
-later L s (message f m new work) = needSome (tree feed feedMessage m) 4 (treeOf L f s)
-later L s (alertSheet f sheet new work) = needSome (whole alertForm sheet) 4 (alertsOf L f s)
-later L s (vehicleSheet f sheet clock new work) = needSome (keysAscend (whole vehicleForm sheet)) 4 (vehiclesOf L f clock s)
-later L s (card bytes out work) = needSome (whole cardForm bytes) 4 (arrivingOf L s)
+later L s (message f m new work) = needSome (tree feed feedMessage m) 4 (treeOutcome L f s)
+later L s (alertSheet f sheet new work) = needSome (whole alertForm sheet) 4 (alertsOutcome L f s)
+later L s (vehicleSheet f sheet clock new work) = needSome (keysAscend (whole vehicleForm sheet)) 4 (vehiclesOutcome L f clock s)
+later L s (card bytes out work) = needSome (whole cardForm bytes) 4 (arrivingOutcome L s)
 later L s (report f out) = need (feedOk f) 5 (accepted (report.report f s))
 
 -- the state that a call goes on with: the old buffer's. A fresh call opens none, and goes on as from no feeds
@@ -126,11 +126,11 @@ asksSome : {n : ℕ} {A : Type 0} {k : A → Outcome} (a : Option A) → Later (
 asksSome none e h = e
 asksSome (some v) e h = h v
 
-changes : (n : ℕ) (s : State) → Later (changed n s)
+changes : (n : ℕ) (s : State) → Later (changedState n s)
 changes n s = asks (ok 7 overlay s && room n s) seven done
 
 later-on : (L : Lengths) (s : State) (c : Call) → Later (later L s c)
-unfolding treeOf alertsOf vehiclesOf arrivingOf
+unfolding treeOutcome alertsOutcome vehiclesOutcome arrivingOutcome
 later-on L s (fresh new) = done
 later-on L s (message f m new work) =
     asksSome (tree feed feedMessage m) four (λ t.

@@ -16,8 +16,8 @@ use Rattle.realtime.specs.laws.Gains.{gains-same-tree}
 use Rattle.overlay.specs.State.{State}
 use Rattle.overlay.specs.Image.{stateOf}
 use Rattle.panel.specs.Outcome.{Outcome, need, needSome, numberOf, bytesOf}
-use Rattle.panel.specs.Questions.{Lengths, lengthsOk, treeOf, messageOf}
-use Rattle.panel.specs.Calls.{Call, gives, writes, after, run, numbers}
+use Rattle.panel.specs.Questions.{Lengths, lengthsOk, treeOutcome, messageOf}
+use Rattle.panel.specs.Calls.{Call, gives, writes, overlayAfter, run, numbersGiven}
 use Rattle.panel.specs.Gained.{Alike, equal, gained, AlikeAll}
 
 -- a call that the third question doesn't refuse gives the same with another yes to it
@@ -33,7 +33,7 @@ message-gained : (L : Lengths) (old f m m′ : List ℕ) (new : ℕ) (work : Lis
 unfolding messageOf
 message-gained L old f m m′ new work g l e =
     rw (le-leb (length m′) 1048576 l, gains-same-tree g)
-    (third (lengthsOk L old new (L .overlay) work (L .messageWork)) (stateOf old) (leb (length m) 1048576) (λ s. needSome (tree feed feedMessage m) 4 (treeOf L f s)) e)
+    (third (lengthsOk L old new (L .overlay) work (L .messageWork)) (stateOf old) (leb (length m) 1048576) (λ s. needSome (tree feed feedMessage m) 4 (treeOutcome L f s)) e)
 
 alike-ends : (L : Lengths) (old : List ℕ) {c d : Call} {n : ℕ} → Alike c n d → n ≡ gives L old c .number → gives L old c ≡ gives L old d
 alike-ends L old equal e = refl
@@ -46,7 +46,7 @@ alike-writes equal = refl
 alike-writes (gained g z l) = refl
 
 -- THE SUPPLIER ADDS FIELDS: every number, every output byte and every working word is the same in both runs
-pub history-gains : (L : Lengths) (old : List ℕ) (cs ds : List Call) → AlikeAll cs (numbers (run L old cs)) ds → run L old cs ≡ run L old ds
+pub history-gains : (L : Lengths) (old : List ℕ) (cs ds : List Call) → AlikeAll cs (numbersGiven (run L old cs)) ds → run L old cs ≡ run L old ds
 unfolding run
 history-gains L old [] [] h = refl
 history-gains L old [] (d ∷ ds) h = absurd h
@@ -55,5 +55,5 @@ history-gains L old (c ∷ cs) (d ∷ ds) h =
     let q = alike-ends L old (h .0) refl in
     let w = alike-writes (h .0) in
     ap₂ _∷_ q
-    (history-gains L (after old c (gives L old c)) cs ds (h .1)
+    (history-gains L (overlayAfter old c (gives L old c)) cs ds (h .1)
     ∙ λ i. run L (cond (w i) (cond (eqb (q i .number) 0) (q i .out) old) old) ds)

@@ -10,16 +10,16 @@ use lib.IntN.{ℤ}
 use lib.Dec.{eqb, leb}
 use lib.ListN.{length, replicate}
 use borrow.Author.Tests.{eqb-true, eq-eqb}
-use Rattle.formats.specs.laws.Law.{none-some}
+use Rattle.basics.specs.laws.Options.{none-some}
 use Rattle.formats.specs.Format.{Format, Fits, Value, read, write}
 use Rattle.formats.specs.laws.Format.{write-read}
 use Rattle.formats_judge.specs.Judged.{ok}
 use Rattle.formats_capacity.specs.laws.Fitting.{Formed}
-use Rattle.decode.specs.laws.Map.{both-true}
-use Rattle.overlay.specs.laws.Rules.{Judged, elements, formed-of, unjudged, right}
+use Rattle.basics.specs.laws.Booleans.{both-true}
+use Rattle.overlay.specs.laws.Within.{Judged56, elements, formed-of, unjudged, right}
 use Rattle.decode.specs.Trip.{instant}
-use Rattle.decode.specs.Map.{puts, ascending}
-use Rattle.decode.specs.Order.{texts}
+use Rattle.maps.specs.Map.{puts, ascending}
+use Rattle.maps.specs.Order.{texts}
 use Rattle.decode.specs.Leaves.{leaves}
 use Rattle.realtime.specs.Tree.{Tree, tree}
 use Rattle.realtime.specs.Schema.{feedMessage, feed}
@@ -32,14 +32,14 @@ use Rattle.overlay.specs.Valid.{valid, within}
 use Rattle.overlay.specs.Records.{recordsOf, shown}
 use Rattle.overlay.specs.Change.{feedAt, putFeed, afterMessage, afterAlerts, withoutStale, afterVehicles}
 use Rattle.overlay.specs.laws.Buffer.{image-state, state-buffer}
-use Rattle.overlay.specs.laws.Kept.{StateKept, kept-of, valid-of, message-kept, alerts-kept, vehicles-kept}
+use Rattle.overlay.specs.laws.StaysValid.{StateKept, kept-of, valid-of, message-kept, alerts-kept, vehicles-kept}
 use Rattle.overlay.specs.laws.Shown.{shown-put, shown-at}
-use Rattle.overlay.specs.laws.Entries.{entries-kept, timestamp-kept}
+use Rattle.overlay.specs.laws.Entered.{entries-kept, timestamp-kept}
 use Rattle.panel.specs.Outcome.{Outcome, refused, accepted, need, needSome, numberOf, bytesOf}
-use Rattle.panel.specs.Questions.{Lengths, lengthsOk, opened, changed, feedOk, ended, whole, treeOf, freshOf, messageOf, alertsOf, alertSheetOf, keysAscend, vehiclesOf, vehicleSheetOf, finished, arrivingOf, cardCallOf, reportOf}
-use Rattle.panel.specs.Calls.{Call, fresh, message, alertSheet, vehicleSheet, card, report, ends, outOf, gives, after, freshOverlay, run}
+use Rattle.panel.specs.Questions.{Lengths, lengthsOk, opened, changedState, feedOk, endedOnly, whole, treeOutcome, freshOf, messageOf, alertsOutcome, alertSheetOf, keysAscend, vehiclesOutcome, vehicleSheetOf, finished, arrivingOutcome, cardCallOf, reportOf}
+use Rattle.panel.specs.Calls.{Call, fresh, message, alertSheet, vehicleSheet, card, report, ends, outOf, gives, overlayAfter, freshOverlay, run}
 use Rattle.panel.specs.Book.{Book, noBook, recordsIn, enter, ifRead, messageEnters, alertsEnter, vehiclesEnter, fed, cardBy, says, shows, said, seen, saidAll, seenAll, History}
-use Rattle.panel.specs.laws.Accepts.{asked, askedSome}
+use Rattle.panel.specs.laws.Accepts.{acceptedYes, acceptedSome}
 
 -- the overlay holds what the book holds
 record Holds (old : List ℕ) (bk : Book) : Type 0 where
@@ -56,7 +56,7 @@ record Leaves (o : Outcome) (bk : Book) : Type 0 where
   same : shown state ≡ bk
 
 -- what is read whole is formed
-ended-some : {A : Type 0} (o : Option (A × List ℕ)) (v : A) → ended o ≡ some v → o ≡ some (v, [])
+ended-some : {A : Type 0} (o : Option (A × List ℕ)) (v : A) → endedOnly o ≡ some v → o ≡ some (v, [])
 ended-some none v e = none-some e
 ended-some (some (u, [])) v e = let z : u ≡ v = cc in ap (λ x. some (x, [])) z
 ended-some (some (u, b ∷ s)) v e = none-some e
@@ -82,15 +82,15 @@ module _ (L : Lengths) (old : List ℕ) (out due : ℕ) (work workDue : List ℕ
 
   past-four : (s : State) → stateOf old ≡ some s → numberOf call ≡ 0 → Read s
   past-four s d e =
-      let a = asked (lengthsOk L old out due work workDue) 1 (needSome (stateOf old) 2 (λ s. need short 3 (needSome input 4 (k s)))) (omega arith) e in
-      let b = asked short 3 (needSome input 4 (k s)) (omega arith) (rw d at (a .next)) in
-      let c = askedSome input 4 (k s) (omega arith) (b .next) in
+      let a = acceptedYes (lengthsOk L old out due work workDue) 1 (needSome (stateOf old) 2 (λ s. need short 3 (needSome input 4 (k s)))) (omega arith) e in
+      let b = acceptedYes short 3 (needSome input 4 (k s)) (omega arith) (rw d at (a .next)) in
+      let c = acceptedSome input 4 (k s) (omega arith) (b .next) in
       record { value = c .value; is = c .is; same = a .same ∙ ap (λ o. needSome o 2 (λ s. need short 3 (needSome input 4 (k s)))) d ∙ b .same ∙ c .same; next = c .next }
 
 -- question 7 is behind a changed state
-changed-leaves : (n : ℕ) (s : State) (bk : Book) → StateKept s → shown s ≡ bk → numberOf (changed n s) ≡ 0 → Leaves (changed n s) bk
+changed-leaves : (n : ℕ) (s : State) (bk : Book) → StateKept s → shown s ≡ bk → numberOf (changedState n s) ≡ 0 → Leaves (changedState n s) bk
 changed-leaves n s bk k h e =
-    let y = asked (ok 7 overlay s && room n s) 7 (accepted (write overlay s)) (omega arith) e in
+    let y = acceptedYes (ok 7 overlay s && room n s) 7 (accepted (write overlay s)) (omega arith) e in
     let v = valid-of s k (both-true (ok 7 overlay s) (room n s) (y .yes) .0) in
     record { state = s; wrote = y .same; fits = v .0; valid = v .1; same = h }
 
@@ -112,12 +112,12 @@ tree-shown : (f : List ℕ) (t : Tree) (s : State) → shown (afterMessage f t s
 unfolding afterMessage
 tree-shown f t s = entered-put f _ _ s ∙ ap (λ R. enter f (record { trips = leaves f t (R .trips); vehicles = R .vehicles; alerts = R .alerts }) (shown s)) (sym (records-at f s))
 
-tree-leaves : (L : Lengths) (f m : List ℕ) (s : State) (t : Tree) → StateKept s → tree feed feedMessage m ≡ some t → numberOf (treeOf L f s t) ≡ 0 → Leaves (treeOf L f s t) (messageEnters f t (shown s))
-unfolding treeOf
+tree-leaves : (L : Lengths) (f m : List ℕ) (s : State) (t : Tree) → StateKept s → tree feed feedMessage m ≡ some t → numberOf (treeOutcome L f s t) ≡ 0 → Leaves (treeOutcome L f s t) (messageEnters f t (shown s))
+unfolding treeOutcome
 tree-leaves L f m s t k is e =
-    let x = changed (L .overlay) (afterMessage f t s) in
-    let a = asked (feedOk f && textsFine rules feedMessage t) 5 (need (numbersFine rules feedMessage t) 6 x) (omega arith) e in
-    let b = asked (numbersFine rules feedMessage t) 6 x (omega arith) (a .next) in
+    let x = changedState (L .overlay) (afterMessage f t s) in
+    let a = acceptedYes (feedOk f && textsFine rules feedMessage t) 5 (need (numbersFine rules feedMessage t) 6 x) (omega arith) e in
+    let b = acceptedYes (numbersFine rules feedMessage t) 6 x (omega arith) (a .next) in
     let y = both-true (feedOk f) (textsFine rules feedMessage t) (a .yes) in
     leaves-same (a .same ∙ b .same)
     (changed-leaves (L .overlay) (afterMessage f t s) _ (message-kept f t s (y .0) (entries-kept f (y .0) m t is (y .1) (b .yes)) (timestamp-kept t) k) (tree-shown f t s) (b .next))
@@ -127,12 +127,12 @@ alerts-shown : (f : List ℕ) (l : List Alert) (s : State) → shown (afterAlert
 unfolding afterAlerts
 alerts-shown f l s = entered-put f _ _ s ∙ ap (λ R. enter f (record { trips = R .trips; vehicles = R .vehicles; alerts = l }) (shown s)) (sym (records-at f s))
 
-alerts-leave : (L : Lengths) (f sheet : List ℕ) (s : State) (v : Value alertForm) → StateKept s → whole alertForm sheet ≡ some v → numberOf (alertsOf L f s v) ≡ 0 → Leaves (alertsOf L f s v) (alertsEnter f (v .1) (shown s))
-unfolding alertsOf
+alerts-leave : (L : Lengths) (f sheet : List ℕ) (s : State) (v : Value alertForm) → StateKept s → whole alertForm sheet ≡ some v → numberOf (alertsOutcome L f s v) ≡ 0 → Leaves (alertsOutcome L f s v) (alertsEnter f (v .1) (shown s))
+unfolding alertsOutcome
 alerts-leave L f sheet s v k is e =
-    let a = asked (feedOk f && ok 5 alertForm v) 5 (changed (L .overlay) (afterAlerts f (v .1) s)) (omega arith) e in
+    let a = acceptedYes (feedOk f && ok 5 alertForm v) 5 (changedState (L .overlay) (afterAlerts f (v .1) s)) (omega arith) e in
     let y = both-true (feedOk f) (ok 5 alertForm v) (a .yes) in
-    let j : Judged alertForm v = record { formed = whole-formed alertForm sheet v is; five = y .1; six = unjudged 6 alertForm refl v } in
+    let j : Judged56 alertForm v = record { formed = whole-formed alertForm sheet v is; five = y .1; six = unjudged 6 alertForm refl v } in
     leaves-same (a .same)
     (changed-leaves (L .overlay) (afterAlerts f (v .1) s) _ (alerts-kept f (v .1) s (y .0) (elements 256 alert (v .1) (right j)) k) (alerts-shown f (v .1) s) (a .next))
 
@@ -143,15 +143,15 @@ vehicles-shown f vs clock s =
     entered-put f _ _ s
     ∙ ap (λ R. enter f (record { trips = R .trips; vehicles = withoutStale clock (puts texts vs (R .vehicles)); alerts = R .alerts }) (shown s)) (sym (records-at f s))
 
-vehicles-leave : (L : Lengths) (f sheet : List ℕ) (clock : ℤ) (s : State) (v : Value vehicleForm) → StateKept s → whole vehicleForm sheet ≡ some v → numberOf (vehiclesOf L f clock s v) ≡ 0
-    → Leaves (vehiclesOf L f clock s v) (vehiclesEnter f (v .1) clock (shown s))
-unfolding vehiclesOf
+vehicles-leave : (L : Lengths) (f sheet : List ℕ) (clock : ℤ) (s : State) (v : Value vehicleForm) → StateKept s → whole vehicleForm sheet ≡ some v → numberOf (vehiclesOutcome L f clock s v) ≡ 0
+    → Leaves (vehiclesOutcome L f clock s v) (vehiclesEnter f (v .1) clock (shown s))
+unfolding vehiclesOutcome
 vehicles-leave L f sheet clock s v k is e =
-    let x = changed (L .overlay) (afterVehicles f (v .1) clock s) in
-    let a = asked (feedOk f && ok 5 vehicleForm v) 5 (need (ok 6 vehicleForm v && ok 6 instant clock) 6 x) (omega arith) e in
-    let b = asked (ok 6 vehicleForm v && ok 6 instant clock) 6 x (omega arith) (a .next) in
+    let x = changedState (L .overlay) (afterVehicles f (v .1) clock s) in
+    let a = acceptedYes (feedOk f && ok 5 vehicleForm v) 5 (need (ok 6 vehicleForm v && ok 6 instant clock) 6 x) (omega arith) e in
+    let b = acceptedYes (ok 6 vehicleForm v && ok 6 instant clock) 6 x (omega arith) (a .next) in
     let y = both-true (feedOk f) (ok 5 vehicleForm v) (a .yes) in
-    let j : Judged vehicleForm v = record { formed = whole-formed vehicleForm sheet v is; five = y .1; six = both-true (ok 6 vehicleForm v) (ok 6 instant clock) (b .yes) .0 } in
+    let j : Judged56 vehicleForm v = record { formed = whole-formed vehicleForm sheet v is; five = y .1; six = both-true (ok 6 vehicleForm v) (ok 6 instant clock) (b .yes) .0 } in
     leaves-same (a .same ∙ b .same)
     (changed-leaves (L .overlay) (afterVehicles f (v .1) clock s) _ (vehicles-kept f (v .1) clock s (y .0) (elements 1024 vehicleEntry (v .1) (right j)) k) (vehicles-shown f (v .1) clock s) (b .next))
 
@@ -167,7 +167,7 @@ read-is bk k e = rw e refl
 fresh-leaves : (L : Lengths) (new : ℕ) → numberOf (freshOf L new) ≡ 0 → Leaves (freshOf L new) noBook
 unfolding freshOf shown valid within
 fresh-leaves L new e =
-    let y = asked (eqb new (L .overlay)) 1 (accepted (write overlay noState)) (omega arith) e in
+    let y = acceptedYes (eqb new (L .overlay)) 1 (accepted (write overlay noState)) (omega arith) e in
     record { state = noState; wrote = y .same; fits = (tt, (omega arith, (omega arith, tt))); valid = refl; same = refl }
 
 fresh-accepted : (L : Lengths) → numberOf (freshOf L (L .overlay)) ≡ 0
@@ -178,7 +178,7 @@ message-leaves : (L : Lengths) (old : List ℕ) (bk : Book) (f m : List ℕ) (ne
     → numberOf (messageOf L old f m new work) ≡ 0 → Leaves (messageOf L old f m new work) (ifRead (tree feed feedMessage m) bk (λ t. messageEnters f t bk))
 unfolding messageOf
 message-leaves L old bk f m new work h e =
-    let r = past-four L old new (L .overlay) work (L .messageWork) (leb (length m) 1048576) (tree feed feedMessage m) (treeOf L f) (h .state) (h .is) e in
+    let r = past-four L old new (L .overlay) work (L .messageWork) (leb (length m) 1048576) (tree feed feedMessage m) (treeOutcome L f) (h .state) (h .is) e in
     leaves-same (r .same)
     (leaves-book (ap (messageEnters f (r .value)) (h .same) ∙ read-is bk (λ t. messageEnters f t bk) (r .is))
     (tree-leaves L f m (h .state) (r .value) (holds-kept h) (r .is) (r .next)))
@@ -187,7 +187,7 @@ sheet-leaves : (L : Lengths) (old : List ℕ) (bk : Book) (f sheet : List ℕ) (
     → numberOf (alertSheetOf L old f sheet new work) ≡ 0 → Leaves (alertSheetOf L old f sheet new work) (ifRead (whole alertForm sheet) bk (λ v. alertsEnter f (v .1) bk))
 unfolding alertSheetOf
 sheet-leaves L old bk f sheet new work h e =
-    let r = past-four L old new (L .overlay) work (L .alertWork) (leb (length sheet) 1048576) (whole alertForm sheet) (alertsOf L f) (h .state) (h .is) e in
+    let r = past-four L old new (L .overlay) work (L .alertWork) (leb (length sheet) 1048576) (whole alertForm sheet) (alertsOutcome L f) (h .state) (h .is) e in
     leaves-same (r .same)
     (leaves-book (ap (alertsEnter f (r .value .1)) (h .same) ∙ read-is bk (λ v. alertsEnter f (v .1) bk) (r .is))
     (alerts-leave L f sheet (h .state) (r .value) (holds-kept h) (r .is) (r .next)))
@@ -206,7 +206,7 @@ position-leaves : (L : Lengths) (old : List ℕ) (bk : Book) (f sheet : List ℕ
     → Leaves (vehicleSheetOf L old f sheet clock new work) (ifRead (whole vehicleForm sheet) bk (λ v. vehiclesEnter f (v .1) clock bk))
 unfolding vehicleSheetOf
 position-leaves L old bk f sheet clock new work h e =
-    let r = past-four L old new (L .overlay) work (L .vehicleWork) (leb (length sheet) 1048576) (keysAscend (whole vehicleForm sheet)) (vehiclesOf L f clock) (h .state) (h .is) e in
+    let r = past-four L old new (L .overlay) work (L .vehicleWork) (leb (length sheet) 1048576) (keysAscend (whole vehicleForm sheet)) (vehiclesOutcome L f clock) (h .state) (h .is) e in
     let is = ascend-some (whole vehicleForm sheet) (r .value) (r .is) in
     leaves-same (r .same)
     (leaves-book (ap (vehiclesEnter f (r .value .1) clock) (h .same) ∙ read-is bk (λ v. vehiclesEnter f (v .1) clock bk) is)
@@ -230,7 +230,7 @@ stays : (old : List ℕ) (bk : Book) (t : Bool) → Holds old bk → Holds old (
 stays old bk true h = h
 stays old bk false h = h
 
-step : (L : Lengths) (old : List ℕ) (bk : Book) (c : Call) → Holds old bk → Holds (after old c (gives L old c)) (fed bk c (gives L old c .number))
+step : (L : Lengths) (old : List ℕ) (bk : Book) (c : Call) → Holds old bk → Holds (overlayAfter old c (gives L old c)) (fed bk c (gives L old c .number))
 step L old bk (fresh new) h = goes-on old bk noBook new (freshOf L new) h (fresh-leaves L new)
 step L old bk (message f m new work) h = goes-on old bk _ new (messageOf L old f m new work) h (message-leaves L old bk f m new work h)
 step L old bk (alertSheet f sheet new work) h = goes-on old bk _ new (alertSheetOf L old f sheet new work) h (sheet-leaves L old bk f sheet new work h)
@@ -241,17 +241,17 @@ step L old bk (report f out) h = stays old bk (eqb (numberOf (reportOf L old f o
 -- ---- and the book says what each call gives
 
 -- a card
-arriving-says : (L : Lengths) (s : State) (v : Value cardForm) → numberOf (arrivingOf L s v) ≡ 0 → arrivingOf L s v ≡ accepted (cardBy (shown s) v)
-unfolding arrivingOf finished
+arriving-says : (L : Lengths) (s : State) (v : Value cardForm) → numberOf (arrivingOutcome L s v) ≡ 0 → arrivingOutcome L s v ≡ accepted (cardBy (shown s) v)
+unfolding arrivingOutcome finished
 arriving-says L s v e =
     let x = write cardForm (finished s v) in
     let o8 = need (leb (length x) (L .card)) 8 (accepted x) in
     let o7 = need (ok 7 cardForm v && ok 7 cardForm (finished s v)) 7 o8 in
     let o6 = need (ok 6 cardForm v) 6 o7 in
-    let a = asked (ok 5 cardForm v) 5 o6 (omega arith) e in
-    let b = asked (ok 6 cardForm v) 6 o7 (omega arith) (a .next) in
-    let c = asked (ok 7 cardForm v && ok 7 cardForm (finished s v)) 7 o8 (omega arith) (b .next) in
-    let d = asked (leb (length x) (L .card)) 8 (accepted x) (omega arith) (c .next) in
+    let a = acceptedYes (ok 5 cardForm v) 5 o6 (omega arith) e in
+    let b = acceptedYes (ok 6 cardForm v) 6 o7 (omega arith) (a .next) in
+    let c = acceptedYes (ok 7 cardForm v && ok 7 cardForm (finished s v)) 7 o8 (omega arith) (b .next) in
+    let d = acceptedYes (leb (length x) (L .card)) 8 (accepted x) (omega arith) (c .next) in
     a .same ∙ b .same ∙ c .same ∙ d .same
 
 card-read : {o : Option (Value cardForm)} {v : Value cardForm} {a b : Book} (out : ℕ) → o ≡ some v → a ≡ b → filled out (cardBy a v) ≡ filled out (ifRead o [] (cardBy b))
@@ -261,7 +261,7 @@ card-says : (L : Lengths) (old : List ℕ) (bk : Book) (bytes : List ℕ) (out :
     → bytesOf out (cardCallOf L old bytes out work) ≡ filled out (ifRead (whole cardForm bytes) [] (cardBy bk))
 unfolding cardCallOf
 card-says L old bk bytes out work h e =
-    let r = past-four L old out (L .card) work (L .cardWork) (leb (length bytes) 65536) (whole cardForm bytes) (arrivingOf L) (h .state) (h .is) e in
+    let r = past-four L old out (L .card) work (L .cardWork) (leb (length bytes) 65536) (whole cardForm bytes) (arrivingOutcome L) (h .state) (h .is) e in
     ap (bytesOf out) (r .same ∙ arriving-says L (h .state) (r .value) (r .next)) ∙ card-read out (r .is) (h .same)
 
 -- what an accepted call shows, and a refused one

@@ -3,7 +3,7 @@ use mathlib.Core.Path.{refl}
 use Rattle.wire.specs.Wire as wire
 use Rattle.slices.specs.Lists.{lexOf}
 use Rattle.realtime.specs.Tree.{tree, nest}
-use Rattle.realtime.specs.Schema.{rows, feed}
+use Rattle.realtime.specs.Schema.{fieldRows, feed}
 use Rattle.calendar.specs.Civil.{leapDay, yearFrom, monthFrom}
 use Rattle.calendar.specs.Paris.{isSummer}
 use Rattle.decode.specs.Leaves as leaves
@@ -17,14 +17,14 @@ use Rattle.journey.specs.Times as times
 use Rattle.journey.specs.Enrich as enrich
 use Rattle.panel.specs.Questions as questions
 use Rattle.panel.specs.Calls.{run}
-use Rattle.panel.specs.Rides.{Holds, table}
+use Rattle.panel.specs.Rides.{AllHold, table}
 
-pub rides : Holds table
-unfolding table run questions.freshOf questions.messageOf questions.treeOf questions.cardCallOf questions.arrivingOf questions.finished questions.whole
+pub rides : AllHold table
+unfolding table run questions.freshOf questions.messageOf questions.treeOutcome questions.cardCallOf questions.arrivingOutcome questions.finished questions.whole
     image.stateOf image.filled image.room valid.valid valid.within valid.feedValid shown change.afterMessage change.feedAt change.putFeed
-    leaves.leaves leaves.entries leaves.countOf
-    tree nest feed rows wire.fields wire.many wire.field wire.value wire.payload wire.until wire.text wire.bytes wire.key wire.varint wire.digits lexOf
-    lookup.first lookup.feed-of lookup.trip-at lookup.get-trip lookup.find-stop-update lookup.resolve-trip-rt lookup.get-vehicle-for-trip lookup.vehicle-for-trip lookup.stop-update-by-stop-id
+    leaves.leaves leaves.entries leaves.countWithoutAt
+    tree nest feed fieldRows wire.fields wire.many wire.field wire.value wire.payload wire.until wire.lengthDelimited wire.bytes wire.key wire.varint wire.digits lexOf
+    lookup.firstThat lookup.feed-of lookup.trip-at lookup.get-trip lookup.find-stop-update lookup.resolve-trip-rt lookup.get-vehicle-for-trip lookup.vehicle-for-trip lookup.stop-update-by-stop-id
     times.apply-time enrich.trip-rt enrich.cancels enrich.departs enrich.arrives enrich.live enrich.late enrich.applies enrich.alerts-of enrich.disrupted
     enrich.enrichMiddle enrich.enrichTransit enrich.status-of enrich.labels-of enrich.headers-of enrich.enrich-with-realtime
     isSummer leapDay yearFrom monthFrom

@@ -7,7 +7,8 @@ use mathlib.Core.List.{List, [], _∷_}
 use mathlib.Core.Logic.{inl, inr}
 use lib.Dec.{leb}
 use lib.ListN.{length}
-use Rattle.formats.specs.Class.{all, utf8, printable}
+use Rattle.formats.specs.Class.{utf8, printable}
+use Rattle.basics.specs.Lists.{all}
 use Rattle.formats.specs.Format.{Format, text, list, _&_, Value, write}
 use Rattle.formats_judge.specs.Judged.{ok}
 use Rattle.decode.specs.Trip.{Trip, updatesOf, number32, stopUpdate, tripEntry}
@@ -15,11 +16,11 @@ use Rattle.alerts.specs.Alert.{Alert, alert, informed-trip-ids, informed-route-
 use Rattle.overlay.specs.State.{Feed, State, vehicleEntry, feedEntry, overlay, tripsOf, vehiclesOf, alertsOf, feedsOf}
 use Rattle.overlay.specs.Image.{room}
 use Rattle.overlay.specs.Buffer.{published}
-use Rattle.overlay.specs.laws.Rules.{judges, all-true, unjudged}
-use Rattle.overlay.specs.laws.Kept.{StateKept, kept-room}
+use Rattle.overlay.specs.laws.Within.{judges, all-true, unjudged}
+use Rattle.overlay.specs.laws.StaysValid.{StateKept, kept-room}
 use Rattle.journey.specs.Card.{middle, transit, leg, card, cardOf, transitOf}
 use Rattle.panel.specs.Outcome.{accepted, need}
-use Rattle.panel.specs.Questions.{changed}
+use Rattle.panel.specs.Questions.{changedState}
 
 abbrev pub tripFew : List ℕ × Trip → Bool
 tripFew e = leb (length (updatesOf (e .1))) 128
@@ -110,7 +111,7 @@ pub seven-card : (v : Value card) → ok 7 card v ≡ cardFew v
 seven-card v = of-card v .is
 
 -- AT THE PUBLISHED LENGTH question 7 of what a call leaves is these counts alone: what is within them always has room
-pub seven-published : (s : State) → StateKept s → changed published s ≡ need (stateFew s) 7 (accepted (write overlay s))
+pub seven-published : (s : State) → StateKept s → changedState published s ≡ need (stateFew s) 7 (accepted (write overlay s))
 seven-published s k = go (ok 7 overlay s) refl ∙ ap (λ b. need b 7 (accepted (write overlay s))) (seven-state s)
   where
     go : (b : Bool) → ok 7 overlay s ≡ b → need (b && room published s) 7 (accepted (write overlay s)) ≡ need b 7 (accepted (write overlay s))

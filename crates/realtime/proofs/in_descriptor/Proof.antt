@@ -1,11 +1,11 @@
 -- `realtime::in_descriptor` meets its contract, arm by arm. Assumes nothing.
 use borrow.Author.Tests.{ne-eqb}
-use Rattle.realtime.specs.Schema.{rows, feed}
+use Rattle.realtime.specs.Schema.{fieldRows, feed}
 use Rattle.realtime.proofs.in_descriptor.Statement.{statement}
 use Rattle.realtime.proofs.in_descriptor.Tie as tie
 
 pub in-descriptor-spec : {M : Type 1} → statement M
-unfolding feed rows
+unfolding feed fieldRows
 in-descriptor-spec =
     tie.close
     (tie.spec

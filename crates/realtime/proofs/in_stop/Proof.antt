@@ -1,11 +1,11 @@
 -- `realtime::in_stop` meets its contract, arm by arm. Assumes nothing.
 use borrow.Author.Tests.{ne-eqb}
-use Rattle.realtime.specs.Schema.{rows, feed}
+use Rattle.realtime.specs.Schema.{fieldRows, feed}
 use Rattle.realtime.proofs.in_stop.Statement.{statement}
 use Rattle.realtime.proofs.in_stop.Tie as tie
 
 pub in-stop-spec : {M : Type 1} → statement M
-unfolding feed rows
+unfolding feed fieldRows
 in-stop-spec =
     tie.close
     (tie.spec

@@ -1,4 +1,4 @@
--- Law. What a step over a message says of its tree.
+-- Law. A step over a message says what its tree says.
 use Prim.Native.Nat.{ℕ}
 use mathlib.Core.Path.{_≡_, subst}
 use mathlib.Core.List.{List}

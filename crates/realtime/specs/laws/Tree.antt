@@ -2,17 +2,18 @@
 use Prim.Native.Nat.{ℕ, zero, suc, _+_, _≤_, _<_}
 use mathlib.Core.Path.{_≡_, refl, sym, ap, subst, _∙_}
 use mathlib.Core.List.{List, [], _∷_, _++_}
-use mathlib.Core.Option.{Option, none, some}
+use mathlib.Core.Option.{Option, none, some, Option·map}
 use native.Mathlib.Omega.{arith}
 use lib.ListN.{length, take, drop, length-append, take-append-drop}
 use mathlib.Core.Bool.{Bool, true, false, cond}
 use lib.Dec.{leb}
-use Rattle.wire.specs.Wire.{Read, broken, read, andThen, varint, Key, key, bytes, text, Value, VARINT, I64, LEN, GROUP, I32, value, Field, field, mapO, fields}
+use Rattle.wire.specs.Wire.{Read, broken, read, andThen, varint, Key, key, bytes, lengthDelimited, Value, VARINT, I64, LEN, GROUP, I32, value, Field, field, fields}
 use Rattle.wire.specs.laws.Wire.{never, moves, stays, reader-key, reader-varint, reader-field, key-nil, field-nil}
 use Rattle.wire.specs.laws.Values.{value-2, value-wire}
 use Rattle.wire.specs.Fields.{Whole}
 use Rattle.wire.specs.laws.Fields.{field-front, fields-step, fields-nil, fields-broken}
-use Rattle.realtime.specs.Tree.{Kind, aNumber, aText, aMessage, Schema, Tree, end, msg, bindO, putNumber, putText, putMessage, put, build, nest, tree}
+use Rattle.realtime.specs.Tree.{Kind, aNumber, aText, aMessage, Schema, Tree, end, msg, addNumber, addText, addMessage, addField, build, nest, tree}
+use Rattle.basics.specs.Options.{bindO}
 
 -- a text inside a value has fewer than n bytes
 abbrev pub Shorter : ℕ → Value → Type 0
@@ -24,13 +25,13 @@ Shorter n (I32 x) = Unit {0}
 
 -- two readers that agree on fewer than n bytes put the same
 put-same : (n : ℕ) (p q : ℕ → List ℕ → Option Tree) → ((u : ℕ) (x : List ℕ) → length x < n → p u x ≡ q u x)
-    → (k : Option Kind) (x : Field) → Shorter n (x .value) → (a b : Option Tree) → a ≡ b → put p k x a ≡ put q k x b
+    → (k : Option Kind) (x : Field) → Shorter n (x .value) → (a b : Option Tree) → a ≡ b → addField p k x a ≡ addField q k x b
 put-same n p q h none x l a b e = e
 put-same n p q h (some aNumber) x l a b e = rw e
 put-same n p q h (some aText) x l a b e = rw e
 put-same n p q h (some (aMessage u)) x l a b e = rw e (go (x .value) l)
   where
-    go : (v : Value) → Shorter n v → putMessage (p u) (x .number) u v b ≡ putMessage (q u) (x .number) u v b
+    go : (v : Value) → Shorter n v → addMessage (p u) (x .number) u v b ≡ addMessage (q u) (x .number) u v b
     go (VARINT m) l = refl
     go (I64 y) l = refl
     go (LEN y) l = rw (h u y l)
@@ -56,8 +57,8 @@ bytes-room n s x r e = go (leb n (length s)) e
         omega (arith, ap length p, ap length q, length-append (take n s) (drop n s), ap length (take-append-drop n s))
     go false e₁ = never e₁
 
-pub text-room : (s x r : List ℕ) → text s ≡ read x r → length x + length r ≤ length s
-unfolding text
+pub text-room : (s x r : List ℕ) → lengthDelimited s ≡ read x r → length x + length r ≤ length s
+unfolding lengthDelimited
 text-room s x r e = go (varint s) refl e
   where
     go : (o : Read ℕ) → varint s ≡ o → andThen o bytes ≡ read x r → length x + length r ≤ length s
@@ -69,9 +70,9 @@ value-shorter d k s (VARINT m) r n l e = tt
 value-shorter d k s (I64 x) r n l e = tt
 value-shorter d k s GROUP r n l e = tt
 value-shorter d k s (I32 x) r n l e = tt
-value-shorter d k s (LEN x) r n l e = go (text s) refl (sym (value-2 d (k .number) s) ∙ ap (λ w. value d (record { number = k .number; wire = w }) s) (value-wire (LEN x) r d k s e) ∙ e)
+value-shorter d k s (LEN x) r n l e = go (lengthDelimited s) refl (sym (value-2 d (k .number) s) ∙ ap (λ w. value d (record { number = k .number; wire = w }) s) (value-wire (LEN x) r d k s e) ∙ e)
   where
-    go : (o : Read (List ℕ)) → text s ≡ o → andThen o (λ x r. read (LEN x) r) ≡ read (LEN x) r → length x < n
+    go : (o : Read (List ℕ)) → lengthDelimited s ≡ o → andThen o (λ x r. read (LEN x) r) ≡ read (LEN x) r → length x < n
     go broken e₁ e₂ = never e₂
     go (read y m) e₁ e₂ = let p : y ≡ x = cc in omega (arith, ap length p, text-room s y m e₁)
 
@@ -101,11 +102,11 @@ grown-nil p listed = rw fields-nil
 grown-broken : (p : ℕ → List ℕ → Option Tree) (listed : ℕ → Option Kind) (s : List ℕ) → 0 < length s → field 16 s ≡ broken → grown p listed s ≡ none
 grown-broken p listed s l e = rw (fields-broken s l e)
 
-put-none : (p : ℕ → List ℕ → Option Tree) (k : Option Kind) (x : Field) → put p k x none ≡ none
+put-none : (p : ℕ → List ℕ → Option Tree) (k : Option Kind) (x : Field) → addField p k x none ≡ none
 put-none p none x = refl
 put-none p (some aNumber) x = go (x .value)
   where
-    go : (v : Value) → putNumber (x .number) v none ≡ none
+    go : (v : Value) → addNumber (x .number) v none ≡ none
     go (VARINT m) = refl
     go (I64 y) = refl
     go (LEN y) = refl
@@ -113,7 +114,7 @@ put-none p (some aNumber) x = go (x .value)
     go (I32 y) = refl
 put-none p (some aText) x = go (x .value)
   where
-    go : (v : Value) → putText (x .number) v none ≡ none
+    go : (v : Value) → addText (x .number) v none ≡ none
     go (VARINT m) = refl
     go (I64 y) = refl
     go (LEN y) = refl
@@ -121,11 +122,11 @@ put-none p (some aText) x = go (x .value)
     go (I32 y) = refl
 put-none p (some (aMessage u)) x = go (x .value)
   where
-    in-message : (o : Option Tree) → bindO o (λ t. mapO (msg (x .number) u t) none) ≡ none
+    in-message : (o : Option Tree) → bindO o (λ t. Option·map (msg (x .number) u t) none) ≡ none
     in-message none = refl
     in-message (some t) = refl
 
-    go : (v : Value) → putMessage (p u) (x .number) u v none ≡ none
+    go : (v : Value) → addMessage (p u) (x .number) u v none ≡ none
     go (VARINT m) = refl
     go (I64 y) = refl
     go (LEN y) = in-message (p u y)
@@ -133,10 +134,10 @@ put-none p (some (aMessage u)) x = go (x .value)
     go (I32 y) = refl
 
 grown-step : (p : ℕ → List ℕ → Option Tree) (listed : ℕ → Option Kind) (s : List ℕ) (x : Field) (r : List ℕ) → field 16 s ≡ read x r
-    → grown p listed s ≡ put p (listed (x .number)) x (grown p listed r)
+    → grown p listed s ≡ addField p (listed (x .number)) x (grown p listed r)
 grown-step p listed s x r e = rw (fields-step s x r e) (go (fields r))
   where
-    go : (o : Option (List Field)) → bindO (mapO (λ l. x ∷ l) o) (build p listed) ≡ put p (listed (x .number)) x (bindO o (build p listed))
+    go : (o : Option (List Field)) → bindO (Option·map (λ l. x ∷ l) o) (build p listed) ≡ addField p (listed (x .number)) x (bindO o (build p listed))
     go none = sym (put-none p (listed (x .number)) x)
     go (some l) = refl
 
@@ -180,8 +181,8 @@ module _ (σ : Schema) where
   tree-broken t s l e = tree-grown t s ∙ grown-broken (tree σ) (σ t) s l e
 
   -- THE LAW OF A FIELD: the first field, put in front of what the others are
-  pub tree-step : (t : ℕ) (s : List ℕ) (x : Field) (r : List ℕ) → field 16 s ≡ read x r → tree σ t s ≡ put (tree σ) (σ t (x .number)) x (tree σ t r)
-  tree-step t s x r e = tree-grown t s ∙ grown-step (tree σ) (σ t) s x r e ∙ ap (put (tree σ) (σ t (x .number)) x) (sym (tree-grown t r))
+  pub tree-step : (t : ℕ) (s : List ℕ) (x : Field) (r : List ℕ) → field 16 s ≡ read x r → tree σ t s ≡ addField (tree σ) (σ t (x .number)) x (tree σ t r)
+  tree-step t s x r e = tree-grown t s ∙ grown-step (tree σ) (σ t) s x r e ∙ ap (addField (tree σ) (σ t (x .number)) x) (sym (tree-grown t r))
 
-  pub tree-front : (t : ℕ) (f : List ℕ) (x : Field) (a : List ℕ) → Whole f x → tree σ t (f ++ a) ≡ put (tree σ) (σ t (x .number)) x (tree σ t a)
+  pub tree-front : (t : ℕ) (f : List ℕ) (x : Field) (a : List ℕ) → Whole f x → tree σ t (f ++ a) ≡ addField (tree σ) (σ t (x .number)) x (tree σ t a)
   tree-front t f x a w = tree-step t (f ++ a) x a (field-front f x a w)

@@ -3,14 +3,14 @@ use mathlib.Core.Bool.{cond}
 use Prim.Native.Nat.{ℕ, _+_, _≤_, _<_}
 use mathlib.Core.Path.{_≡_}
 use mathlib.Core.List.{List}
-use mathlib.Core.Option.{Option, none, some}
+use mathlib.Core.Option.{Option, none, some, Option·map}
 use lib.Dec.{eqb}
 use lib.ListN.{length, take, drop}
-use Rattle.wire.specs.Wire.{mapO}
 use Rattle.wire.specs.promises.Places.{numberAt, textAt}
 use Rattle.wire.specs.declared.GotNumber.{GotNumber}
 use Rattle.wire.specs.declared.GotText.{GotText}
-use Rattle.realtime.specs.Tree.{aNumber, aText, aMessage, Schema, Tree, end, num, txt, msg, bindO, tree}
+use Rattle.realtime.specs.Tree.{aNumber, aText, aMessage, Schema, Tree, end, num, txt, msg, tree}
+use Rattle.basics.specs.Options.{bindO}
 use Rattle.realtime.specs.declared.Step.{Step}
 
 -- what stands behind a key, where its wire type w is a number's, and where it is a text's
@@ -22,9 +22,9 @@ textBehind s at w = cond (eqb w 2) (textAt s at) GotText.Broken
 
 -- the tree that a step and what stands behind it make
 abbrev pub seen : Schema → ℕ → List ℕ → Step → Option Tree
-seen σ t s (Step.Number f v n) = mapO (num f v) (tree σ t (drop n s))
-seen σ t s (Step.Text f i l n) = mapO (txt f (take l (drop i s))) (tree σ t (drop n s))
-seen σ t s (Step.Message f u i l n) = bindO (tree σ u (take l (drop i s))) (λ m. mapO (msg f u m) (tree σ t (drop n s)))
+seen σ t s (Step.Number f v n) = Option·map (num f v) (tree σ t (drop n s))
+seen σ t s (Step.Text f i l n) = Option·map (txt f (take l (drop i s))) (tree σ t (drop n s))
+seen σ t s (Step.Message f u i l n) = bindO (tree σ u (take l (drop i s))) (λ m. Option·map (msg f u m) (tree σ t (drop n s)))
 seen σ t s Step.End = some end
 seen σ t s Step.Broken = none
 

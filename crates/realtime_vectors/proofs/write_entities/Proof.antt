@@ -1,13 +1,13 @@
 -- `realtime_vectors::write_entities` is safe and ends: each item leaves fewer bytes ahead. Assumes nothing.
 use borrow.Author.Needs.{needs}
 use Rattle.realtime_views.specs.laws.Walks.{found}
-use Rattle.realtime_views.specs.promises.Walks.{Sound, ahead}
+use Rattle.realtime_views.specs.promises.Walks.{SoundWalk, ahead}
 use Rattle.realtime_views.specs.laws.Starts.{plain-sound}
 use Rattle.realtime_vectors.proofs.write_entities.Statement.{statement}
 use Rattle.realtime_vectors.proofs.write_entities.Tie as tie
 
 abbrev Inv-loop : tie.InvT-loop
-Inv-loop s w₀ w = Sound s (w .outer) (w .end) (w .at)
+Inv-loop s w₀ w = SoundWalk s (w .outer) (w .end) (w .at)
 
 abbrev μ-loop : tie.MeasureT-loop
 μ-loop s w₀ w = ahead s w

@@ -1,11 +1,12 @@
--- Law. What is last in a stop_time_update, field by field, as the code keeps it: in plain words.
+-- Law. What the code keeps of a stop_time_update is what is last in it.
 use Prim.Native.Nat.{ℕ}
 use mathlib.Core.Path.{_≡_, refl, _∙_}
 use mathlib.Core.List.{List}
 use mathlib.Core.Bool.{Bool, true, false, cond}
 use mathlib.Core.Option.{Option, none, some}
 use lib.Dec.{eqb}
-use Rattle.realtime.specs.Tree.{Tree, end, num, txt, msg, orElse, Leaf, count, words, last}
+use Rattle.realtime.specs.Tree.{Tree, end, num, txt, msg, Leaf, count, words, last}
+use Rattle.basics.specs.Options.{orElse}
 use Rattle.realtime_views.specs.promises.Fold.{folded}
 use Rattle.realtime_views.specs.promises.Numbers.{Single, taking}
 

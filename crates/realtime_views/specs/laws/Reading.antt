@@ -1,5 +1,4 @@
--- Law. Readers that answer positions: what such an answer says of the bytes, and what a reader of one over another
--- ensures.
+-- Law. The front of a message reads as a message.
 use Prim.Native.Nat.{ℕ, _+_, _-_, _≤_}
 use mathlib.Core.Path.{_≡_, sym, ap, _∙_}
 use mathlib.Core.List.{List}

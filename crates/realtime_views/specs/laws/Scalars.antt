@@ -1,4 +1,4 @@
--- Law. The last scalars of a message, by their fields, along a path of messages of which all occurrences are merged.
+-- Law. Walks that keep the last scalars along a path of merged messages.
 use Prim.Native.Nat.{ℕ}
 use mathlib.Core.Path.{_≡_, refl, _∙_}
 use mathlib.Core.List.{List, [], _∷_}
@@ -6,7 +6,8 @@ use mathlib.Core.Bool.{Bool, true, false, cond}
 use mathlib.Core.Option.{Option, none, some}
 use lib.Dec.{eqb}
 use lib.ListN.{length, take, drop}
-use Rattle.realtime.specs.Tree.{Schema, Tree, end, num, txt, msg, orElse, count, words, last, sub, tree}
+use Rattle.realtime.specs.Tree.{Schema, Tree, end, num, txt, msg, count, words, last, sub, tree}
+use Rattle.basics.specs.Options.{orElse}
 use Rattle.realtime_views.specs.laws.Fold.{inside-sub}
 use Rattle.realtime_views.specs.promises.Fold.{folded}
 use Rattle.realtime_views.specs.declared.Scalar.{Scalar}

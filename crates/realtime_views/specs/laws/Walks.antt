@@ -1,4 +1,4 @@
--- Law. The messages at a repeated field k, of all the messages at field a merged, one after the other.
+-- Law. A step of a walk yields the next message at the field.
 use Prim.Native.Nat.{ℕ}
 use mathlib.Core.Path.{_≡_, subst}
 use mathlib.Core.List.{List}
@@ -7,11 +7,11 @@ use Rattle.realtime.specs.Tree.{Schema, Tree}
 use Rattle.realtime.specs.Schema.{feed, feedMessage, feedEntity, tripUpdate}
 use Rattle.realtime_views.specs.declared.Walk.{Walk}
 use Rattle.realtime_views.specs.declared.Item.{Item}
-use Rattle.realtime_views.specs.promises.Walks.{left, Yield, Found, Lying, Yields}
+use Rattle.realtime_views.specs.promises.Walks.{left, Yield, FoundItem, Lying, Yields}
 
 -- what is known of an item, and that none is left, by what the answer was taken apart to
 module _ {σ : Schema} {t a u k v : ℕ} {s : List ℕ} {w : Walk} {r : Item} (Y : Yields σ t a u k v s w r) where
-  pub found : {i n : ℕ} {w′ : Walk} → r ≡ Item.At i n w′ → Found s w i n w′
+  pub found : {i n : ℕ} {w′ : Walk} → r ≡ Item.At i n w′ → FoundItem s w i n w′
   found e = subst (Lying s w) e (Y .lying)
 
   pub yielded : {q : Item} → r ≡ q → (l : List Tree) → left σ t a u k s w ≡ some l → Yield σ t a u k v s l q

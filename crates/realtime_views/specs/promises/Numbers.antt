@@ -53,27 +53,27 @@ spans = record {
 abbrev pub orZeroAt : ℕ → Single ℕ
 orZeroAt k = record { field = k; number = λ n. n; text = λ x. 0 }
 
-abbrev pub textAt : ℕ → Single (List ℕ)
-textAt k = record { field = k; number = λ n. []; text = λ x. x }
+abbrev pub singleText : ℕ → Single (List ℕ)
+singleText k = record { field = k; number = λ n. []; text = λ x. x }
 
-abbrev pub numberAt : ℕ → Single (Option ℕ)
-numberAt k = record { field = k; number = some; text = λ x. none }
+abbrev pub singleNumber : ℕ → Single (Option ℕ)
+singleNumber k = record { field = k; number = some; text = λ x. none }
 
 -- stop_sequence 1, stop_id 4, schedule_relationship 5; of an event: delay 1, time 2
 abbrev pub sequence : Single ℕ
 sequence = orZeroAt 1
 
 abbrev pub stop : Single (List ℕ)
-stop = textAt 4
+stop = singleText 4
 
 abbrev pub relationship : Single ℕ
 relationship = orZeroAt 5
 
 abbrev pub delay : Single (Option ℕ)
-delay = numberAt 1
+delay = singleNumber 1
 
 abbrev pub time : Single (Option ℕ)
-time = numberAt 2
+time = singleNumber 2
 
 -- a number that may be absent
 abbrev pub valueOf : Number → Option ℕ

@@ -3,11 +3,11 @@ use mathlib.Core.Bool.{cond}
 use Prim.Native.Nat.{ℕ, _+_, _-_, _≤_, _<_}
 use mathlib.Core.Path.{_≡_}
 use mathlib.Core.List.{List, [], _∷_}
-use mathlib.Core.Option.{Option, none, some}
+use mathlib.Core.Option.{Option, none, some, Option·map}
 use lib.ListN.{length, take, drop}
 use lib.Dec.{eqb}
-use Rattle.wire.specs.Wire.{mapO}
-use Rattle.realtime.specs.Tree.{Kind, aNumber, aText, aMessage, Schema, Tree, bindO, tree, join, sub, rep}
+use Rattle.realtime.specs.Tree.{Kind, aNumber, aText, aMessage, Schema, Tree, tree, join, sub, rep}
+use Rattle.basics.specs.Options.{bindO}
 use Rattle.realtime.specs.Schema.{feed, feedMessage, feedEntity, tripUpdate, stopTimeUpdate}
 use Rattle.realtime.specs.declared.Step.{Step}
 use Rattle.realtime_views.specs.declared.Met.{Met}
@@ -16,14 +16,14 @@ use Rattle.realtime_views.specs.declared.Item.{Item}
 
 -- those of the message that is open, and then those of the others
 abbrev pub leftOf : ℕ → ℕ → Option Tree → Option Tree → Option (List Tree)
-leftOf a k i o = bindO i (λ m. mapO (λ t. rep k (join m (sub a t))) o)
+leftOf a k i o = bindO i (λ m. Option·map (λ t. rep k (join m (sub a t))) o)
 
 -- of a walk in s, over a message of type t; those at field a are of type u
 abbrev pub left : Schema → ℕ → ℕ → ℕ → ℕ → List ℕ → Walk → Option (List Tree)
 left σ t a u k s w = leftOf a k (tree σ u (drop (w .at) (take (w .end) s))) (tree σ t (drop (w .outer) s))
 
 -- the places of a walk
-pub record Sound (s : List ℕ) (outer end at : ℕ) : Type 0 where
+pub record SoundWalk (s : List ℕ) (outer end at : ℕ) : Type 0 where
   pub ahead : at ≤ end
   pub behind : end ≤ outer
   pub inside : outer ≤ length s
@@ -38,7 +38,7 @@ met k Step.Broken = Met.Broken
 
 -- what a walk asks: its places, and the type of the messages at field a
 pub record Walks (σ : Schema) (t a u : ℕ) (s : List ℕ) (w : Walk) : Type 0 where
-  pub sound : Sound s (w .outer) (w .end) (w .at)
+  pub sound : SoundWalk s (w .outer) (w .end) (w .at)
   pub opened : (v : ℕ) → σ t a ≡ some (aMessage v) → v ≡ u
 
 -- the type of a listed message
@@ -59,13 +59,13 @@ abbrev pub ahead : List ℕ → Walk → ℕ
 ahead s w = length s - w .outer + (length s - w .at)
 
 -- an item of n bytes at i, and the walk w′ behind it
-pub record Found (s : List ℕ) (w : Walk) (i n : ℕ) (w′ : Walk) : Type 0 where
+pub record FoundItem (s : List ℕ) (w : Walk) (i n : ℕ) (w′ : Walk) : Type 0 where
   pub inside : i + n ≤ length s
-  pub sound : Sound s (w′ .outer) (w′ .end) (w′ .at)
+  pub sound : SoundWalk s (w′ .outer) (w′ .end) (w′ .at)
   pub less : ahead s w′ < ahead s w
 
 abbrev pub Lying : List ℕ → Walk → Item → Type 0
-Lying s w (Item.At i n w′) = Found s w i n w′
+Lying s w (Item.At i n w′) = FoundItem s w i n w′
 Lying s w Item.Done = Unit {0}
 
 -- THE ANSWER r of a walk: where nothing is broken, the first of those that are left, or that none is

@@ -1,12 +1,12 @@
--- Law. What the answers `zeros` and `equal` say of the lists, for callers of this crate.
+-- Law. What the answers `zeros` and `same` say of the lists, for callers of this crate.
 use Prim.Native.Nat.{ℕ, zero, suc}
 use mathlib.Core.Path.{_≡_, refl, sym, subst}
 use mathlib.Core.Bool.{Bool, true, false, _&&_}
 use mathlib.Core.List.{List, [], _∷_}
 use lib.Dec.{T, eqb}
 use lib.ListN.{length, replicate}
-use borrow.Author.Tests.{eq-eqb, eqb-true}
-use Rattle.slices.specs.Lists.{zeros, equal}
+use borrow.Author.Tests.{eqb-true}
+use Rattle.slices.specs.Lists.{zeros}
 
 never : {A : Type 0} → false ≡ true → A
 never e = absurd (subst T (sym e) tt)
@@ -32,19 +32,3 @@ pub zeros-replicate : (n : ℕ) → zeros (replicate n 0) ≡ true
 unfolding zeros
 zeros-replicate zero = refl
 zeros-replicate (suc n) = zeros-replicate n
-
--- lists that are told the same are the same, and back
-pub equal-true : (a b : List ℕ) → equal a b ≡ true → a ≡ b
-unfolding equal
-equal-true [] [] e = refl
-equal-true [] (y ∷ b) e = never e
-equal-true (x ∷ a) [] e = never e
-equal-true (x ∷ a) (y ∷ b) e =
-    let first : x ≡ y = eqb-true x y (and-left (eqb x y) (equal a b) e) in
-    let rest : a ≡ b = equal-true a b (and-right (eqb x y) (equal a b) e) in
-    cc
-
-pub equal-self : (a : List ℕ) → equal a a ≡ true
-unfolding equal
-equal-self [] = refl
-equal-self (x ∷ a) = rw (eq-eqb x x refl) (equal-self a)

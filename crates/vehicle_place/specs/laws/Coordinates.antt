@@ -1,4 +1,4 @@
--- Law. A coordinate as the code holds it, and its 64 bits: every pattern is handed on.
+-- Law. No pattern of a coordinate's bits is lost.
 use mathlib.Core.Path.{_≡_, refl}
 use mathlib.Core.Bool.{Bool, true, false, not}
 use Prim.Native.Nat.{ℕ, _^_, _<_}

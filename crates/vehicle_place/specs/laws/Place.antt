@@ -1,4 +1,4 @@
--- Law. A vehicle's place: what stands in a sheet is what goes into a leg, bit for bit.
+-- Law. What stands in a sheet goes into a leg bit for bit.
 use mathlib.Core.Path.{_≡_, refl}
 use mathlib.Core.Logic.{inr}
 use Prim.Native.Nat.{ℕ, _^_, _<_}

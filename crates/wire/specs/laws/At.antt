@@ -8,10 +8,10 @@ use lib.ListN.{length, take, drop, length-append, length-drop, take-append-drop}
 use lib.Seq.{drop-at, take-at}
 use lib.Dec.{leb}
 use mathlib.Core.Bool.{Bool, true, false, cond}
-use Rattle.wire.specs.Wire.{Read, broken, read, andThen, varint, Key, key, bytes, text, Value, value, field, LEN}
+use Rattle.wire.specs.Wire.{Read, broken, read, andThen, varint, Key, key, bytes, lengthDelimited, Value, value, field, LEN}
 use Rattle.wire.specs.laws.Values.{value-2}
-use Rattle.wire.specs.laws.Wire.{never, moves, stays, key-nil, Reader, reader-varint, reader-key, reader-text, reader-value}
-use Rattle.wire.specs.promises.Places.{before, numberOf, numberAt, keyOf, keyAt, textOf, textAt, skippedOf, skippedAt}
+use Rattle.wire.specs.laws.Wire.{never, moves, stays, key-nil, ReaderLaw, reader-varint, reader-key, reader-text, reader-value}
+use Rattle.wire.specs.promises.Places.{cursorAt, gotNumber, numberAt, gotKey, keyAt, gotText, textAt, gotSkipped, skippedAt}
 use Rattle.wire.specs.declared.Cursor.{Cursor}
 use Rattle.wire.specs.declared.GotNumber.{GotNumber}
 use Rattle.wire.specs.declared.GotKey.{GotKey}
@@ -30,7 +30,7 @@ pub record ReadAt {A : Type 0} (p : List ℕ → Read A) (s : List ℕ) (at : �
   pub same : p (drop at s) ≡ read a (drop next s)
   pub inside : next ≤ length s
 
-module _ {A : Type 0} (p : List ℕ → Read A) (P : Reader p) (s : List ℕ) (at : ℕ) where
+module _ {A : Type 0} (p : List ℕ → Read A) (P : ReaderLaw p) (s : List ℕ) (at : ℕ) where
   pub read-at : (a : A) (r : List ℕ) → p (drop at s) ≡ read a r → ReadAt p s at a (length s - length r)
   read-at a r e =
       let F = P (drop at s) a r e in
@@ -44,37 +44,37 @@ module _ (s : List ℕ) (at : ℕ) where
   pub number-read : (n : ℕ) (c : Cursor) → GotNumber.Read n c ≡ numberAt s at → ReadAt varint s at n (c .at)
   number-read n c e = go (varint (drop at s)) refl e
     where
-      go : (o : Read ℕ) → varint (drop at s) ≡ o → GotNumber.Read n c ≡ numberOf s o → ReadAt varint s at n (c .at)
+      go : (o : Read ℕ) → varint (drop at s) ≡ o → GotNumber.Read n c ≡ gotNumber s o → ReadAt varint s at n (c .at)
       go broken e₁ e₂ = let z : _≡_ {A = ℕ} 0 1 = cc in absurd (omega arith)
       go (read m r) e₁ e₂ =
           let a : m ≡ n = cc in
-          let b : before s r ≡ c = cc in
-          subst (λ k. ReadAt varint s at n (k .at)) b (subst (λ k. ReadAt varint s at k (before s r .at)) a (read-at varint reader-varint s at m r e₁))
+          let b : cursorAt s r ≡ c = cc in
+          subst (λ k. ReadAt varint s at n (k .at)) b (subst (λ k. ReadAt varint s at k (cursorAt s r .at)) a (read-at varint reader-varint s at m r e₁))
 
   pub number-broken : GotNumber.Broken ≡ numberAt s at → varint (drop at s) ≡ broken
   number-broken e = go (varint (drop at s)) e
     where
-      go : (o : Read ℕ) → GotNumber.Broken ≡ numberOf s o → o ≡ broken
+      go : (o : Read ℕ) → GotNumber.Broken ≡ gotNumber s o → o ≡ broken
       go broken e₂ = refl
       go (read m r) e₂ = let z : _≡_ {A = ℕ} 0 1 = cc in absurd (omega arith)
 
   pub key-read : (n w : ℕ) (c : Cursor) → GotKey.Read n w c ≡ keyAt s at → ReadAt key s at (record { number = n; wire = w }) (c .at)
   key-read n w c e = go (key (drop at s)) refl e
     where
-      go : (o : Read Key) → key (drop at s) ≡ o → GotKey.Read n w c ≡ keyOf s o → ReadAt key s at (record { number = n; wire = w }) (c .at)
+      go : (o : Read Key) → key (drop at s) ≡ o → GotKey.Read n w c ≡ gotKey s o → ReadAt key s at (record { number = n; wire = w }) (c .at)
       go broken e₁ e₂ = let z : _≡_ {A = ℕ} 0 1 = cc in absurd (omega arith)
       go (read k r) e₁ e₂ =
           let p : k .number ≡ n = cc in
           let q : k .wire ≡ w = cc in
-          let b : before s r ≡ c = cc in
+          let b : cursorAt s r ≡ c = cc in
           let h : k ≡ record { number = n; wire = w } = λ i. record { number = p i; wire = q i } in
           subst (λ j. ReadAt key s at (record { number = n; wire = w }) (j .at)) b
-          (subst (λ j. ReadAt key s at j (before s r .at)) h (read-at key reader-key s at k r e₁))
+          (subst (λ j. ReadAt key s at j (cursorAt s r .at)) h (read-at key reader-key s at k r e₁))
 
   pub key-broken : GotKey.Broken ≡ keyAt s at → key (drop at s) ≡ broken
   key-broken e = go (key (drop at s)) e
     where
-      go : (o : Read Key) → GotKey.Broken ≡ keyOf s o → o ≡ broken
+      go : (o : Read Key) → GotKey.Broken ≡ gotKey s o → o ≡ broken
       go broken e₂ = refl
       go (read m r) e₂ = let z : _≡_ {A = ℕ} 0 1 = cc in absurd (omega arith)
 
@@ -85,16 +85,16 @@ module _ (s : List ℕ) (at : ℕ) where
       k : Key
       k = record { number = n; wire = w }
 
-      go : (o : Read Value) → value d k (drop at s) ≡ o → Skipped.Past c ≡ skippedOf s o → (v : Value) × ReadAt (value d k) s at v (c .at)
+      go : (o : Read Value) → value d k (drop at s) ≡ o → Skipped.Past c ≡ gotSkipped s o → (v : Value) × ReadAt (value d k) s at v (c .at)
       go broken e₁ e₂ = let z : _≡_ {A = ℕ} 0 1 = cc in absurd (omega arith)
       go (read v r) e₁ e₂ =
-          let b : before s r ≡ c = cc in
+          let b : cursorAt s r ≡ c = cc in
           (v, subst (λ j. ReadAt (value d k) s at v (j .at)) b (read-at (value d k) (reader-value d k) s at v r e₁))
 
   pub skipped-broken : (n w d : ℕ) → Skipped.Broken ≡ skippedAt s at n w d → value d (record { number = n; wire = w }) (drop at s) ≡ broken
   skipped-broken n w d e = go (value d (record { number = n; wire = w }) (drop at s)) e
     where
-      go : (o : Read Value) → Skipped.Broken ≡ skippedOf s o → o ≡ broken
+      go : (o : Read Value) → Skipped.Broken ≡ gotSkipped s o → o ≡ broken
       go broken e₂ = refl
       go (read m r) e₂ = let z : _≡_ {A = ℕ} 0 1 = cc in absurd (omega arith)
 
@@ -107,8 +107,8 @@ bytes-split n t x r e = go (leb n (length t)) e
     go true e₁ = let p : take n t ≡ x = cc in let q : drop n t ≡ r = cc in sym (take-append-drop n t) ∙ rw (p, q)
     go false e₁ = never e₁
 
-text-split : (t x r : List ℕ) → text t ≡ read x r → (u : List ℕ) × (t ≡ u ++ (x ++ r))
-unfolding text
+text-split : (t x r : List ℕ) → lengthDelimited t ≡ read x r → (u : List ℕ) × (t ≡ u ++ (x ++ r))
+unfolding lengthDelimited
 text-split t x r e = go (varint t) refl e
   where
     go : (o : Read ℕ) → varint t ≡ o → andThen o bytes ≡ read x r → (u : List ℕ) × (t ≡ u ++ (x ++ r))
@@ -125,21 +125,21 @@ part-at s w x r e =
 
 -- at `at` stands a text: the n bytes from i on, which end at `next`
 pub record TextAt (s : List ℕ) (at i n next : ℕ) : Type 0 where
-  pub same : text (drop at s) ≡ read (take n (drop i s)) (drop next s)
+  pub same : lengthDelimited (drop at s) ≡ read (take n (drop i s)) (drop next s)
   pub ends : i + n ≡ next
   pub inside : next ≤ length s
 
 pub text-read : (s : List ℕ) (at i n : ℕ) (c : Cursor) → GotText.Read i n c ≡ textAt s at → TextAt s at i n (c .at)
-text-read s at i n c e = go (text (drop at s)) refl e
+text-read s at i n c e = go (lengthDelimited (drop at s)) refl e
   where
-    go : (o : Read (List ℕ)) → text (drop at s) ≡ o → GotText.Read i n c ≡ textOf s o → TextAt s at i n (c .at)
+    go : (o : Read (List ℕ)) → lengthDelimited (drop at s) ≡ o → GotText.Read i n c ≡ gotText s o → TextAt s at i n (c .at)
     go broken e₁ e₂ = let z : _≡_ {A = ℕ} 0 1 = cc in absurd (omega arith)
     go (read x r) e₁ e₂ =
         let p : length s - length r - length x ≡ i = cc in
         let q : length x ≡ n = cc in
-        let b : before s r ≡ c = cc in
+        let b : cursorAt s r ≡ c = cc in
         let b′ : length s - length r ≡ c .at = ap (λ k. k .at) b in
-        let R = read-at text reader-text s at x r e₁ in
+        let R = read-at lengthDelimited reader-text s at x r e₁ in
         let T = text-split (drop at s) x r e₁ in
         let w : s ≡ (take at s ++ T .0) ++ (x ++ r) =
         sym (take-append-drop at s) ∙ ap (λ l. take at s ++ l) (T .1) ∙ sym (append-assoc (take at s) (T .0) (x ++ r)) in
@@ -149,10 +149,10 @@ text-read s at i n c e = go (text (drop at s)) refl e
           inside = omega arith;
         }
 
-pub text-broken : (s : List ℕ) (at : ℕ) → GotText.Broken ≡ textAt s at → text (drop at s) ≡ broken
-text-broken s at e = go (text (drop at s)) e
+pub text-broken : (s : List ℕ) (at : ℕ) → GotText.Broken ≡ textAt s at → lengthDelimited (drop at s) ≡ broken
+text-broken s at e = go (lengthDelimited (drop at s)) e
   where
-    go : (o : Read (List ℕ)) → GotText.Broken ≡ textOf s o → o ≡ broken
+    go : (o : Read (List ℕ)) → GotText.Broken ≡ gotText s o → o ≡ broken
     go broken e₂ = refl
     go (read m r) e₂ = let z : _≡_ {A = ℕ} 0 1 = cc in absurd (omega arith)
 
@@ -188,5 +188,5 @@ pub text-value : (s : List ℕ) (number w d next i n after : ℕ) → w ≡ 2 �
     → ReadAt (value d (record { number = number; wire = w })) s next (LEN (take n (drop i s))) after
 text-value s number w d next i n after e N = record { same = rw (e, value-2 d number (drop next s), N .same); inside = N .inside }
 
-pub text-value-broken : (s : List ℕ) (number w d next : ℕ) → w ≡ 2 → text (drop next s) ≡ broken → value d (record { number = number; wire = w }) (drop next s) ≡ broken
+pub text-value-broken : (s : List ℕ) (number w d next : ℕ) → w ≡ 2 → lengthDelimited (drop next s) ≡ broken → value d (record { number = number; wire = w }) (drop next s) ≡ broken
 text-value-broken s number w d next e N = rw (e, value-2 d number (drop next s), N)

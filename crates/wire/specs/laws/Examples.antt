@@ -3,7 +3,7 @@ use mathlib.Core.Path.{_≡_, refl}
 use mathlib.Core.List.{[], _∷_, _++_}
 use mathlib.Core.Option.{some}
 use lib.ListN.{replicate}
-use Rattle.wire.specs.Wire.{broken, read, digits, varint, key, bytes, text, VARINT, LEN, GROUP, payload, until, value, field, many, fields}
+use Rattle.wire.specs.Wire.{broken, read, digits, varint, key, bytes, lengthDelimited, VARINT, LEN, GROUP, payload, until, value, field, many, fields}
 
 -- 150 is 96 01
 varint-150 : varint (0x96 ∷ 0x01 ∷ []) ≡ read 150 []
@@ -36,12 +36,12 @@ field-150 = refl
 -- field 2, "testing": 12 07 74 65 73 74 69 6e 67
 field-testing : fields (0x12 ∷ 0x07 ∷ 0x74 ∷ 0x65 ∷ 0x73 ∷ 0x74 ∷ 0x69 ∷ 0x6e ∷ 0x67 ∷ [])
     ≡ some (record { number = 2; value = LEN (0x74 ∷ 0x65 ∷ 0x73 ∷ 0x74 ∷ 0x69 ∷ 0x6e ∷ 0x67 ∷ []) } ∷ [])
-unfolding fields many field value payload text bytes key varint digits
+unfolding fields many field value payload lengthDelimited bytes key varint digits
 field-testing = refl
 
 -- field 3, a message that is field 1, 150: 1a 03 08 96 01
 field-message : fields (0x1a ∷ 0x03 ∷ 0x08 ∷ 0x96 ∷ 0x01 ∷ []) ≡ some (record { number = 3; value = LEN (0x08 ∷ 0x96 ∷ 0x01 ∷ []) } ∷ [])
-unfolding fields many field value payload text bytes key varint digits
+unfolding fields many field value payload lengthDelimited bytes key varint digits
 field-message = refl
 
 -- the field number 0, and a stray end of a group

@@ -1,40 +1,34 @@
 -- Law. Laws of a message's body: its fields one after the other, at a boundary between two fields, and with a field
 -- that a schema does not list.
 use Prim.Native.Nat.{ℕ, zero, suc, _≤_, _<_}
-use mathlib.Core.Path.{_≡_, refl, sym, ap, subst, _∙_}
+use mathlib.Core.Path.{_≡_, refl, sym, ap, _∙_}
 use mathlib.Core.List.{List, [], _∷_, _++_}
 use mathlib.Core.Bool.{Bool, true, false}
-use mathlib.Core.Option.{Option, none, some}
+use mathlib.Core.Option.{Option, none, some, Option·map}
 use native.Mathlib.Omega.{arith}
 use lib.ListN.{length, take, length-append}
 use lib.Seq.{take-at}
-use Rattle.wire.specs.Wire.{Read, broken, read, Field, field, front, mapO, many, fields}
-use Rattle.wire.specs.laws.Wire.{Reader, moves, longer, reader-field, field-nil}
+use Rattle.wire.specs.Wire.{Read, broken, read, Field, field, front, many, fields}
+use Rattle.wire.specs.laws.Wire.{ReaderLaw, moves, longer, reader-field, field-nil}
 use Rattle.wire.specs.Fields.{Whole}
+use Rattle.basics.specs.laws.Options.{none-some}
 
-pub none-some : {A B : Type 0} {a : A} → none ≡ some a → B
-none-some {A} {B} {a} e = absurd (subst is e tt)
-  where
-    is : Option A → Type 0
-    is none = Unit {0}
-    is (some a) = ⊥
-
-mapO-id : {A : Type 0} (o : Option (List A)) → mapO (λ l. [] ++ l) o ≡ o
+mapO-id : {A : Type 0} (o : Option (List A)) → Option·map (λ l. [] ++ l) o ≡ o
 mapO-id none = refl
 mapO-id (some l) = refl
 
-mapO-cons : {A : Type 0} (x : A) (xs : List A) (o : Option (List A)) → mapO (λ l. x ∷ l) (mapO (λ l. xs ++ l) o) ≡ mapO (λ l. (x ∷ xs) ++ l) o
+mapO-cons : {A : Type 0} (x : A) (xs : List A) (o : Option (List A)) → Option·map (λ l. x ∷ l) (Option·map (λ l. xs ++ l) o) ≡ Option·map (λ l. (x ∷ xs) ++ l) o
 mapO-cons x xs none = refl
 mapO-cons x xs (some l) = refl
 
-module _ {A : Type 0} (p : List ℕ → Read A) (P : Reader p) (z : p [] ≡ broken) where
+module _ {A : Type 0} (p : List ℕ → Read A) (P : ReaderLaw p) (z : p [] ≡ broken) where
   front-cong : (f g : List ℕ → Option (List A)) (s : List ℕ) → ((r : List ℕ) → length r < length s → f r ≡ g r)
-      → front (p s) (λ a r. mapO (λ l. a ∷ l) (f r)) ≡ front (p s) (λ a r. mapO (λ l. a ∷ l) (g r))
+      → front (p s) (λ a r. Option·map (λ l. a ∷ l) (f r)) ≡ front (p s) (λ a r. Option·map (λ l. a ∷ l) (g r))
   front-cong f g s h = go (p s) refl
     where
-      go : (o : Read A) → p s ≡ o → front o (λ a r. mapO (λ l. a ∷ l) (f r)) ≡ front o (λ a r. mapO (λ l. a ∷ l) (g r))
+      go : (o : Read A) → p s ≡ o → front o (λ a r. Option·map (λ l. a ∷ l) (f r)) ≡ front o (λ a r. Option·map (λ l. a ∷ l) (g r))
       go broken e = refl
-      go (read a r) e = ap (mapO (λ l. a ∷ l)) (h r (moves p P z s a r e))
+      go (read a r) e = ap (Option·map (λ l. a ∷ l)) (h r (moves p P z s a r e))
 
   pub many-fuel : (f g : ℕ) (s : List ℕ) → length s ≤ f → length s ≤ g → many p f s ≡ many p g s
   unfolding many
@@ -50,46 +44,46 @@ module _ {A : Type 0} (p : List ℕ → Read A) (P : Reader p) (z : p [] ≡ bro
 
   -- with no fuel in sight: one, and then the others
   many-first : (s : List ℕ) (a : A) (r : List ℕ) → length r < length s → p s ≡ read a r
-      → many p (length s) s ≡ mapO (λ l. a ∷ l) (many p (length r) r)
+      → many p (length s) s ≡ Option·map (λ l. a ∷ l) (many p (length r) r)
   unfolding many
   many-first [] a r l e = absurd (omega arith)
   many-first (x ∷ s) a r l e = rw (e, many-fuel (length s) (length r) r (omega arith) (omega arith))
 
-  pub many-step : (s : List ℕ) (a : A) (r : List ℕ) → p s ≡ read a r → many p (length s) s ≡ mapO (λ l. a ∷ l) (many p (length r) r)
+  pub many-step : (s : List ℕ) (a : A) (r : List ℕ) → p s ≡ read a r → many p (length s) s ≡ Option·map (λ l. a ∷ l) (many p (length r) r)
   many-step s a r e = many-first s a r (moves p P z s a r e) e
 
   -- at a boundary: what stands in front, and then what stands behind
   many-join : (f : ℕ) (a : List ℕ) (xs : List A) (b : List ℕ) → many p f a ≡ some xs
-      → many p (length (a ++ b)) (a ++ b) ≡ mapO (λ l. xs ++ l) (many p (length b) b)
+      → many p (length (a ++ b)) (a ++ b) ≡ Option·map (λ l. xs ++ l) (many p (length b) b)
   unfolding many
   many-join zero [] xs b e = let h : [] ≡ xs = cc in rw (← h) (sym (mapO-id (many p (length b) b)))
   many-join (suc f) [] xs b e = let h : [] ≡ xs = cc in rw (← h) (sym (mapO-id (many p (length b) b)))
   many-join zero (x ∷ a) xs b e = none-some e
   many-join (suc f) (x ∷ a) xs b e = go (λ r ys. many-join f r ys b) (p (x ∷ a)) refl e
     where
-      go₂ : (y : A) (r : List ℕ) → p (x ∷ a) ≡ read y r → ((ys : List A) → many p f r ≡ some ys → many p (length (r ++ b)) (r ++ b) ≡ mapO (λ l. ys ++ l) (many p (length b) b))
-          → (o : Option (List A)) → many p f r ≡ o → mapO (λ l. y ∷ l) o ≡ some xs
-          → many p (length ((x ∷ a) ++ b)) ((x ∷ a) ++ b) ≡ mapO (λ l. xs ++ l) (many p (length b) b)
+      go₂ : (y : A) (r : List ℕ) → p (x ∷ a) ≡ read y r → ((ys : List A) → many p f r ≡ some ys → many p (length (r ++ b)) (r ++ b) ≡ Option·map (λ l. ys ++ l) (many p (length b) b))
+          → (o : Option (List A)) → many p f r ≡ o → Option·map (λ l. y ∷ l) o ≡ some xs
+          → many p (length ((x ∷ a) ++ b)) ((x ∷ a) ++ b) ≡ Option·map (λ l. xs ++ l) (many p (length b) b)
       go₂ y r e₁ ih none e₂ e₃ = none-some e₃
       go₂ y r e₁ ih (some ys) e₂ e₃ =
           let h : y ∷ ys ≡ xs = cc in
           many-step ((x ∷ a) ++ b) y (r ++ b) (longer p P (x ∷ a) y r b e₁)
-          ∙ ap (mapO (λ l. y ∷ l)) (ih ys e₂) ∙ mapO-cons y ys (many p (length b) b)
-          ∙ ap (λ k. mapO (λ l. k ++ l) (many p (length b) b)) h
+          ∙ ap (Option·map (λ l. y ∷ l)) (ih ys e₂) ∙ mapO-cons y ys (many p (length b) b)
+          ∙ ap (λ k. Option·map (λ l. k ++ l) (many p (length b) b)) h
 
-      go : ((r : List ℕ) (ys : List A) → many p f r ≡ some ys → many p (length (r ++ b)) (r ++ b) ≡ mapO (λ l. ys ++ l) (many p (length b) b))
-          → (o : Read A) → p (x ∷ a) ≡ o → front o (λ a r. mapO (λ l. a ∷ l) (many p f r)) ≡ some xs
-          → many p (length ((x ∷ a) ++ b)) ((x ∷ a) ++ b) ≡ mapO (λ l. xs ++ l) (many p (length b) b)
+      go : ((r : List ℕ) (ys : List A) → many p f r ≡ some ys → many p (length (r ++ b)) (r ++ b) ≡ Option·map (λ l. ys ++ l) (many p (length b) b))
+          → (o : Read A) → p (x ∷ a) ≡ o → front o (λ a r. Option·map (λ l. a ∷ l) (many p f r)) ≡ some xs
+          → many p (length ((x ∷ a) ++ b)) ((x ∷ a) ++ b) ≡ Option·map (λ l. xs ++ l) (many p (length b) b)
       go ih broken e₁ e₂ = none-some e₂
       go ih (read y r) e₁ e₂ = go₂ y r e₁ (ih r) (many p f r) refl e₂
 
 -- One field and then the others
-pub fields-step : (s : List ℕ) (x : Field) (r : List ℕ) → field 16 s ≡ read x r → fields s ≡ mapO (λ l. x ∷ l) (fields r)
+pub fields-step : (s : List ℕ) (x : Field) (r : List ℕ) → field 16 s ≡ read x r → fields s ≡ Option·map (λ l. x ∷ l) (fields r)
 unfolding fields
 fields-step = many-step (field 16) (reader-field 16) (field-nil 16)
 
 -- Where a ends at a boundary, the fields of a and b one behind the other are those of a and then those of b
-pub fields-append : (a : List ℕ) (xs : List Field) (b : List ℕ) → fields a ≡ some xs → fields (a ++ b) ≡ mapO (λ l. xs ++ l) (fields b)
+pub fields-append : (a : List ℕ) (xs : List Field) (b : List ℕ) → fields a ≡ some xs → fields (a ++ b) ≡ Option·map (λ l. xs ++ l) (fields b)
 unfolding fields
 fields-append a xs b e = many-join (field 16) (reader-field 16) (field-nil 16) (length a) a xs b e
 
@@ -115,10 +109,10 @@ filterListed listed [] = []
 filterListed listed (x ∷ l) = pickWhere (listed (x .number)) x (filterListed listed l)
 
 unfoldable pub listedFields : (ℕ → Bool) → List ℕ → Option (List Field)
-listedFields listed s = mapO (filterListed listed) (fields s)
+listedFields listed s = Option·map (filterListed listed) (fields s)
 
 filter-insert : (listed : ℕ → Bool) (xs : List Field) (x : Field) → listed (x .number) ≡ false → (o : Option (List Field))
-    → mapO (filterListed listed) (mapO (λ l. xs ++ l) (mapO (λ l. x ∷ l) o)) ≡ mapO (filterListed listed) (mapO (λ l. xs ++ l) o)
+    → Option·map (filterListed listed) (Option·map (λ l. xs ++ l) (Option·map (λ l. x ∷ l) o)) ≡ Option·map (filterListed listed) (Option·map (λ l. xs ++ l) o)
 filter-insert listed xs x h none = refl
 filter-insert listed xs x h (some l) = ap some (go xs)
   where
@@ -150,10 +144,10 @@ foldFields f b [] = b
 foldFields f b (x ∷ l) = foldFields f (f b x) l
 
 abbrev pub made : {B : Type 0} → (B → Field → B) → B → Option (List Field) → Option B
-made f b o = mapO (foldFields f b) o
+made f b o = Option·map (foldFields f b) o
 
 module _ {B : Type 0} (f : B → Field → B) where
-  made-cons : (b : B) (x : Field) (o : Option (List Field)) → made f b (mapO (λ l. x ∷ l) o) ≡ made f (f b x) o
+  made-cons : (b : B) (x : Field) (o : Option (List Field)) → made f b (Option·map (λ l. x ∷ l) o) ≡ made f (f b x) o
   made-cons b x none = refl
   made-cons b x (some l) = refl
 
@@ -175,7 +169,7 @@ module _ {B : Type 0} (f : B → Field → B) where
       all [] b = refl
       all (x ∷ l) b = one b x l (all l) (listed (x .number)) refl
 
-      go : (o : Option (List Field)) → made f b o ≡ made f b (mapO (filterListed listed) o)
+      go : (o : Option (List Field)) → made f b o ≡ made f b (Option·map (filterListed listed) o)
       go none = refl
       go (some l) = ap some (all l b)
 

@@ -7,7 +7,7 @@ use lib.Dec.{eqb}
 use mathlib.Core.List.{List}
 use borrow.Author.Tests.{ne-eqb, eqb-true}
 use Rattle.wire.specs.laws.Wire.{never}
-use Rattle.wire.specs.Wire.{Read, broken, read, andThen, item, GROUP, until, inGroup, varint, Key, key, bytes, text, Value, VARINT, I64, LEN, I32, payload, value}
+use Rattle.wire.specs.Wire.{Read, broken, read, andThen, item, GROUP, until, inGroup, varint, Key, key, bytes, lengthDelimited, Value, VARINT, I64, LEN, I32, payload, value}
 
 -- by wire type, whatever the depth
 pub value-0 : (d n : ℕ) (s : List ℕ) → value d (record { number = n; wire = 0 }) s ≡ andThen (varint s) (λ x r. read (VARINT x) r)
@@ -20,7 +20,7 @@ unfolding value payload
 value-1 zero n s = refl
 value-1 (suc d) n s = refl
 
-pub value-2 : (d n : ℕ) (s : List ℕ) → value d (record { number = n; wire = 2 }) s ≡ andThen (text s) (λ x r. read (LEN x) r)
+pub value-2 : (d n : ℕ) (s : List ℕ) → value d (record { number = n; wire = 2 }) s ≡ andThen (lengthDelimited s) (λ x r. read (LEN x) r)
 unfolding value payload
 value-2 zero n s = refl
 value-2 (suc d) n s = refl
@@ -80,7 +80,7 @@ module _ (v : Value) (r : List ℕ) where
   of-payload w inner s h =
       of-cond w (eqb w 0) _ _ (λ t e. of-then 0 VARINT (varint s) (λ x. refl) e ∙ sym (eqb-true w 0 t))
       (of-cond w (eqb w 1) _ _ (λ t e. of-then 1 I64 (bytes 8 s) (λ x. refl) e ∙ sym (eqb-true w 1 t))
-      (of-cond w (eqb w 2) _ _ (λ t e. of-then 2 LEN (text s) (λ x. refl) e ∙ sym (eqb-true w 2 t))
+      (of-cond w (eqb w 2) _ _ (λ t e. of-then 2 LEN (lengthDelimited s) (λ x. refl) e ∙ sym (eqb-true w 2 t))
       (of-cond w (eqb w 3) _ _ (λ t e. h e ∙ sym (eqb-true w 3 t))
       (of-cond w (eqb w 5) _ _ (λ t e. of-then 5 I32 (bytes 4 s) (λ x. refl) e ∙ sym (eqb-true w 5 t))
       (λ e. never e)))))

@@ -8,7 +8,7 @@ use lib.ListN.{length, take, drop, length-append, length-take, take-append-drop}
 use lib.Seq.{take-at, drop-at}
 use lib.Dec.{ltb, leb, eqb}
 use borrow.Author.Tests.{le-leb, leb-true}
-use Rattle.wire.specs.Wire.{Read, broken, read, andThen, digits, varint, Key, key, bytes, text, item, Value, VARINT, I64, LEN, GROUP, I32, payload, until, value, field}
+use Rattle.wire.specs.Wire.{Read, broken, read, andThen, digits, varint, Key, key, bytes, lengthDelimited, item, Value, VARINT, I64, LEN, GROUP, I32, payload, until, value, field}
 
 pub never : {A B : Type 0} {a : A} {r : List ℕ} → broken ≡ read a r → B
 never {A} {B} {a} {r} e = absurd (subst is e tt)
@@ -23,16 +23,16 @@ pub record Front {A : Type 0} (p : List ℕ → Read A) (s : List ℕ) (a : A) (
   pub splits : s ≡ used ++ r
   pub again : (t : List ℕ) → p (used ++ t) ≡ read a t
 
-abbrev pub Reader : {A : Type 0} → (List ℕ → Read A) → Type 0
-Reader {A} p = (s : List ℕ) (a : A) (r : List ℕ) → p s ≡ read a r → Front p s a r
+abbrev pub ReaderLaw : {A : Type 0} → (List ℕ → Read A) → Type 0
+ReaderLaw {A} p = (s : List ℕ) (a : A) (r : List ℕ) → p s ≡ read a r → Front p s a r
 
-pub reader-broken : {A : Type 0} → Reader {A = A} (λ s. broken)
+pub reader-broken : {A : Type 0} → ReaderLaw {A = A} (λ s. broken)
 reader-broken s a r e = never e
 
-pub reader-read : {A : Type 0} (b : A) → Reader (λ s. read b s)
+pub reader-read : {A : Type 0} (b : A) → ReaderLaw (λ s. read b s)
 reader-read b s a r e = record { used = []; splits = cc; again = λ t. cc }
 
-pub reader-cond : {A : Type 0} (b : Bool) (p q : List ℕ → Read A) → Reader p → Reader q → Reader (λ s. cond b (p s) (q s))
+pub reader-cond : {A : Type 0} (b : Bool) (p q : List ℕ → Read A) → ReaderLaw p → ReaderLaw q → ReaderLaw (λ s. cond b (p s) (q s))
 reader-cond true p q P Q = P
 reader-cond false p q P Q = Q
 
@@ -44,14 +44,14 @@ module _ {A B : Type 0} (p : List ℕ → Read A) (q : A → List ℕ → Read B
     again = λ t. rw (append-assoc (F .used) (G .used) t, F .again (G .used ++ t)) (G .again t);
   }
 
-  pub reader-then : Reader p → ((a : A) → Reader (q a)) → Reader (λ s. andThen (p s) q)
+  pub reader-then : ReaderLaw p → ((a : A) → ReaderLaw (q a)) → ReaderLaw (λ s. andThen (p s) q)
   reader-then P Q s b r e = go (p s) refl e
     where
       go : (o : Read A) → p s ≡ o → andThen o q ≡ read b r → Front (λ s. andThen (p s) q) s b r
       go broken e₁ e₂ = never e₂
       go (read a m) e₁ e₂ = front-then (P s a m e₁) (Q a m b r e₂)
 
-pub reader-digits : (more : ℕ) → Reader (digits more)
+pub reader-digits : (more : ℕ) → ReaderLaw (digits more)
 unfolding digits
 reader-digits zero [] a r e = never e
 reader-digits (suc more) [] a r e = never e
@@ -62,24 +62,24 @@ reader-digits zero (b ∷ s) a r e = go (leb b 1) refl e
     go false e₁ e₂ = never e₂
 reader-digits (suc more) (b ∷ s) a r e = go (reader-digits more) (ltb b 128) refl e
   where
-    go : Reader (digits more) → (t : Bool) → ltb b 128 ≡ t → cond t (read b s) (andThen (digits more s) (λ n r. read (b % 128 + 128 * n) r)) ≡ read a r
+    go : ReaderLaw (digits more) → (t : Bool) → ltb b 128 ≡ t → cond t (read b s) (andThen (digits more s) (λ n r. read (b % 128 + 128 * n) r)) ≡ read a r
         → Front (digits (suc more)) (b ∷ s) a r
     go D true e₁ e₂ = record { used = b ∷ []; splits = cc; again = λ t. rw e₁ (cc) }
     go D false e₁ e₂ =
         let F = reader-then (digits more) _ D (λ n. reader-read (b % 128 + 128 * n)) s a r e₂ in
         record { used = b ∷ F .used; splits = ap (λ l. b ∷ l) (F .splits); again = λ t. rw e₁ (F .again t) }
 
-pub reader-varint : Reader varint
+pub reader-varint : ReaderLaw varint
 unfolding varint
 reader-varint = reader-digits 9
 
-pub reader-key : Reader key
+pub reader-key : ReaderLaw key
 unfolding key
 reader-key =
     reader-then varint _ reader-varint
     (λ k. reader-cond (leb 8 k) _ _ (reader-cond (ltb k (2 ^ 32)) _ _ (reader-read _) reader-broken) reader-broken)
 
-pub reader-bytes : (n : ℕ) → Reader (bytes n)
+pub reader-bytes : (n : ℕ) → ReaderLaw (bytes n)
 unfolding bytes
 reader-bytes n s a r e = go (leb n (length s)) refl e
   where
@@ -94,15 +94,15 @@ reader-bytes n s a r e = go (leb n (length s)) refl e
         }
     go false e₁ e₂ = never e₂
 
-pub reader-text : Reader text
-unfolding text
+pub reader-text : ReaderLaw lengthDelimited
+unfolding lengthDelimited
 reader-text = reader-then varint bytes reader-varint reader-bytes
 
 pub key-nil : key [] ≡ broken
 unfolding key varint digits
 key-nil = refl
 
-module _ {A : Type 0} (p : List ℕ → Read A) (P : Reader p) where
+module _ {A : Type 0} (p : List ℕ → Read A) (P : ReaderLaw p) where
   pub stays : (s : List ℕ) (a : A) (r : List ℕ) → p s ≡ read a r → length r ≤ length s
   stays s a r e = let F = P s a r e in omega (arith, ap length (F .splits), length-append (F .used) r)
 
@@ -118,7 +118,7 @@ module _ {A : Type 0} (p : List ℕ → Read A) (P : Reader p) where
   pub longer : (s : List ℕ) (a : A) (r t : List ℕ) → p s ≡ read a r → p (s ++ t) ≡ read a (r ++ t)
   longer s a r t e = let F = P s a r e in rw (F .splits, append-assoc (F .used) r t) (F .again (r ++ t))
 
-module _ (inside : Key → List ℕ → Read Value) (I : (k : Key) → Reader (inside k)) where
+module _ (inside : Key → List ℕ → Read Value) (I : (k : Key) → ReaderLaw (inside k)) where
   -- what `item` asks of `rest` it asks of fewer bytes
   item-cong : (n : ℕ) (f g : List ℕ → Read Value) (s : List ℕ) → ((r : List ℕ) → length r < length s → f r ≡ g r)
       → item inside n f s ≡ item inside n g s
@@ -192,26 +192,26 @@ module _ (inside : Key → List ℕ → Read Value) (I : (k : Key) → Reader (i
         let F = item-front s a r (λ m l. until-front f m (omega arith) a r) (sym (until-step n s) ∙ e) in
         record { used = F .used; splits = F .splits; again = λ t. until-step n (F .used ++ t) ∙ F .again t }
 
-    pub reader-until : Reader ends
+    pub reader-until : ReaderLaw ends
     reader-until s a r e = until-front (suc (length s)) s (omega arith) a r e
 
-pub reader-payload : (w : ℕ) (inner : List ℕ → Read Value) → Reader inner → Reader (payload w inner)
+pub reader-payload : (w : ℕ) (inner : List ℕ → Read Value) → ReaderLaw inner → ReaderLaw (payload w inner)
 unfolding payload
 reader-payload w inner R =
     reader-cond (eqb w 0) _ _ (reader-then varint _ reader-varint (λ n. reader-read (VARINT n)))
     (reader-cond (eqb w 1) _ _ (reader-then (bytes 8) _ (reader-bytes 8) (λ x. reader-read (I64 x)))
-    (reader-cond (eqb w 2) _ _ (reader-then text _ reader-text (λ x. reader-read (LEN x)))
+    (reader-cond (eqb w 2) _ _ (reader-then lengthDelimited _ reader-text (λ x. reader-read (LEN x)))
     (reader-cond (eqb w 3) _ _ R
     (reader-cond (eqb w 5) _ _ (reader-then (bytes 4) _ (reader-bytes 4) (λ x. reader-read (I32 x)))
     reader-broken))))
 
-pub reader-value : (depth : ℕ) (k : Key) → Reader (value depth k)
+pub reader-value : (depth : ℕ) (k : Key) → ReaderLaw (value depth k)
 unfolding value
 reader-value zero k = reader-payload (k .wire) _ reader-broken
 reader-value (suc depth) k =
     reader-payload (k .wire) _ (reader-until (value depth) (reader-value depth) (k .number))
 
-pub reader-field : (depth : ℕ) → Reader (field depth)
+pub reader-field : (depth : ℕ) → ReaderLaw (field depth)
 unfolding field
 reader-field depth =
     reader-then key _ reader-key (λ k. reader-then (value depth k) _ (reader-value depth k) (λ v. reader-read _))

@@ -4,13 +4,13 @@ use native.Mathlib.Omega.{arith}
 use lib.ListN.{length}
 use borrow.Author.Needs.{needs}
 use Rattle.alerts.specs.Text.{contains}
-use Rattle.alerts_text.specs.promises.Tables.{filled}
+use Rattle.alerts_text.specs.promises.Tables.{nameFilled}
 use Rattle.alerts_text.proofs.Patterns.{Untried, untried-start, tried, untried-more, tried-last}
 use Rattle.alerts_text.proofs.text.any_in.Statement.{statement}
 use Rattle.alerts_text.proofs.text.any_in.Tie as tie
 
 abbrev Inv-loop : tie.InvT-loop
-Inv-loop table name s at₀ e₀ at e = Untried (λ p. contains (filled name p) s) table at e
+Inv-loop table name s at₀ e₀ at e = Untried (λ p. contains (nameFilled name p) s) table at e
 
 abbrev μ-loop : tie.MeasureT-loop
 μ-loop table name s at₀ e₀ at e = length table - e

@@ -1,0 +1,5 @@
+pub mod Lists
+pub mod Options
+pub mod Texts
+pub mod Integers
+pub mod laws

@@ -1,0 +1,4 @@
+pub mod Lists
+pub mod Booleans
+pub mod Texts
+pub mod Options

@@ -1,0 +1,1 @@
+// What every layer uses: lists, options and texts, with their laws. No code.

@@ -1,0 +1,1 @@
+// Ordered maps as ascending lists, with their laws. No code.
