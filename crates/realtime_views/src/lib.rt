@@ -556,13 +556,8 @@ pub fn is_deleted(s: &[u8], start: usize, len: usize) -> bool
     requires { ⌜ start + len ≤ length (now s) ⌝ }
     ensures { λ r. ⌜ DeletedRead feed (now (s .entry)) start len r ⌝ }
 {
-    last_number(
-        wire::part(s, 0, start + len),
-        start,
-        FEED_ENTITY,
-        feed_entity::IS_DELETED,
-    )
-        != 0
+    let entity = wire::part(s, 0, start + len);
+    last_number(entity, start, FEED_ENTITY, feed_entity::IS_DELETED) != 0
 }
 
 // And its trip, merged from all its trip_updates.
@@ -589,13 +584,9 @@ pub fn sequence_at(s: &[u8], start: usize, len: usize) -> u32
     requires { ⌜ start + len ≤ length (now s) ⌝ }
     ensures { λ r. ⌜ SequenceRead feed (now (s .entry)) start len r ⌝ }
 {
-    let message = wire::part(s, 0, start + len);
-    uint32(last_number(
-        message,
-        start,
-        STOP_TIME_UPDATE,
-        stop_time_update::STOP_SEQUENCE,
-    ))
+    let update = wire::part(s, 0, start + len);
+    let sequence = stop_time_update::STOP_SEQUENCE;
+    uint32(last_number(update, start, STOP_TIME_UPDATE, sequence))
 }
 
 // A walk over the messages at a repeated field, of all the messages at another field merged: the next place outside, and what is left of the message that is open.
