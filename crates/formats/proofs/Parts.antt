@@ -72,7 +72,8 @@ module _ (a b : ℕ) (s : List ℕ) (at : ℕ) (o : Numeral) (r : o ≡ numbered
   pub no-number : (kind : ℕ) → o ≡ Bad → Numbered kind → read (leafFormat kind a b) (drop at s) ≡ none
   no-number kind e k = number-go kind (bad-none s (numberR (drop at s)) o r e) (k .low) (k .high)
 
-  pub too-large : (n p : ℕ) → o ≡ Got n p → (kind : ℕ) → kind ≡ 4 → a < n → read (leafFormat kind a b) (drop at s) ≡ none
+  pub too-large : (n p : ℕ) → o ≡ Got n p → (kind : ℕ) → kind ≡ 4 → a < n
+      → read (leafFormat kind a b) (drop at s) ≡ none
   too-large n p e kind k l = rw (k, count s at n p o r e .reads, lt-leb n a l) refl
 
 -- a value was passed: it takes the bytes up to the place past it
@@ -80,7 +81,8 @@ pub took : (f : Format) (s : List ℕ) (at p : ℕ) (v : Value f) → at ≤ len
     → read f (drop at s) ≡ some (v, drop p s) → length (write f v) ≡ p - at
 took f s at p v h k e =
     let b = law f .back (drop at s) v (drop p s) e .0 in
-    let n : length s - at ≡ length (write f v) + (length s - p) = rw (length-drop, length-append, length-drop) at (ap length b) in
+    let n : length s - at ≡ length (write f v) + (length s - p) =
+    rw (length-drop, length-append, length-drop) at (ap length b) in
     omega arith
 
 -- n of one kind, of which the first is not there, takes no bytes, or is there
@@ -92,7 +94,8 @@ module _ (f : Format) (s : List ℕ) (n at : ℕ) (l : 0 < n) where
   pub no-element : read f (drop at s) ≡ none → manyR (element f) n (drop at s) ≡ none
   no-element e = rw (many-is, e) refl
 
-  module _ (p : ℕ) (v : Value f) (k : at ≤ length s) (h : p ≤ length s) (e : read f (drop at s) ≡ some (v, drop p s)) where
+  module _ (p : ℕ) (v : Value f) (k : at ≤ length s) (h : p ≤ length s)
+      (e : read f (drop at s) ≡ some (v, drop p s)) where
     pub no-bytes : p ≤ at → manyR (element f) n (drop at s) ≡ none
     no-bytes j = rw (many-is, e, le-ltb 0 (length (write f v)) (omega (arith, took f s at p v k h e))) refl
 

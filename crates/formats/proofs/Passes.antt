@@ -19,7 +19,8 @@ use Rattle.formats.specs.declared.Numeral.the-variants.{Got, Bad}
 use Rattle.formats.specs.declared.Skip.{Skip}
 use Rattle.formats.specs.declared.Skip.the-variants.{At, Broken}
 use Rattle.formats.proofs.Numbers.{place, opened, Found, got}
-use Rattle.formats.proofs.Parts.{count, Numbered, no-value, no-float, no-number, too-large, no-element, no-bytes, an-element}
+use Rattle.formats.proofs.Parts.{count, Numbered, no-value, no-float, no-number, too-large, no-element}
+use Rattle.formats.proofs.Parts.{no-bytes, an-element}
 use Rattle.formats.proofs.Parts.{the-one, the-other, no-depth, no-count, too-many, no-tag, no-first, no-kind}
 use Rattle.formats.proofs.Nodes.{node-leaf, node-list, node-choice, node-pair}
 
@@ -167,13 +168,15 @@ module _ (depth : ℕ) (t : List ℕ) (n : ℕ) (s : List ℕ) (at : ℕ) where
       choice-0 i x f =
           let A = formatAt (depth - 1) t a in
           let B = formatAt (depth - 1) t b in
-          rw (node-choice depth t n z kind a b ek ea eb k, the-one A B s at c e i) (f ∙ moved s inl (read A (drop (at + 1) s)))
+          rw (node-choice depth t n z kind a b ek ea eb k, the-one A B s at c e i)
+          (f ∙ moved s inl (read A (drop (at + 1) s)))
 
       pub choice-1 : c ≡ 1 → (x : Skip) → x ≡ skipTo (formatAt (depth - 1) t b) s (at + 1) → x ≡ skipTo (formatAt depth t n) s at
       choice-1 i x f =
           let A = formatAt (depth - 1) t a in
           let B = formatAt (depth - 1) t b in
-          rw (node-choice depth t n z kind a b ek ea eb k, the-other A B s at c e i) (f ∙ moved s inr (read B (drop (at + 1) s)))
+          rw (node-choice depth t n z kind a b ek ea eb k, the-other A B s at c e i)
+          (f ∙ moved s inr (read B (drop (at + 1) s)))
 
       pub choice-2 : (c ≡ 0 → ⊥) → (c ≡ 1 → ⊥) → Broken ≡ skipTo (formatAt depth t n) s at
       choice-2 i j = nothing s (no-tag depth t n s at z kind a b ek ea eb k c e i j)
@@ -182,8 +185,8 @@ module _ (depth : ℕ) (t : List ℕ) (n : ℕ) (s : List ℕ) (at : ℕ) where
     module _ (k : kind ≡ 10) (r : Skip) (e : r ≡ skipTo (formatAt (depth - 1) t a) s at) where
       pub pair-bad : r ≡ Broken → Broken ≡ skipTo (formatAt depth t n) s at
       pair-bad h =
-          nothing s
-          (no-first depth t n s at z kind a b ek ea eb k (broken s (read (formatAt (depth - 1) t a) (drop at s)) (sym e ∙ h)))
+          let none-read = broken s (read (formatAt (depth - 1) t a) (drop at s)) (sym e ∙ h) in
+          nothing s (no-first depth t n s at z kind a b ek ea eb k none-read)
 
       pub pair-good : (p : ℕ) → r ≡ At p → (x : Skip) → x ≡ skipTo (formatAt (depth - 1) t b) s p → x ≡ skipTo (formatAt depth t n) s at
       pair-good p h x f =

@@ -86,7 +86,8 @@ many-none f s n at g y i l h =
 module _ (f : Format) (s : List ℕ) (n at g : ℕ) (r : Judge) (e : r ≡ judgeTo f s at) (l : 0 < n) (y : Judge) (i : judgedAfter g (judgeMany f n s at) ≡ y) where
   pub many-bad : r ≡ Broken → Broken ≡ y
   many-bad h =
-      ap (judgedAfter g) (nothing (verdicts f) s (no-element f s n at l (judged-none (verdict f) s (read f (drop at s)) r e h))) ∙ i
+      let none-read = judged-none (verdict f) s (read f (drop at s)) r e h in
+      ap (judgedAfter g) (nothing (verdicts f) s (no-element f s n at l none-read)) ∙ i
 
   module _ (p x : ℕ) (h : r ≡ At p x) (k : at ≤ length s) where
     one : Found (read f) (verdict f) s at p x
@@ -94,7 +95,8 @@ module _ (f : Format) (s : List ℕ) (n at g : ℕ) (r : Judge) (e : r ≡ judge
 
     pub many-flat : p ≤ at → Broken ≡ y
     many-flat j =
-        ap (judgedAfter g) (nothing (verdicts f) s (no-bytes f s n at l p (one .value) k (one .within) (one .reads) j)) ∙ i
+        let none-read = no-bytes f s n at l p (one .value) k (one .within) (one .reads) j in
+        ap (judgedAfter g) (nothing (verdicts f) s none-read) ∙ i
 
     pub many-more : at < p → (z : ℕ) → z ≡ sooner g x → judgedAfter z (judgeMany f (n - 1) s p) ≡ y
     many-more j z c =

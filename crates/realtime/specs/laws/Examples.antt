@@ -3,7 +3,8 @@ use Prim.Native.Nat.{ℕ}
 use mathlib.Core.Path.{_≡_, refl}
 use mathlib.Core.List.{List, [], _∷_}
 use mathlib.Core.Option.{none, some}
-use Rattle.wire.specs.Wire.{digits, varint, key, bytes, lengthDelimited, VARINT, GROUP, payload, until, value, field, many, fields}
+use Rattle.wire.specs.Wire.{digits, varint, key, bytes, lengthDelimited, VARINT, GROUP, payload, until, value, field}
+use Rattle.wire.specs.Wire.{many, fields}
 use Rattle.realtime.specs.Tree.{end, num, txt, msg, tree, nest}
 use Rattle.realtime.specs.Schema.{fieldRows, feed}
 use Rattle.realtime.specs.Gains.{Gains, same, gain, inside}

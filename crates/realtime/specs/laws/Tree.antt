@@ -7,7 +7,8 @@ use native.Mathlib.Omega.{arith}
 use lib.ListN.{length, take, drop, length-append, take-append-drop}
 use mathlib.Core.Bool.{Bool, true, false, cond}
 use lib.Dec.{leb}
-use Rattle.wire.specs.Wire.{Read, broken, read, andThen, varint, Key, key, bytes, lengthDelimited, Value, VARINT, I64, LEN, GROUP, I32, value, Field, field, fields}
+use Rattle.wire.specs.Wire.{Read, broken, read, andThen, varint, Key, key, bytes, lengthDelimited, Value, VARINT, I64}
+use Rattle.wire.specs.Wire.{LEN, GROUP, I32, value, Field, field, fields}
 use Rattle.wire.specs.laws.Wire.{never, moves, stays, reader-key, reader-varint, reader-field, key-nil, field-nil}
 use Rattle.wire.specs.laws.Values.{value-2, value-wire}
 use Rattle.wire.specs.Fields.{Whole}
@@ -70,7 +71,10 @@ value-shorter d k s (VARINT m) r n l e = tt
 value-shorter d k s (I64 x) r n l e = tt
 value-shorter d k s GROUP r n l e = tt
 value-shorter d k s (I32 x) r n l e = tt
-value-shorter d k s (LEN x) r n l e = go (lengthDelimited s) refl (sym (value-2 d (k .number) s) ∙ ap (λ w. value d (record { number = k .number; wire = w }) s) (value-wire (LEN x) r d k s e) ∙ e)
+value-shorter d k s (LEN x) r n l e =
+    go (lengthDelimited s) refl
+    (sym (value-2 d (k .number) s)
+    ∙ ap (λ w. value d (record { number = k .number; wire = w }) s) (value-wire (LEN x) r d k s e) ∙ e)
   where
     go : (o : Read (List ℕ)) → lengthDelimited s ≡ o → andThen o (λ x r. read (LEN x) r) ≡ read (LEN x) r → length x < n
     go broken e₁ e₂ = never e₂

@@ -11,7 +11,8 @@ use Rattle.realtime.specs.Schema.{feed}
 use Rattle.realtime.specs.promises.Steps.{Stepped}
 use Rattle.realtime.specs.declared.Step.{Step}
 use Rattle.realtime_views.proofs.Walking.{met-end, met-broken, met-sought, other-goes, Leads, leads}
-use Rattle.realtime_views.proofs.Walking.{in-breaks, in-other-on, yields, out-ends, out-breaks, out-other-on, opens}
+use Rattle.realtime_views.proofs.Walking.{in-breaks, in-other-on, yields, out-ends, out-breaks, out-other-on}
+use Rattle.realtime_views.proofs.Walking.{opens}
 use Rattle.realtime_views.proofs.next_item.Statement.{statement}
 use Rattle.realtime_views.proofs.next_item.Tie as tie
 

@@ -8,7 +8,8 @@ use lib.ListN.{length, take, drop, length-append, length-drop, take-append-drop}
 use lib.Seq.{drop-at, take-at}
 use lib.Dec.{leb}
 use mathlib.Core.Bool.{Bool, true, false, cond}
-use Rattle.wire.specs.Wire.{Read, broken, read, andThen, varint, Key, key, bytes, lengthDelimited, Value, value, field, LEN}
+use Rattle.wire.specs.Wire.{Read, broken, read, andThen, varint, Key, key, bytes, lengthDelimited, Value, value}
+use Rattle.wire.specs.Wire.{field, LEN}
 use Rattle.wire.specs.laws.Values.{value-2}
 use Rattle.wire.specs.laws.Wire.{never, moves, stays, key-nil, ReaderLaw, reader-varint, reader-key, reader-text, reader-value}
 use Rattle.wire.specs.promises.Places.{cursorAt, gotNumber, numberAt, gotKey, keyAt, gotText, textAt, gotSkipped, skippedAt}

@@ -3,7 +3,8 @@ use mathlib.Core.Path.{_≡_, refl}
 use mathlib.Core.List.{[], _∷_, _++_}
 use mathlib.Core.Option.{some}
 use lib.ListN.{replicate}
-use Rattle.wire.specs.Wire.{broken, read, digits, varint, key, bytes, lengthDelimited, VARINT, LEN, GROUP, payload, until, value, field, many, fields}
+use Rattle.wire.specs.Wire.{broken, read, digits, varint, key, bytes, lengthDelimited, VARINT, LEN, GROUP}
+use Rattle.wire.specs.Wire.{payload, until, value, field, many, fields}
 
 -- 150 is 96 01
 varint-150 : varint (0x96 ∷ 0x01 ∷ []) ≡ read 150 []
@@ -15,7 +16,7 @@ varint-long : varint (0x81 ∷ 0x80 ∷ 0x00 ∷ 7 ∷ []) ≡ read 1 (7 ∷ [])
 unfolding varint digits
 varint-long = refl
 
--- the largest, ten bytes; one more, and an eleventh byte, are broken
+-- the largest number, in ten bytes; a tenth byte of 2, and an eleventh byte, are broken
 varint-top : varint (replicate 9 0xff ++ 0x01 ∷ []) ≡ read 18446744073709551615 []
 unfolding varint digits
 varint-top = refl
@@ -40,7 +41,8 @@ unfolding fields many field value payload lengthDelimited bytes key varint digit
 field-testing = refl
 
 -- field 3, a message that is field 1, 150: 1a 03 08 96 01
-field-message : fields (0x1a ∷ 0x03 ∷ 0x08 ∷ 0x96 ∷ 0x01 ∷ []) ≡ some (record { number = 3; value = LEN (0x08 ∷ 0x96 ∷ 0x01 ∷ []) } ∷ [])
+field-message : fields (0x1a ∷ 0x03 ∷ 0x08 ∷ 0x96 ∷ 0x01 ∷ [])
+    ≡ some (record { number = 3; value = LEN (0x08 ∷ 0x96 ∷ 0x01 ∷ []) } ∷ [])
 unfolding fields many field value payload lengthDelimited bytes key varint digits
 field-message = refl
 

@@ -7,25 +7,30 @@ use lib.Dec.{eqb}
 use mathlib.Core.List.{List}
 use borrow.Author.Tests.{ne-eqb, eqb-true}
 use Rattle.wire.specs.laws.Wire.{never}
-use Rattle.wire.specs.Wire.{Read, broken, read, andThen, item, GROUP, until, inGroup, varint, Key, key, bytes, lengthDelimited, Value, VARINT, I64, LEN, I32, payload, value}
+use Rattle.wire.specs.Wire.{Read, broken, read, andThen, item, GROUP, until, inGroup, varint, Key, key, bytes}
+use Rattle.wire.specs.Wire.{lengthDelimited, Value, VARINT, I64, LEN, I32, payload, value}
 
 -- by wire type, whatever the depth
-pub value-0 : (d n : ℕ) (s : List ℕ) → value d (record { number = n; wire = 0 }) s ≡ andThen (varint s) (λ x r. read (VARINT x) r)
+pub value-0 : (d n : ℕ) (s : List ℕ) → value d (record { number = n; wire = 0 }) s
+    ≡ andThen (varint s) (λ x r. read (VARINT x) r)
 unfolding value payload
 value-0 zero n s = refl
 value-0 (suc d) n s = refl
 
-pub value-1 : (d n : ℕ) (s : List ℕ) → value d (record { number = n; wire = 1 }) s ≡ andThen (bytes 8 s) (λ x r. read (I64 x) r)
+pub value-1 : (d n : ℕ) (s : List ℕ) → value d (record { number = n; wire = 1 }) s
+    ≡ andThen (bytes 8 s) (λ x r. read (I64 x) r)
 unfolding value payload
 value-1 zero n s = refl
 value-1 (suc d) n s = refl
 
-pub value-2 : (d n : ℕ) (s : List ℕ) → value d (record { number = n; wire = 2 }) s ≡ andThen (lengthDelimited s) (λ x r. read (LEN x) r)
+pub value-2 : (d n : ℕ) (s : List ℕ) → value d (record { number = n; wire = 2 }) s
+    ≡ andThen (lengthDelimited s) (λ x r. read (LEN x) r)
 unfolding value payload
 value-2 zero n s = refl
 value-2 (suc d) n s = refl
 
-pub value-5 : (d n : ℕ) (s : List ℕ) → value d (record { number = n; wire = 5 }) s ≡ andThen (bytes 4 s) (λ x r. read (I32 x) r)
+pub value-5 : (d n : ℕ) (s : List ℕ) → value d (record { number = n; wire = 5 }) s
+    ≡ andThen (bytes 4 s) (λ x r. read (I32 x) r)
 unfolding value payload
 value-5 zero n s = refl
 value-5 (suc d) n s = refl
@@ -66,7 +71,9 @@ module _ (v : Value) (r : List ℕ) where
       own m true e = let p : GROUP ≡ v = cc in ap wireOf (sym p)
       own m false e = never e
 
-      go : (o : Read Key) → andThen o (λ k r. cond (eqb (k .wire) 4) (cond (eqb (k .number) n) (read GROUP r) broken) (andThen (inside k r) (λ v r′. rest r′))) ≡ read v r → wireOf v ≡ 3
+      go : (o : Read Key)
+          → andThen o (λ k r. cond (eqb (k .wire) 4) (cond (eqb (k .number) n) (read GROUP r) broken)
+          (andThen (inside k r) (λ v r′. rest r′))) ≡ read v r → wireOf v ≡ 3
       go broken e = never e
       go (read k m) e = of-cond 3 (eqb (k .wire) 4) _ _ (λ t h. own m (eqb (k .number) n) h) (last (inside k m)) e
 
