@@ -9,9 +9,10 @@ use lib.Dec.{leb}
 use lib.ListN.{length, take, drop}
 use borrow.Author.Tests.{lt-ltb, leb-true}
 use Rattle.basics.specs.Lists.{All, isEmpty}
+use Rattle.formats.specs.Class.{printable, inClass}
 use Rattle.realtime.specs.Tree.{Tree, Leaf, count, words, tree, last, sub, rep}
 use Rattle.realtime.specs.Schema.{fieldRows, feed, feedMessage, feedEntity, tripUpdate, tripDescriptor}
-use Rattle.realtime.specs.Judge.{rules, asked, textsFine, numbersFine, limit, printable}
+use Rattle.realtime.specs.Judge.{rules, asked, textsFine, numbersFine, limit}
 use Rattle.realtime.specs.declared.Verdict.{Verdict}
 use Rattle.realtime_views.specs.Typed.{textIn}
 use Rattle.realtime_views.specs.Views.{trip, deleted}
@@ -79,7 +80,9 @@ whole s J = go (tree feed feedMessage s) refl J
 text-short : (o : Option Leaf) (f : ℕ) → Given (LeafFine feed rules tripDescriptor f) o → length (textIn o) ≤ limit tripDescriptor f
 text-short none f g = omega arith
 text-short (some (count n)) f g = omega arith
-text-short (some (words x)) f g = leb-true (length x) (limit tripDescriptor f) (both-true (leb (length x) (limit tripDescriptor f)) (printable x) g .0)
+text-short (some (words x)) f g =
+    leb-true (length x) (limit tripDescriptor f)
+    (both-true (leb (length x) (limit tripDescriptor f)) (inClass printable x) g .0)
 
 module _ (e : Tree) (F : FineEntity e) where
   short : (f : ℕ) → length (textIn (last f (sub 1 (sub 3 e)))) ≤ limit tripDescriptor f

@@ -1,5 +1,5 @@
 -- Law. What the entities of a message within questions 4 to 6 enter is within them too: records, updates and keys.
-use mathlib.Core.Path.{_≡_, refl, sym, ap, _∙_}
+use mathlib.Core.Path.{_≡_, refl, ap, _∙_}
 use mathlib.Core.Bool.{Bool, true, false, cond, _&&_, _||_, not, false≢true}
 use mathlib.Core.List.{List, [], _∷_, _++_, map}
 use mathlib.Core.Logic.{inl, inr}
@@ -19,7 +19,6 @@ use Rattle.formats_judge.specs.Judged.{ok}
 use Rattle.overlay.specs.laws.Within.{Judged56, joined, listed, absent, present, both}
 use Rattle.realtime.specs.Tree.{Tree, Leaf, count, words, tree, last, sub, rep}
 use Rattle.realtime.specs.Schema.{feedMessage, feedEntity, tripUpdate, tripDescriptor, stopTimeUpdate, stopTimeEvent, fieldRows, feed}
-use Rattle.realtime.specs.Judge as judge
 use Rattle.realtime.specs.Judge.{rules, textsFine, numbersFine, numberRule, limit}
 use Rattle.realtime_views.specs.Typed.{int32, int64, uint32, numberIn, orZero}
 use Rattle.realtime_views.specs.Typed as typed
@@ -95,9 +94,6 @@ number-given t f (some (words s)) x = tt
 
 -- ---- texts
 
-printable-class : (x : List ℕ) → judge.printable x ≡ all (allowed printable) x
-printable-class [] = refl
-printable-class (b ∷ x) = ap (λ r. (leb 32 b && leb b 126) && r) (printable-class x)
 
 -- the last text of a field
 text-printed : (t f l : ℕ) (m : Tree) → limit t f ≡ l → FineIn t m → Printed l (typed.textIn (last f m))
@@ -107,8 +103,8 @@ text-printed t f l m e x = go (last f m) (fine-last feed rules t f m x)
     go none h = record { short = omega arith; fair = refl }
     go (some (count n)) h = record { short = omega arith; fair = refl }
     go (some (words s)) h =
-        let q = both-true (leb (length s) (limit t f)) (judge.printable s) h in
-        record { short = omega (arith, leb-true (length s) (limit t f) (q .0)); fair = sym (printable-class s) ∙ q .1 }
+        let q = both-true (leb (length s) (limit t f)) (inClass printable s) h in
+        record { short = omega (arith, leb-true (length s) (limit t f) (q .0)); fair = q .1 }
 
 -- ---- a stop time update, and a trip
 

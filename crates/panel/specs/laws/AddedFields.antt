@@ -4,7 +4,7 @@ use mathlib.Core.Path.{_≡_, refl}
 use mathlib.Core.List.{List, [], _∷_}
 use native.Mathlib.Omega.{arith}
 use Rattle.wire.specs.Wire as wire
-use Rattle.wire.specs.Wire.{number}
+use Rattle.wire.specs.Wire.{VARINT}
 use Rattle.wire.specs.laws.Fields.{fields-nil}
 use Rattle.slices.specs.Lists.{lexOf}
 use Rattle.realtime.specs.Tree.{tree, nest}
@@ -41,7 +41,7 @@ unfolding feed fieldRows wire.field wire.value wire.payload wire.until wire.leng
 few-more =
     reached 2 2 [] (0x12 ∷ []) (0x07 ∷ []) (0x89 ∷ 0x00 ∷ []) update (0x08 ∷ 0x05 ∷ update) [] []
     fields-nil refl refl refl refl
-    (added [] (0x08 ∷ 0x05 ∷ []) update [] (record { number = 1; value = number 5 }) fields-nil refl refl)
+    (added [] (0x08 ∷ 0x05 ∷ []) update [] (record { number = 1; value = VARINT 5 }) fields-nil refl refl)
 
 -- a message, a broken one, a report, the message again
 abbrev calls : List ℕ → List Call

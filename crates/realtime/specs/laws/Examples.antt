@@ -3,7 +3,8 @@ use Prim.Native.Nat.{ℕ}
 use mathlib.Core.Path.{_≡_, refl}
 use mathlib.Core.List.{List, [], _∷_}
 use mathlib.Core.Option.{none, some}
-use Rattle.wire.specs.Wire.{digits, varint, key, bytes, lengthDelimited, number, group, payload, until, value, field, many, fields}
+use Rattle.wire.specs.Wire.{digits, varint, key, bytes, lengthDelimited, VARINT, GROUP, payload, until, value, field}
+use Rattle.wire.specs.Wire.{many, fields}
 use Rattle.realtime.specs.Tree.{end, num, txt, msg, tree, nest}
 use Rattle.realtime.specs.Schema.{fieldRows, feed}
 use Rattle.realtime.specs.Gains.{Gains, same, gain, inside}
@@ -89,9 +90,9 @@ more = 0x08 ∷ 0x05 ∷ 0x1a ∷ 0x82 ∷ 0x00 ∷ 0x7b ∷ 0x7c ∷ []
 gains-more : Gains feed 2 few more
 unfolding few more feed fieldRows field until value payload lengthDelimited bytes key varint digits
 gains-more =
-    gain (0x08 ∷ 0x05 ∷ []) (record { number = 1; value = number 5 }) refl refl
+    gain (0x08 ∷ 0x05 ∷ []) (record { number = 1; value = VARINT 5 }) refl refl
     (inside 3 3 (0x1a ∷ []) (0x00 ∷ []) (0x82 ∷ 0x00 ∷ []) [] (0x7b ∷ 0x7c ∷ []) refl refl refl refl
-    (gain (0x7b ∷ 0x7c ∷ []) (record { number = 15; value = group }) refl refl same)
+    (gain (0x7b ∷ 0x7c ∷ []) (record { number = 15; value = GROUP }) refl refl same)
     same)
 
 same-tree : tree feed 2 more ≡ tree feed 2 few

@@ -6,7 +6,7 @@ use mathlib.Core.Option.{none, some}
 use native.Mathlib.Omega.{arith}
 use lib.ListN.{length, take, length-append}
 use lib.Seq.{take-at}
-use Rattle.wire.specs.Wire.{Read, read, Key, key, string, Field, field}
+use Rattle.wire.specs.Wire.{Read, read, Key, key, LEN, Field, field}
 use Rattle.wire.specs.laws.Wire.{longer, reader-key}
 use Rattle.wire.specs.Fields.{Whole}
 use Rattle.wire.specs.laws.Fields.{field-unique}
@@ -17,7 +17,7 @@ use Rattle.realtime.specs.laws.Gains.{text-front}
 
 -- a field that holds bytes
 abbrev holding : ℕ → List ℕ → Field
-holding n p = record { number = n; value = string p }
+holding n p = record { number = n; value = LEN p }
 
 -- a key, a length and its bytes are a whole field
 pub whole : (n : ℕ) (k l p : List ℕ) → KeyOf k n → LengthOf l p → Whole (k ++ (l ++ p)) (holding n p)
