@@ -11,7 +11,7 @@ use borrow.Author.Tests.{eqb-true, leb-true, le-leb, le-ltb, lt-leb, ne-eqb}
 use Rattle.basics.specs.Lists.{All, all}
 use Rattle.formats.specs.Class.{inClass, printable}
 use Rattle.formats.specs.Format.{small, list, _&_, optional, read}
-use Rattle.formats_judge.specs.Judged.{firstNo, judged, judgeTo, ok, verdict}
+use Rattle.formats_judge.specs.Judged.{firstFailing, judged, judgeTo, ok, verdict}
 use Rattle.formats_read.specs.promises.Here.{Here, here}
 use Rattle.realtime.specs.Tree.{tree}
 use Rattle.realtime.specs.Schema.{feedMessage}
@@ -27,7 +27,7 @@ use Rattle.decode_index.specs.promises.Leaving.{Old}
 use Rattle.decode_probes.specs.Answers.{questionOf}
 use Rattle.decode_probes.specs.Indexing.{areOld, judgedQuestion, messageQuestion, oldTrips, question, sized, tripsRead, unfailed}
 
-first-zero : (a b c : Bool) → firstNo a b c ≡ 0 → (a ≡ true) × (c ≡ true)
+first-zero : (a b c : Bool) → firstFailing a b c ≡ 0 → (a ≡ true) × (c ≡ true)
 first-zero true true true e = (refl, refl)
 first-zero true true false e = absurd (omega arith)
 first-zero true false c e = absurd (omega arith)

@@ -17,7 +17,8 @@ use Rattle.decode_updates.specs.Line.{laid}
 use Rattle.decode_updates.specs.laws.Line.{laid-length}
 use Rattle.decode_updates.specs.Updates.{updatesAt}
 use Rattle.decode_updates.specs.promises.Updates.{ListedUpdates}
-use Rattle.decode_probes.specs.Answers.{isWhole, ofWhole}
+use Rattle.decode_probes.specs.Answers.{ofWhole}
+use Rattle.decode_probes.specs.promises.Answers.{isWhole}
 use Rattle.decode_probes.specs.Indexing.{IndexOutcome, refused, left, answered, limited, updatesOutcome}
 use Rattle.decode_probes.proofs.Reading.{of-whole, of-broken, all-of}
 

@@ -15,7 +15,8 @@ use Rattle.basics.specs.Texts.{same}
 use Rattle.realtime_views.specs.Views.{TripView}
 use Rattle.realtime_views.specs.promises.Views.{spanIn, viewTrip}
 use Rattle.realtime_views.specs.declared.Trip.{Trip}
-use Rattle.decode_probes.specs.Answers.{isWhole, ofWhole, textsAre}
+use Rattle.decode_probes.specs.Answers.{ofWhole, textsAre}
+use Rattle.decode_probes.specs.promises.Answers.{isWhole}
 
 abbrev pub unbroken : Verdict → Bool
 unbroken Verdict.Broken = false

@@ -1,6 +1,6 @@
 -- Believe: the probes' answers. What the probes answer, by the trees of the messages.
 use Prim.Native.Nat.{ℕ}
-use mathlib.Core.Bool.{Bool, true, false, _&&_}
+use mathlib.Core.Bool.{Bool, false, _&&_}
 use mathlib.Core.List.{List}
 use mathlib.Core.Option.{Option, none, some}
 use lib.IntN.{ℤ, pos}
@@ -13,6 +13,7 @@ use Rattle.decode_probes.specs.declared.HeaderNumbers.{HeaderNumbers}
 use Rattle.decode_probes.specs.declared.TripNumbers.{TripNumbers}
 use Rattle.decode_probes.specs.declared.EventNumbers.{EventNumbers}
 use Rattle.decode_probes.specs.declared.StopNumbers.{StopNumbers}
+use Rattle.basics.specs.Options.{isSome}
 
 -- the number of the question that has the answer no, else 0
 abbrev pub questionOf : Verdict → ℕ
@@ -20,13 +21,6 @@ questionOf Verdict.Fine = 0
 questionOf Verdict.Broken = 4
 questionOf Verdict.Text = 5
 questionOf Verdict.Time = 6
-
-abbrev pub isSome : {A : Type 0} → Option A → Bool
-isSome none = false
-isSome (some a) = true
-
-abbrev pub isWhole : Option Tree → Bool
-isWhole t = isSome t
 
 abbrev pub orNought : Option ℤ → ℤ
 orNought none = pos 0

@@ -30,7 +30,9 @@ ghost use Rattle.decode_slots.specs.Places as places;
 ghost use Rattle.decode_updates.specs.Line.{laid};
 ghost use Rattle.decode_updates.specs.Updates.{updatesAt};
 ghost use Rattle.decode_probes.specs.Indexing.{sized, unfailed, areOld, messageQuestion, question, answered, outcome, updatesOutcome};
-ghost use Rattle.decode_probes.specs.Answers.{questionOf, isWhole, isSome, orNought, ofWhole, headerNumbers, noHeader, tripNumbers, tripNumbersOf, noTrip, eventNumbers, stopNumbers, stopNumbersOf, noStop, textsAre};
+ghost use Rattle.decode_probes.specs.Answers.{questionOf, orNought, ofWhole, headerNumbers, noHeader, tripNumbers, tripNumbersOf, noTrip, eventNumbers, stopNumbers, stopNumbersOf, noStop, textsAre};
+ghost use Rattle.decode_probes.specs.promises.Answers.{isWhole};
+ghost use Rattle.basics.specs.Options.{isSome};
 
 fn question_of(v: Verdict) -> u32
     ensures { λ r. ⌜ r ≡ questionOf v ⌝ }

@@ -10,7 +10,8 @@ use Rattle.basics.specs.Lists.{All}
 use Rattle.slices.specs.Lists.{lexOf}
 use Rattle.slices.specs.declared.Order.{Order}
 use Rattle.slices.specs.declared.Order.the-variants.{Less, Same, More}
-use Rattle.maps.specs.Map.{Ordered, isLess, isMore, byOrder, above, ascending}
+use Rattle.maps.specs.Map.{Ordered, isLess, byOrder, above, ascending}
+use Rattle.maps.specs.promises.Order.{isMore}
 use Rattle.maps.specs.Order.{texts}
 use Rattle.maps.specs.laws.Order.{texts-order}
 use Rattle.maps.specs.laws.Map.{Lawful, is-less, rest-ascending}

@@ -13,9 +13,9 @@ use borrow.Author.Tests.{lt-ltb, le-ltb, ltb-true, ltb-false, lt-leb, ne-eqb}
 use Rattle.formats.specs.Readers.{bind, manyR}
 use Rattle.formats.specs.Number.{numberR, littleR}
 use Rattle.formats.specs.laws.Number.{numberLaw}
-use Rattle.formats.specs.Format.{Format, choice, Value, write, read, element}
+use Rattle.formats.specs.Format.{Format, choice, Value, write, read}
+use Rattle.formats.specs.promises.Outcome.{element, numbered, formatAt, leafFormat, tagAt}
 use Rattle.formats.specs.laws.Format.{law, count-over}
-use Rattle.formats.specs.promises.Outcome.{numbered, formatAt, leafFormat, tagAt}
 use Rattle.formats.specs.declared.Numeral.{Numeral}
 use Rattle.formats.specs.declared.Numeral.the-variants.{Got, Bad}
 use Rattle.formats.proofs.Numbers.{opened, Found, got, bad-none}

@@ -10,18 +10,16 @@ use borrow.Author.Tests.{lt-ltb, le-ltb, le-leb, lt-leb, eq-eqb, ne-eqb}
 use Rattle.formats.specs.Readers.{bind, bytesR, constR, manyR}
 use Rattle.formats.specs.Number.{numberR, littleR}
 use Rattle.formats.specs.laws.Number.{littleLaw}
-use Rattle.formats.specs.Format.{Format, Value, read, element}
+use Rattle.formats.specs.Format.{Format, Value, read}
+use Rattle.formats.specs.promises.Outcome.{element, numbered, skipped, skipTo, skipMany, formatAt, leafFormat, tagAt}
 use Rattle.formats.specs.laws.Format.{law}
 use Rattle.formats.specs.laws.Outcome.{broken, at-place}
-use Rattle.formats.specs.promises.Outcome.{numbered, skipped, skipTo, skipMany, formatAt, leafFormat, tagAt}
 use Rattle.formats.specs.declared.Numeral.{Numeral}
 use Rattle.formats.specs.declared.Numeral.the-variants.{Got, Bad}
 use Rattle.formats.specs.declared.Skip.{Skip}
 use Rattle.formats.specs.declared.Skip.the-variants.{At, Broken}
 use Rattle.formats.proofs.Numbers.{place, opened, Found, got}
-use Rattle.formats.proofs.Parts.{count, Numbered, no-value, no-float, no-number, too-large, no-element}
-use Rattle.formats.proofs.Parts.{no-bytes, an-element}
-use Rattle.formats.proofs.Parts.{the-one, the-other, no-depth, no-count, too-many, no-tag, no-first, no-kind}
+use Rattle.formats.proofs.Parts.{count, Numbered, no-value, no-float, no-number, too-large, no-element, no-bytes, an-element, the-one, the-other, no-depth, no-count, too-many, no-tag, no-first, no-kind}
 use Rattle.formats.proofs.Nodes.{node-leaf, node-list, node-choice, node-pair}
 
 -- nothing was read

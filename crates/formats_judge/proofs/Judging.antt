@@ -10,16 +10,15 @@ use lib.Dec.{leb}
 use Rattle.formats.specs.Readers.{Reader, bind, manyR}
 use Rattle.formats.specs.laws.Law.{Law, manyLaw}
 use Rattle.formats.specs.Number.{numberR}
-use Rattle.formats.specs.Format.{Format, list, choice, _&_, Value, read, element}
+use Rattle.formats.specs.Format.{Format, list, choice, _&_, Value, read}
+use Rattle.formats.specs.promises.Outcome.{element, numbered, tagAt, formatAt, leafFormat}
 use Rattle.formats.specs.laws.Format.{law, elementLaw}
 use Rattle.formats.specs.laws.Outcome.{suffix}
-use Rattle.formats.specs.promises.Outcome.{numbered, tagAt, formatAt, leafFormat}
 use Rattle.formats.specs.declared.Numeral.{Numeral}
 use Rattle.formats.specs.declared.Numeral.the-variants.{Got, Bad}
 use Rattle.formats.proofs.Numbers.{place}
 use Rattle.formats.proofs.Nodes.{node-leaf, node-list, node-choice, node-pair}
-use Rattle.formats.proofs.Parts.{count, no-element, no-bytes, an-element, the-one, the-other}
-use Rattle.formats.proofs.Parts.{no-depth, no-count, too-many, no-tag, no-first, no-kind}
+use Rattle.formats.proofs.Parts.{count, no-element, no-bytes, an-element, the-one, the-other, no-depth, no-count, too-many, no-tag, no-first, no-kind}
 use Rattle.formats_judge.specs.Judged.{answer, verdict, judged, judgeTo}
 use Rattle.formats_judge.specs.promises.Judged.{verdicts, sooner, judgeMany, judgedAfter}
 use Rattle.formats_judge.specs.laws.Joins.{sooner-assoc, verdict-pair, verdict-more, verdict-list}

@@ -1,7 +1,7 @@
 -- Believe: 01, Questions before work. The eight questions of each call as eight answers, each over the whole input;
 -- the first no decides (`first-no`, laws/Answers).
 use Prim.Native.Nat.{ℕ, suc}
-use mathlib.Core.Bool.{Bool, true, false, cond, _&&_}
+use mathlib.Core.Bool.{Bool, true, cond, _&&_}
 use mathlib.Core.List.{List, [], _∷_}
 use mathlib.Core.Option.{Option, none, some}
 use lib.Dec.{leb}
@@ -19,6 +19,7 @@ use Rattle.overlay.specs.Change.{afterMessage, afterAlerts, afterVehicles}
 use Rattle.journey.specs.Card.{card as cardForm}
 use Rattle.panel.specs.Questions.{Lengths, lengthsOk, freshFits, feedOk, whole, countsFit, vehiclesIn, finished}
 use Rattle.panel.specs.Calls.{Call, fresh, message, alertSheet, vehicleSheet, card, report}
+use Rattle.basics.specs.Options.{isSome}
 
 -- the number of the first no, from question k on; 0 where there is none
 abbrev pub noFrom : ℕ → List Bool → ℕ
@@ -27,10 +28,6 @@ noFrom k (b ∷ l) = cond b (noFrom (suc k) l) k
 
 abbrev pub firstNo : List Bool → ℕ
 firstNo l = noFrom 1 l
-
-abbrev pub isSome : {A : Type 0} → Option A → Bool
-isSome none = false
-isSome (some a) = true
 
 -- a question about what was read. Where nothing could be read an earlier question has said so
 abbrev pub ifAny : {A : Type 0} → (A → Bool) → Option A → Bool

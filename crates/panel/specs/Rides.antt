@@ -1,6 +1,5 @@
 -- Believe: 01, Ride checks. The ride checks of document 01 that are marked P: the table.
 use Prim.Native.Nat.{ℕ, zero, suc, _+_, _/_, _%_}
-use mathlib.Core.Path.{_≡_}
 use mathlib.Core.Bool.{Bool, true, false}
 use mathlib.Core.List.{List, [], _∷_, _++_, map}
 use mathlib.Core.Logic.{inl, inr}
@@ -22,19 +21,7 @@ use Rattle.journey.specs.Times as times
 use Rattle.journey.specs.Enrich as enrich
 use Rattle.panel.specs.Questions.{Lengths}
 use Rattle.panel.specs.Calls.{Call, message, card, Gave, freshOverlay, run, numbersGiven}
-
--- a row: what is computed, and what document 01 says
-pub record Row : Type 1 where
-  pub of : Type 0
-  pub got : of
-  pub due : of
-
-abbrev pub row : {A : Type 0} → A → A → Row
-row {A} got due = record { of = A; got = got; due = due }
-
-abbrev pub AllHold : List Row → Type 0
-AllHold [] = Unit {0}
-AllHold (r ∷ l) = (r .got ≡ r .due) × AllHold l
+use Rattle.basics.specs.Rows.{row, Row}
 
 -- ---- what the rows speak of
 

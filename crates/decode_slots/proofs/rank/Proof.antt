@@ -5,7 +5,7 @@ use Prim.Native.Nat.{_+_, _-_, _/_, _≤_, _<_}
 use native.Mathlib.Omega.{arith}
 use lib.ListN.{getD}
 use Rattle.slices.specs.Lists.{lexOf}
-use Rattle.maps.specs.Map.{isMore}
+use Rattle.maps.specs.promises.Order.{isMore}
 use Rattle.maps.specs.Order.{texts}
 use Rattle.decode_slots.specs.Index.{slotKey, index}
 use Rattle.decode_slots.specs.promises.Index.{keyIn, rankOf}

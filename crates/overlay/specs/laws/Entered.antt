@@ -1,19 +1,17 @@
 -- Law. What the entities of a message within questions 4 to 6 enter is within them too: records, updates and keys.
-use mathlib.Core.Path.{_≡_, refl, ap, _∙_}
-use mathlib.Core.Bool.{Bool, true, false, cond, _&&_, _||_, not, false≢true}
+use mathlib.Core.Path.{_≡_, refl, ap}
+use mathlib.Core.Bool.{Bool, true, false, cond, not}
 use mathlib.Core.List.{List, [], _∷_, _++_, map}
-use mathlib.Core.Logic.{inl, inr}
 use mathlib.Core.Option.{Option, none, some, Option·map}
-use Prim.Native.Nat.{ℕ, zero, suc, _+_, _-_, _/_, _%_, _^_, _≤_, _<_}
+use Prim.Native.Nat.{ℕ, suc, _-_, _%_, _^_}
 use native.Mathlib.Omega.{arith}
 use lib.IntN.{pos, negsuc}
-use lib.Dec.{eqb, leb, ltb, leb·zero}
-use lib.ListN.{length, length-append, take}
-use lib.Seq.{take-at}
+use lib.Dec.{leb, ltb, leb·zero}
+use lib.ListN.{length}
 use borrow.Author.Tests.{le-leb, leb-true, ltb-true, ltb-false, lt-ltb}
 use mir.Val.{sel}
-use Rattle.basics.specs.Lists.{All, all, isEmpty}
-use Rattle.formats.specs.Class.{allowed, inClass, printable, token}
+use Rattle.basics.specs.Lists.{All, isEmpty}
+use Rattle.formats.specs.Class.{inClass, printable, token}
 use Rattle.formats.specs.Format.{Format, text, small, optional, _&_, Value}
 use Rattle.formats_judge.specs.Judged.{ok}
 use Rattle.overlay.specs.laws.Within.{Judged56, joined, listed, absent, present, both}
@@ -23,13 +21,12 @@ use Rattle.realtime.specs.Judge.{rules, textsFine, numbersFine, numberRule, lim
 use Rattle.realtime_views.specs.Typed.{int32, int64, uint32, numberIn, orZero}
 use Rattle.realtime_views.specs.Typed as typed
 use Rattle.realtime_views.specs.Views as view
-use Rattle.decode.specs.Trip.{Trip, StopUpdate, delay, instant, number32, stopUpdate, trip, routeOf, dateOf, timeOf, directionOf, updatesOf}
-use Rattle.basics.specs.Options.{Maybe, maybe}
-use Rattle.decode.specs.Key.{decimalOf, directionText, prefixed, datedKey, headOf, tailOf, incompleteKey, inserts, entriesIn, rawOk, datedOk, keyOk}
-use Rattle.slices.specs.Lists.{lexOf}
-use Rattle.maps.specs.Map.{isSame, ascending}
+use Rattle.decode.specs.Trip.{Trip, StopUpdate, delay, instant, number32, stopUpdate, trip, routeOf, dateOf, timeOf, updatesOf}
+use Rattle.basics.specs.Options.{maybe}
+use Rattle.decode.specs.Key.{datedKey, incompleteKey, inserts, entriesIn, keyOk}
+use Rattle.maps.specs.Map.{ascending}
 use Rattle.maps.specs.Order.{numbers}
-use Rattle.maps.specs.laws.Order.{numbers-order, lex-itself}
+use Rattle.maps.specs.laws.Order.{numbers-order}
 use Rattle.maps.specs.laws.Map.{puts-ascending}
 use Rattle.basics.specs.laws.Booleans.{both-true}
 use Rattle.decode.specs.Record.{bit, updateIn, updatesIn, tripIn}
@@ -93,7 +90,6 @@ number-given t f (some (count n)) x = x
 number-given t f (some (words s)) x = tt
 
 -- ---- texts
-
 
 -- the last text of a field
 text-printed : (t f l : ℕ) (m : Tree) → limit t f ≡ l → FineIn t m → Printed l (typed.textIn (last f m))

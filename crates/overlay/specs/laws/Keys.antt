@@ -1,7 +1,7 @@
 -- Law. The keys of a trip record: `keyOk` says yes exactly where some raw trip id gives the key.
-use mathlib.Core.Path.{_≡_, refl, sym, ap, _∙_}
+use mathlib.Core.Path.{_≡_, refl, ap, _∙_}
 use mathlib.Core.Bool.{Bool, true, false, cond, _&&_, _||_, not, false≢true}
-use mathlib.Core.List.{List, [], _∷_, _++_, List·Memᴰ, List·Memᴰ·head, List·Memᴰ·tail, List·Memᴰ·not-nil, List·Memᴰ·cases-cons}
+use mathlib.Core.List.{List, [], _∷_, _++_, List·Memᴰ, List·Memᴰ·head, List·Memᴰ·tail, List·Memᴰ·not-nil}
 use mathlib.Core.Logic.{_⊎_, inl, inr, ⊎-elim, _↔_}
 use Prim.Native.Nat.{ℕ, zero, suc, _+_, _-_, _/_, _%_, _≤_, _<_}
 use native.Mathlib.Omega.{arith}
@@ -13,14 +13,11 @@ use Rattle.formats.specs.Class.{allowed, inClass, printable, token}
 use Rattle.basics.specs.Lists.{all, isEmpty}
 use Rattle.formats.specs.Format.{Format, text, _&_, Value}
 use Rattle.formats_judge.specs.Judged.{ok}
-use Rattle.slices.specs.Lists.{lexOf}
-use Rattle.slices.specs.declared.Order.{Order}
-use Rattle.slices.specs.declared.Order.the-variants.{Less, Same, More}
 use Rattle.decode.specs.Trip.{Trip, id, trip, routeOf, dateOf, timeOf, directionOf}
 use Rattle.basics.specs.Options.{Maybe}
 use Rattle.decode.specs.Key.{decimalOf, directionText, prefixed, datedKey, headOf, tailOf, incompleteKey, inserts, rawOk, datedOk, keyOk}
-use Rattle.maps.specs.Map.{isSame}
-use Rattle.maps.specs.laws.Order.{lex-itself, lex-same}
+use Rattle.basics.specs.Texts.{same}
+use Rattle.basics.specs.laws.Texts.{same-refl, same-true}
 use Rattle.basics.specs.laws.Booleans.{both-true}
 use Rattle.overlay.specs.laws.Within.{Judged56, both}
 
@@ -110,9 +107,6 @@ pub or-right : (a b : Bool) → b ≡ true → (a || b) ≡ true
 or-right true b e = refl
 or-right false b e = e
 
-itself : (x : List ℕ) → isSame (lexOf x x) ≡ true
-itself x = ap isSame (lex-itself x)
-
 raw-ok : (b : ℕ) (raw : List ℕ) → Printed 64 (b ∷ raw) → rawOk (b ∷ raw) ≡ true
 raw-ok b raw p = both (le-leb (length (b ∷ raw)) 64 (p .short)) (p .fair)
 
@@ -126,11 +120,11 @@ dated-ok f b raw t p d =
     let x = datedKey (b ∷ raw) (dateOf t) in
     let n : length x - suc (length (dateOf t)) ≡ length (b ∷ raw) = omega (arith, length-append (b ∷ raw) (64 ∷ dateOf t)) in
     let k : take (length x - suc (length (dateOf t))) x ≡ b ∷ raw = ap (λ i. take i x) n ∙ take-at (b ∷ raw) (64 ∷ dateOf t) (length (b ∷ raw)) refl in
-    or-right (rawOk x) _ (or-left (datedOk (dateOf t) x) _ (rw k (both d (both (raw-ok b raw p) (itself x)))))
+    or-right (rawOk x) _ (or-left (datedOk (dateOf t) x) _ (rw k (both d (both (raw-ok b raw p) (same-refl x)))))
 
 pub incomplete-ok : (f : List ℕ) (t : Trip) → keyOk f (incompleteKey f t) t ≡ true
 unfolding keyOk
-incomplete-ok f t = or-right (rawOk (incompleteKey f t)) _ (or-right (datedOk (dateOf t) (incompleteKey f t)) _ (itself (incompleteKey f t)))
+incomplete-ok f t = or-right (rawOk (incompleteKey f t)) _ (or-right (datedOk (dateOf t) (incompleteKey f t)) _ (same-refl (incompleteKey f t)))
 
 -- ---- WHICH KEYS A RECORD MAY HAVE
 
@@ -172,7 +166,7 @@ given-key f x t g = go (g .raw) (printed-of 64 (g .raw) (g .rule)) (g .among)
     go [] p m = nameless (isEmpty (routeOf t)) m
     go (b ∷ raw) p m = named b raw p (isEmpty (dateOf t)) refl m
 
--- a raw id gives itself, and itself with the date
+-- a raw id gives itself, and same-refl with the date
 base-given : (f x : List ℕ) (t : Trip) → rawOk x ≡ true → Given f x t
 base-given f [] t h = absurd (false≢true h)
 base-given f (b ∷ raw) t h = record { raw = b ∷ raw; rule = h; among = go (isEmpty (dateOf t)) }
@@ -226,11 +220,6 @@ pub either : (a b : Bool) → (a || b) ≡ true → (a ≡ true) ⊎ (b ≡ true
 either true b e = inl refl
 either false b e = inr e
 
-is-same : (o : Order) → isSame o ≡ true → o ≡ Same
-is-same Less e = absurd (false≢true e)
-is-same Same e = refl
-is-same More e = absurd (false≢true e)
-
 -- and a record within question 5 has no other key
 pub key-given : (f x : List ℕ) (t : Trip) → ok 5 trip t ≡ true → keyOk f x t ≡ true → Given f x t
 unfolding keyOk
@@ -244,13 +233,13 @@ key-given f x t h k = ⊎-elim (base-given f x t) (λ r. ⊎-elim dated incomple
 
     dated : datedOk (dateOf t) x ≡ true → Given f x t
     dated e =
-        let q = both-true (not (isEmpty (dateOf t))) (rawOk raw && isSame (lexOf x (datedKey raw (dateOf t)))) e in
-        let p = both-true (rawOk raw) (isSame (lexOf x (datedKey raw (dateOf t)))) (q .1) in
-        dated-given f x raw t (q .0) (p .0) (lex-same x (datedKey raw (dateOf t)) (is-same (lexOf x (datedKey raw (dateOf t))) (p .1)))
+        let q = both-true (not (isEmpty (dateOf t))) (rawOk raw && same x (datedKey raw (dateOf t))) e in
+        let p = both-true (rawOk raw) (same x (datedKey raw (dateOf t))) (q .1) in
+        dated-given f x raw t (q .0) (p .0) (same-true x (datedKey raw (dateOf t)) (p .1))
 
-    incomplete : isSame (lexOf x (incompleteKey f t)) ≡ true → Given f x t
+    incomplete : same x (incompleteKey f t) ≡ true → Given f x t
     incomplete e =
-        let z : x ≡ incompleteKey f t = lex-same x (incompleteKey f t) (is-same (lexOf x (incompleteKey f t)) e) in
+        let z : x ≡ incompleteKey f t = same-true x (incompleteKey f t) e in
         let after = back (back five) in
         rw z
         (incomplete-given f t (printed-of 16 (dateOf t) (front after .is))

@@ -25,7 +25,8 @@ use Rattle.journey.specs.laws.Counts.{finished-seven}
 use Rattle.panel.specs.Questions.{Lengths, endedOnly, whole, finished, arrivingOutcome, cardCallOf}
 use Rattle.panel.specs.Outcome.{accepted, need, numberOf, bytesOf}
 use Rattle.panel.specs.Calls.{card, gives}
-use Rattle.panel.specs.Answers.{isSome, ifAny, questions}
+use Rattle.panel.specs.Answers.{ifAny, questions}
+use Rattle.basics.specs.Options.{isSome}
 use Rattle.panel.specs.laws.Accepts.{passed}
 use Rattle.panel.specs.laws.Left.{whole-formed, opened-state, past-four}
 use Rattle.panel.specs.laws.Sizes.{out-long}

@@ -24,7 +24,8 @@ use Rattle.journey.specs.Card.{card as cardForm}
 use Rattle.panel.specs.Outcome.{Outcome, accepted, need, needSome, numberOf}
 use Rattle.panel.specs.Questions.{Lengths, lengthsOk, freshFits, feedOk, whole, countsFit, treeOutcome, freshOf, messageOf, alertsOutcome, alertSheetOf, vehiclesIn, vehiclesOutcome, vehicleSheetOf, finished, arrivingOutcome, cardCallOf, reportOf}
 use Rattle.panel.specs.Calls.{Call, fresh, message, alertSheet, vehicleSheet, card, report, gives}
-use Rattle.panel.specs.Answers.{noFrom, firstNo, isSome, ifAny, questions}
+use Rattle.panel.specs.Answers.{noFrom, firstNo, ifAny, questions}
+use Rattle.basics.specs.Options.{isSome}
 
 -- the last four questions
 last-four : (a b c d : Bool) (x : List ℕ) → numberOf (need a 5 (need b 6 (need c 7 (need d 8 (accepted x))))) ≡ noFrom 5 (a ∷ b ∷ c ∷ d ∷ [])

@@ -37,7 +37,7 @@ use Rattle.overlay.specs.laws.Entered.{entries-kept, timestamp-kept}
 use Rattle.panel.specs.Outcome.{Outcome, refused, accepted, need, needSome, numberOf, bytesOf}
 use Rattle.panel.specs.Questions.{Lengths, lengthsOk, opened, countsFit, changedState, freshFits, feedOk, endedOnly, whole, treeOutcome, freshOf, messageOf, alertsOutcome, alertSheetOf, keysAscend, vehiclesOutcome, vehicleSheetOf, finished, arrivingOutcome, cardCallOf, reportOf}
 use Rattle.panel.specs.Calls.{Call, fresh, message, alertSheet, vehicleSheet, card, report, ends, outOf, gives, writes, overlayAfter, freshOverlay, run}
-use Rattle.panel.specs.Answers.{isSome}
+use Rattle.basics.specs.Options.{isSome}
 use Rattle.panel.specs.Book.{Book, noBook, recordsIn, enter, ifRead, messageEnters, alertsEnter, vehiclesEnter, fed, cardBy, says, shows, said, seen, saidAll, seenAll, History}
 use Rattle.panel.specs.laws.Accepts.{acceptedYes, acceptedSome}
 

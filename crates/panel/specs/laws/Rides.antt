@@ -19,9 +19,10 @@ use Rattle.journey.specs.Times as times
 use Rattle.journey.specs.Enrich as enrich
 use Rattle.panel.specs.Questions as questions
 use Rattle.panel.specs.Calls.{run}
-use Rattle.panel.specs.Rides.{AllHold, keyed, tripsFrom, table}
+use Rattle.panel.specs.Rides.{keyed, tripsFrom, table}
+use Rattle.basics.specs.Rows.{Holds}
 
-pub rides : AllHold table
+pub rides : Holds table
 unfolding table tripsFrom run questions.freshOf questions.messageOf questions.treeOutcome questions.cardCallOf questions.arrivingOutcome questions.finished questions.whole
     image.stateOf image.filled image.room valid.valid valid.within valid.feedValid shown change.afterMessage change.feedAt change.putFeed
     leaves.leaves leaves.entries leaves.countWithoutAt
