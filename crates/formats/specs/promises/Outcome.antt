@@ -22,6 +22,10 @@ abbrev pub skipped : {A : Type 0} → List ℕ → Option (A × List ℕ) → Sk
 skipped s none = Broken
 skipped s (some p) = At (length s - length (p .1))
 
+-- an element of a list
+abbrev pub element : (f : Format) → Reader (Value f)
+element f = onlyR (takes f) (read f)
+
 -- past a value of a format, and past n values of it
 abbrev pub skipTo : Format → List ℕ → ℕ → Skip
 skipTo f s at = skipped s (read f (drop at s))
@@ -60,7 +64,3 @@ leafFormat kind a b = nodeFormat kind a b (λ n. never)
 
 abbrev pub tagAt : List ℕ → ℕ → ℕ
 tagAt s at = cond (ltb at (length s)) (getD s at 0) 2
-
--- an element of a list
-abbrev pub element : (f : Format) → Reader (Value f)
-element f = onlyR (takes f) (read f)

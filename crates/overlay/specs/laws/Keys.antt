@@ -166,7 +166,7 @@ given-key f x t g = go (g .raw) (printed-of 64 (g .raw) (g .rule)) (g .among)
     go [] p m = nameless (isEmpty (routeOf t)) m
     go (b ∷ raw) p m = named b raw p (isEmpty (dateOf t)) refl m
 
--- a raw id gives itself, and same-refl with the date
+-- a raw id gives itself, and itself with the date
 base-given : (f x : List ℕ) (t : Trip) → rawOk x ≡ true → Given f x t
 base-given f [] t h = absurd (false≢true h)
 base-given f (b ∷ raw) t h = record { raw = b ∷ raw; rule = h; among = go (isEmpty (dateOf t)) }
