@@ -15,8 +15,9 @@ use Rattle.realtime_views.specs.promises.Views.{spanIn, SpanInside, viewDirecti
 use Rattle.realtime_views.specs.declared.Trip.{Trip}
 use Rattle.realtime_views.specs.declared.Span.{Span}
 use Rattle.basics.specs.Options.{Maybe, maybe}
-use Rattle.decode.specs.Key.{decimalOf, directionText, prefixed, headOf, tailOf}
+use Rattle.decode.specs.Key.{decimalOf, directionText, prefixed, datedKey, headOf, tailOf}
 use Rattle.basics.specs.Lists.{isEmpty}
+use Rattle.decode.specs.Sizes.{keyBytes, mostId, mostDate}
 use Rattle.decode.specs.laws.Written.{none, then, written-there, written-before, written-whole}
 use Rattle.decode.specs.promises.Written.{Added}
 use Rattle.decode.specs.promises.Keyed.{Short, Keyed}
@@ -69,6 +70,17 @@ keyed {keys} {keys′} {k} {n} {p} a h =
 -- two texts with a byte between them
 pub joined : {o₀ o₁ o₂ o₃ x y : List ℕ} {at p q r : ℕ} (b : ℕ) → Added o₀ at x o₁ p → Added o₁ p (b ∷ []) o₂ q → Added o₂ q y o₃ r → Added o₀ at (x ++ b ∷ y) o₃ r
 joined {o₀} {o₁} {o₂} {o₃} {x} {y} {at} {p} {q} {r} b f g h = rw (append-assoc x (b ∷ []) y) at (then (then f g) h)
+
+-- a key by id and date, whose bytes were read as x and y
+pub keyed-dated : {o₀ o₁ o₂ o₃ x y id date : List ℕ} {n p q r : ℕ} → x ≡ id → y ≡ date → length x ≤ mostId
+    → length y ≤ mostDate → Added o₀ (keyBytes * n) x o₁ p → Added o₁ p (64 ∷ []) o₂ q → Added o₂ q y o₃ r
+    → Keyed o₀ n (datedKey id date) o₃ (r - keyBytes * n)
+keyed-dated {x = x} {y = y} e f l m a b c = rw (e, f) at (keyed (joined 64 a b c) (omega (arith, length-append x (64 ∷ y))))
+
+-- a tail whose date and time were read as x and y
+pub tail-read : {out out′ x y date time : List ℕ} {at r : ℕ} → x ≡ date → y ≡ time → Added out at (tailOf x y) out′ r
+    → Added out at (tailOf date time) out′ r
+tail-read e f a = rw (e, f) at a
 
 pub nonempty : (x : List ℕ) → (length x ≡ 0 → ⊥) → isEmpty x ≡ false
 nonempty [] h = absurd (h refl)

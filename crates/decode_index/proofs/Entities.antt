@@ -35,7 +35,9 @@ use Rattle.decode_slots.specs.promises.Index.{SoundIndex}
 use Rattle.decode_keys.specs.promises.Entity as entity
 use Rattle.decode_keys.specs.promises.Entity.{placedAt, Applies}
 use Rattle.decode.specs.laws.Fine.{FineTree, Given, LeafFine, fine-sub, fine-rep, fine-last, tree-fine}
-use Rattle.decode_slots.specs.Places.{orEnd, bytesIn, recordAt, heldAt, held, beyond}
+use Rattle.decode.specs.Sizes.{beyond}
+use Rattle.decode_slots.specs.Places.{orEnd, recordAt, heldAt, held, isNew}
+use Rattle.decode_slots.specs.laws.Places.{read-at, readable-at}
 use Rattle.decode_index.specs.Message.{messageTree}
 use Rattle.decode_index.specs.promises.Message.{JudgedMessage, Fit, AllFit, withEntities, Indexed}
 
@@ -117,15 +119,9 @@ placed-all P p [] h = tt
 placed-all P p (e ∷ l) h = (h, placed-all P p l h)
 
 module _ (s : List ℕ) (i l : ℕ) (e : Tree) (r : tree feed feedEntity (take l (drop i s)) ≡ some e) (low : i < beyond) where
-  at-place : bytesIn s (i, i + l) ≡ take l (drop i s)
-  at-place = let z : i + l - i ≡ l = omega arith in ap (λ k. take k (drop i s)) z
-
-  read-place : tree feed feedEntity (bytesIn s (i, i + l)) ≡ some e
-  read-place = ap (tree feed feedEntity) at-place ∙ r
-
   pub stands-for : (o : List ℕ) → heldAt s o (i, i + l) ≡ tripIn e
   unfolding recordAt
-  stands-for o = rw (lt-ltb i beyond low) (ap (λ x. tripIn (orEnd x)) read-place)
+  stands-for o = rw (lt-ltb i beyond low) (ap (λ x. tripIn (orEnd x)) (read-at feedEntity s i l e r))
 
   -- THE INDEX AFTER AN ENTITY, by what its places stand for
   pub held-applied : (o name : List ℕ) (m : List (List ℕ × Place)) → held s o (entity.applied name e (i, i + l) m) ≡ puts texts (entriesIn name e) (held s o m)
@@ -141,7 +137,10 @@ module _ (s : List ℕ) (i l : ℕ) (e : Tree) (r : tree feed feedEntity (take l
   applied-fit o name m h F =
       puts-all texts (λ x. Fit s o (x .1)) (placedAt (i, i + l) (entriesIn name e)) m
       (placed-all (Fit s o) (i, i + l) (entriesIn name e)
-      (record { new = λ _. record { forward = omega arith; inside = h; entity = e; read = read-place }; old = λ q. absurd (false≢true (sym q ∙ lt-ltb i beyond low)) })) F
+      (record { new = λ _. readable-at feedEntity s i l e r h; old = λ q. not-old q; calm = λ q. not-old q })) F
+    where
+      not-old : {C : Type 0} → isNew (i, i + l) ≡ false → C
+      not-old q = absurd (false≢true (sym q ∙ lt-ltb i beyond low))
 
 pub held-length : (s o : List ℕ) (m : List (List ℕ × Place)) → length (held s o m) ≡ length m
 unfolding held

@@ -1,4 +1,12 @@
 // Calls of the readers of trip messages for a C host: the comparison with the original runs them. They ask nothing of their caller.
+use decode::sizes::KEYS_LENGTH;
+use decode::sizes::MARKS_LENGTH;
+use decode::sizes::MOST_FEED;
+use decode::sizes::MOST_MESSAGE;
+use decode::sizes::MOST_OLD;
+use decode::sizes::MOST_UPDATES;
+use decode::sizes::ORDER_LENGTH;
+use decode::sizes::UPDATES_LENGTH;
 use decode_index::Left;
 use formats_judge::Judge;
 use realtime::FEED_ENTITY;
@@ -25,12 +33,16 @@ ghost use Rattle.realtime.specs.Judge.{asked, rules};
 ghost use Rattle.realtime_views.specs.Typed.{orZero};
 ghost use Rattle.realtime_views.specs.Views.{header, stopUpdate, trip};
 ghost use Rattle.realtime_views.specs.promises.Views.{SpanInside, spanIn, viewDelay, viewDirection, viewEvent, viewHeader, viewTime, viewTimestamp};
+ghost use Rattle.decode.specs.Sizes.{updatesLength};
 ghost use Rattle.decode_slots.specs.Index.{index};
 ghost use Rattle.decode_slots.specs.Places as places;
 ghost use Rattle.decode_updates.specs.Line.{laid};
 ghost use Rattle.decode_updates.specs.Updates.{updatesAt};
 ghost use Rattle.decode_probes.specs.Indexing.{sized, unfailed, areOld, messageQuestion, question, answered, outcome, updatesOutcome};
 ghost use Rattle.decode_probes.specs.Answers.{questionOf, isWhole, isSome, orNought, ofWhole, headerNumbers, noHeader, tripNumbers, tripNumbersOf, noTrip, eventNumbers, stopNumbers, stopNumbersOf, noStop, textsAre};
+
+// Answers below this are the number of a question; from it on, it and a count.
+const FOUND: usize = 16;
 
 fn question_of(v: Verdict) -> u32
     ensures { λ r. ⌜ r ≡ questionOf v ⌝ }
@@ -310,20 +322,20 @@ pub extern "C" fn trips_stop_text(u: &[u8], stop: &[u8]) -> bool
 // they are.
 #[no_mangle]
 pub extern "C" fn trips_updates(updates: &mut [u32], e: &[u8]) -> usize
-    ensures { λ r. ⌜ answered (λ n. updatesAt (now (e .entry)) (laid n (now (updates .exit)))) r ≡ updatesOutcome (eqb (length (now (updates .entry))) 387) (now (e .entry)) ⌝ }
+    ensures { λ r. ⌜ answered (λ n. updatesAt (now (e .entry)) (laid n (now (updates .exit)))) r ≡ updatesOutcome (eqb (length (now (updates .entry))) updatesLength) (now (e .entry)) ⌝ }
 {
-    if updates.len() != 387 {
+    if updates.len() != UPDATES_LENGTH {
         return 1;
     }
-    if e.len() > 1048576 {
+    if e.len() > MOST_MESSAGE {
         return 3;
     }
     if is_whole(e, FEED_ENTITY) {
         let n = decode_updates::updates_of(updates, e, 0, e.len());
-        if n > 128 {
+        if n > MOST_UPDATES {
             return 7;
         }
-        return 16 + n;
+        return FOUND + n;
     }
     4
 }
@@ -341,7 +353,7 @@ fn is_unfailed(j: Judge) -> bool
 fn are_old(old: &[u8]) -> bool
     ensures { λ r. ⌜ r ≡ areOld (now (old .entry)) ⌝ }
 {
-    if old.len() > 4000000000 {
+    if old.len() > MOST_OLD {
         return false;
     }
     is_unfailed(decode_old::judge(old, 0))
@@ -350,21 +362,24 @@ fn are_old(old: &[u8]) -> bool
 fn is_sized(keys: usize, marks: usize, order: usize, updates: usize) -> bool
     ensures { λ r. ⌜ r ≡ sized keys marks order updates ⌝ }
 {
-    (keys == 280713) & (marks == 6147) & (order == 2049) & (updates == 387)
+    (keys == KEYS_LENGTH)
+        & (marks == MARKS_LENGTH)
+        & (order == ORDER_LENGTH)
+        & (updates == UPDATES_LENGTH)
 }
 
 // The first of the questions 3 to 6 that a message fails, else 0.
 fn message_question(feed: &[u8], s: &[u8]) -> u32
     ensures { λ r. ⌜ r ≡ messageQuestion (now (feed .entry)) (now (s .entry)) ⌝ }
 {
-    if s.len() > 1048576 {
+    if s.len() > MOST_MESSAGE {
         return 3;
     }
     let q = trips_judge(s);
     if q == 4 {
         return 4;
     }
-    if feed.len() > 16 {
+    if feed.len() > MOST_FEED {
         return 5;
     }
     q
@@ -419,6 +434,6 @@ pub extern "C" fn trips_index(
     match decode_index::leave(keys, marks, order, updates, feed, s, old, 0) {
         Left::ManyTrips => 7,
         Left::ManyUpdates => 7,
-        Left::Trips(n) => 16 + n,
+        Left::Trips(n) => FOUND + n,
     }
 }

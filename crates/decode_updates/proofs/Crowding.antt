@@ -13,6 +13,7 @@ use Rattle.basics.specs.Lists.{All}
 use Rattle.maps.specs.laws.Map.{map-length}
 use Rattle.decode.specs.Record.{updatesIn, tripIn}
 use Rattle.decode_slots.specs.Index.{slotPlace}
+use Rattle.realtime.specs.Schema.{feedEntity}
 use Rattle.decode_slots.specs.Places.{recordAt, updateAt, orEnd, crowded}
 use Rattle.decode_slots.specs.promises.Places.{Readable}
 use Rattle.decode_updates.specs.Line.{laid}
@@ -36,7 +37,7 @@ module _ (s marks : List ℕ) (j : ℕ) where
   slot-old e h = sym (ap (λ b. b && crowded (recordAt s (slotPlace marks j))) (le-ltb (getD marks (3 * j + 1) 0) 1048577 (omega arith)))
 
   module _ (R : ReadableSlot s marks j) {from : ℕ} (e : from ≡ getD marks (3 * j + 1) 0) (h : from < 1048577) where
-    pub slot-reads : Readable s (slotPlace marks j)
+    pub slot-reads : Readable feedEntity s (slotPlace marks j)
     slot-reads = R .1 (lt-ltb (getD marks (3 * j + 1) 0) 1048577 (omega arith))
 
     -- a record of the message
@@ -44,7 +45,7 @@ module _ (s marks : List ℕ) (j : ℕ) where
     unfolding recordAt
     slot-new {to} {r} f C =
         let q = slot-reads .read in
-        let z : r ≡ crowded (tripIn (slot-reads .entity)) = (rw (e, f) at C) .of (slot-reads .entity) q in
+        let z : r ≡ crowded (tripIn (slot-reads .message)) = (rw (e, f) at C) .of (slot-reads .message) q in
         z ∙ sym (ap (λ o. crowded (tripIn (orEnd o))) q)
         ∙ sym (ap (λ b. b && crowded (recordAt s (slotPlace marks j))) (lt-ltb (getD marks (3 * j + 1) 0) 1048577 (omega arith)))
 
