@@ -34,11 +34,13 @@ use Rattle.decode_index.proofs.Entities.{whole, message-is, held-length
 
 -- ---- the index before the entities
 
-pub begun-none : {o keys marks order : List ℕ} {at : ℕ} {d : Bool} → SoundIndex keys marks order 0 → d ≡ false → Begun o at d keys marks order 0
+pub begun-none : {o keys marks order : List ℕ} {at : ℕ} {d : Bool} → SoundIndex keys marks order 0 → d ≡ false
+    → Begun o at d keys marks order 0
 unfolding held
 begun-none S e = record { sound = S; few = omega arith; old = tt; of = λ v q h s. rw e refl }
 
-pub begun-old : {o keys marks order : List ℕ} {at n : ℕ} {d : Bool} → Joined o at keys marks order n → d ≡ true → Begun o at d keys marks order n
+pub begun-old : {o keys marks order : List ℕ} {at n : ℕ} {d : Bool} → Joined o at keys marks order n → d ≡ true
+    → Begun o at d keys marks order n
 begun-old J e = record {
   sound = J .sound;
   few = J .few;
@@ -71,32 +73,41 @@ unfolding anyCrowded
 all-calm [] h = refl
 all-calm (e ∷ m) h = rw (h .0) (all-calm m (h .1))
 
-begun-fit : {o keys marks order : List ℕ} {at n : ℕ} {d : Bool} (s : List ℕ) → Old o at → Begun o at d keys marks order n → AllFit s o (index keys marks order n)
+begun-fit : {o keys marks order : List ℕ} {at n : ℕ} {d : Bool} (s : List ℕ) → Old o at
+    → Begun o at d keys marks order n → AllFit s o (index keys marks order n)
 unfolding anyCrowded
 begun-fit {o} {keys} {marks} {order} {at} {n} {d} s O B =
     old-fit s o (index keys marks order n) (B .old)
     (ap anyCrowded (B .of (O .stands .trips) (O .stands .end) (O .stands .here) s) ∙ go d)
   where
     go : (b : Bool) → anyCrowded (cond b (puts texts (O .stands .trips) []) []) ≡ false
-    go true = all-calm (puts texts (O .stands .trips) []) (puts-all texts (λ e. crowded (e .1) ≡ false) (O .stands .trips) [] (O .calm) tt)
+    go true = all-calm (puts texts (O .stands .trips) [])
+        (puts-all texts (λ e. crowded (e .1) ≡ false) (O .stands .trips) [] (O .calm) tt)
     go false = refl
 
-slots-readable : (s o keys marks : List ℕ) (n : ℕ) (l : List ℕ) → n ≤ 2049 → All (λ j. j < n) l → AllFit s o (slotted keys marks l) → All (ReadableSlot s marks) l
+slots-readable : (s o keys marks : List ℕ) (n : ℕ) (l : List ℕ) → n ≤ 2049 → All (λ j. j < n) l
+    → AllFit s o (slotted keys marks l) → All (ReadableSlot s marks) l
 slots-readable s o keys marks n [] c b f = tt
-slots-readable s o keys marks n (j ∷ l) c b f = ((omega (arith, b .0), f .0 .new), slots-readable s o keys marks n l c (b .1) (f .1))
+slots-readable s o keys marks n (j ∷ l) c b f =
+    ((omega (arith, b .0), f .0 .new), slots-readable s o keys marks n l c (b .1) (f .1))
 
-slots-calm : (s o keys marks : List ℕ) (l : List ℕ) → AllFit s o (slotted keys marks l) → All (λ j. isNew (slotPlace marks j) ≡ false → crowded (oldAt o (slotPlace marks j)) ≡ false) l
+slots-calm : (s o keys marks : List ℕ) (l : List ℕ) → AllFit s o (slotted keys marks l)
+    → All (λ j. isNew (slotPlace marks j) ≡ false → crowded (oldAt o (slotPlace marks j)) ≡ false) l
 slots-calm s o keys marks [] f = tt
 slots-calm s o keys marks (j ∷ l) f = (f .0 .calm, slots-calm s o keys marks l (f .1))
 
 -- ---- the whole
 
 module _ {name s o keys₀ marks₀ order₀ keys marks order : List ℕ} {at n m : ℕ} {h : Header}
-    (J : JudgedMessage s) (O : Old o at) (H : HeaderRead feed s h) (B : Begun o at (h .differential) keys₀ marks₀ order₀ n) (I : Indexed name s (index keys₀ marks₀ order₀ n) keys marks order m) where
+    (J : JudgedMessage s) (O : Old o at) (H : HeaderRead feed s h)
+    (B : Begun o at (h .differential) keys₀ marks₀ order₀ n)
+    (I : Indexed name s (index keys₀ marks₀ order₀ n) keys marks order m) where
   flag : h .differential ≡ differential (messageTree s)
-  flag = let W = whole s J in ap (λ v. v .differential) (H .of (W .message) (W .read)) ∙ ap differential (sym (message-is W))
+  flag = let W = whole s J in ap (λ v. v .differential) (H .of (W .message) (W .read))
+      ∙ ap differential (sym (message-is W))
 
-  left-is : (v : Trips) (q : ℕ) → Here (list 2048 tripEntry) o at q v → withEntities name s (held s o (index keys₀ marks₀ order₀ n)) ≡ leaves name (messageTree s) (puts texts v [])
+  left-is : (v : Trips) (q : ℕ) → Here (list 2048 tripEntry) o at q v
+      → withEntities name s (held s o (index keys₀ marks₀ order₀ n)) ≡ leaves name (messageTree s) (puts texts v [])
   unfolding leaves
   left-is v q k = ap (withEntities name s) (B .of v q k s ∙ ap (λ b. cond b (puts texts v []) []) flag)
 
@@ -105,7 +116,8 @@ module _ {name s o keys₀ marks₀ order₀ keys marks order : List ℕ} {at n 
     sound = λ i e. absurd (let z : _≡_ {A = ℕ} 0 1 = cc in omega arith);
     fit = λ i e. absurd (let z : _≡_ {A = ℕ} 0 1 = cc in omega arith);
     calm = λ i e. absurd (let z : _≡_ {A = ℕ} 0 1 = cc in omega arith);
-    of = λ v q k. sym (rw (lt-ltb 2048 (length (leaves name (messageTree s) (puts texts v []))) (rw (← left-is v q k) (I .many g o))) refl);
+    of = λ v q k. sym (rw (lt-ltb 2048 (length (leaves name (messageTree s) (puts texts v [])))
+        (rw (← left-is v q k) (I .many g o))) refl);
   }
 
   module _ (g : m ≤ 2048) where
@@ -115,15 +127,28 @@ module _ {name s o keys₀ marks₀ order₀ keys marks order : List ℕ} {at n 
     pub readable-slots : All (ReadableSlot s marks) (take m order)
     readable-slots = slots-readable s o keys marks m (take m order) (omega arith) (I .sound .slots) fits
 
-    held-is : (v : Trips) (q : ℕ) → Here (list 2048 tripEntry) o at q v → held s o (index keys marks order m) ≡ leaves name (messageTree s) (puts texts v [])
+    held-is : (v : Trips) (q : ℕ) → Here (list 2048 tripEntry) o at q v
+        → held s o (index keys marks order m) ≡ leaves name (messageTree s) (puts texts v [])
     held-is v q k = I .few g o ∙ left-is v q k
 
-    short : (v : Trips) (q : ℕ) → Here (list 2048 tripEntry) o at q v → ltb 2048 (length (leaves name (messageTree s) (puts texts v []))) ≡ false
-    short v q k = le-ltb 2048 (length (leaves name (messageTree s) (puts texts v []))) (omega (arith, sym (ap length (held-is v q k)), held-length s o (index keys marks order m), index-length keys marks order m (I .sound)))
+    short : (v : Trips) (q : ℕ) → Here (list 2048 tripEntry) o at q v
+        → ltb 2048 (length (leaves name (messageTree s) (puts texts v []))) ≡ false
+    short v q k =
+        le-ltb 2048 (length (leaves name (messageTree s) (puts texts v [])))
+        (omega (
+          arith,
+          sym (ap length (held-is v q k)),
+          held-length s o (index keys marks order m),
+          index-length keys
+              marks order m (I .sound),
+        ))
 
     module _ {c : Bool} (C : c ≡ crowdedIn s marks (take m order)) where
-      crowds : (v : Trips) (q : ℕ) → Here (list 2048 tripEntry) o at q v → anyCrowded (leaves name (messageTree s) (puts texts v [])) ≡ c
-      crowds v q k = ap anyCrowded (sym (held-is v q k)) ∙ sym (crowded-held s o keys marks (take m order) (slots-calm s o keys marks (take m order) fits)) ∙ sym C
+      crowds : (v : Trips) (q : ℕ) → Here (list 2048 tripEntry) o at q v
+          → anyCrowded (leaves name (messageTree s) (puts texts v [])) ≡ c
+      crowds v q k =
+          ap anyCrowded (sym (held-is v q k))
+          ∙ sym (crowded-held s o keys marks (take m order) (slots-calm s o keys marks (take m order) fits)) ∙ sym C
 
       pub leaves-crowded : c ≡ true → Leaves name s o at keys marks order Left.ManyUpdates
       leaves-crowded t = record {

@@ -26,7 +26,8 @@ use Rattle.decode_probes.specs.Answers.{questionOf, ofWhole}
 
 -- the lengths of the working slices
 abbrev pub sized : ℕ → ℕ → ℕ → ℕ → Bool
-sized keys marks order updates = ((eqb keys keysLength && eqb marks marksLength) && eqb order orderLength) && eqb updates updatesLength
+sized keys marks order updates =
+    ((eqb keys keysLength && eqb marks marksLength) && eqb order orderLength) && eqb updates updatesLength
 
 abbrev pub unfailed : Judge → Bool
 unfailed Judge.Broken = false
@@ -49,7 +50,10 @@ abbrev pub judgedQuestion : Bool → ℕ → ℕ
 judgedQuestion short q = cond (eqb q 4) 4 (cond short q 5)
 
 abbrev pub messageQuestion : List ℕ → List ℕ → ℕ
-messageQuestion feed s = cond (leb (length s) mostMessage) (judgedQuestion (leb (length feed) mostFeed) (questionOf (asked rules feedMessage (tree schema.feed feedMessage s)))) 3
+messageQuestion feed s =
+    cond (leb (length s) mostMessage)
+    (judgedQuestion (leb (length feed) mostFeed)
+    (questionOf (asked rules feedMessage (tree schema.feed feedMessage s)))) 3
 
 abbrev pub question : Bool → List ℕ → List ℕ → List ℕ → ℕ
 question fit feed s old = cond fit (cond (areOld old) (messageQuestion feed s) 2) 1
@@ -69,7 +73,9 @@ unlessAsked zero x = x
 unlessAsked (suc n) x = refused (suc n)
 
 abbrev pub outcome : Bool → List ℕ → List ℕ → List ℕ → IndexOutcome Trips
-outcome fit feed s old = unlessAsked (question fit feed s old) (sevenOf (leaving (leaves feed (messageTree s) (puts texts (oldTrips old) []))))
+outcome fit feed s old =
+    unlessAsked (question fit feed s old)
+    (sevenOf (leaving (leaves feed (messageTree s) (puts texts (oldTrips old) []))))
 
 -- what the answer says, where n slots or lines hold t n
 abbrev pub answered : {A : Type 0} → (ℕ → A) → ℕ → IndexOutcome A
@@ -80,4 +86,6 @@ abbrev pub limited : List (ℕ × StopUpdate) → IndexOutcome (List (ℕ × Sto
 limited l = cond (ltb mostUpdates (length l)) (refused 7) (left l)
 
 abbrev pub updatesOutcome : Bool → List ℕ → IndexOutcome (List (ℕ × StopUpdate))
-updatesOutcome fit e = cond fit (cond (leb (length e) mostMessage) (ofWhole (refused 4) (λ m. limited (updatesIn m)) (tree schema.feed feedEntity e)) (refused 3)) (refused 1)
+updatesOutcome fit e =
+    cond fit (cond (leb (length e) mostMessage)
+    (ofWhole (refused 4) (λ m. limited (updatesIn m)) (tree schema.feed feedEntity e)) (refused 3)) (refused 1)

@@ -43,14 +43,16 @@ pub record Listing (s : List ℕ) (start len : ℕ) (u : List ℕ) (n : ℕ) (w 
   pub walked : Walked s start len
       (λ e l. (puts numbers (map pair l) (updatesAt s (laid n u)) ≡ updatesIn e) × AllReadable s (laid n u)) w
 
-pub listing : (s : List ℕ) (start len : ℕ) {u : List ℕ} {w : Walk} → start + len ≤ length s → length u ≡ 387 → w ≡ atMerged start → Listing s start len u 0 w
+pub listing : (s : List ℕ) (start len : ℕ) {u : List ℕ} {w : Walk} → start + len ≤ length s → length u ≡ 387
+    → w ≡ atMerged start → Listing s start len u 0 w
 unfolding updatesIn
 listing s start len i h e = record {
   lined = record { counted = omega arith; long = h; ascends = refl };
   walked = starts s start len i e (λ t. (refl, tt));
 }
 
-update-at : (s : List ℕ) (i l : ℕ) (m : Tree) → tree feed stopTimeUpdate (take l (drop i s)) ≡ some m → updateAt s (i, i + l) ≡ updateIn m
+update-at : (s : List ℕ) (i l : ℕ) (m : Tree) → tree feed stopTimeUpdate (take l (drop i s)) ≡ some m
+    → updateAt s (i, i + l) ≡ updateIn m
 unfolding updateAt
 update-at s i l m e = ap (λ o. updateIn (orEnd o)) (read-at stopTimeUpdate s i l m e)
 
@@ -96,5 +98,6 @@ module _ {s : List ℕ} {start len : ℕ} {u : List ℕ} {n : ℕ} {w : Walk} (L
           → AllReadable s (laid n′ u′) = λ t y h.
           rw (M .map) (put-all numbers (λ x. Readable stopTimeUpdate s (x .1)) q (i, i + l) (laid n u)
           (readable-at stopTimeUpdate s i l t y (there (L .walked) X N a)) h) in
-          walks-on (L .walked) X N a (λ e t k y p. (ap (puts numbers (map pair k)) (noted t y) ∙ p .0, read t y (p .1)));
+          walks-on (L .walked) X N a (λ e t k y p.
+          (ap (puts numbers (map pair k)) (noted t y) ∙ p .0, read t y (p .1)));
     }

@@ -12,7 +12,8 @@ pub slotted-length : (keys marks l : List ℕ) → length (slotted keys marks l)
 slotted-length keys marks [] = refl
 slotted-length keys marks (j ∷ l) = ap suc (slotted-length keys marks l)
 
-pub index-length : (keys marks order : List ℕ) (n : ℕ) → SoundIndex keys marks order n → length (index keys marks order n) ≡ n
+pub index-length : (keys marks order : List ℕ) (n : ℕ) → SoundIndex keys marks order n
+    → length (index keys marks order n) ≡ n
 index-length keys marks order n S =
     slotted-length keys marks (take n order) ∙ length-take-le n order (omega (arith, S .ordered, S .counted))
 

@@ -42,7 +42,8 @@ pub record CrowdedRead (s : List ℕ) (start len : ℕ) (r : Bool) : Type 0 wher
 
 -- a slot of the index whose record, where it is of the message, is not broken
 abbrev pub ReadableSlot : List ℕ → List ℕ → ℕ → Type 0
-ReadableSlot s marks j = (j < orderLength) × (isNew (slotPlace marks j) ≡ true → Readable feedEntity s (slotPlace marks j))
+ReadableSlot s marks j =
+    (j < orderLength) × (isNew (slotPlace marks j) ≡ true → Readable feedEntity s (slotPlace marks j))
 
 -- whether a slot's record is of the message, and has more than 128 updates
 abbrev pub crowdedSlot : List ℕ → List ℕ → ℕ → Bool
