@@ -97,7 +97,8 @@ fn write_route(keys: &mut [u8], at: usize, feed: &[u8], s: &[u8], route: Span) -
 // A direction has 10 digits at most.
 fn write_direction(keys: &mut [u8], at: usize, direction: Direction) -> usize
     requires { ⌜ at + 10 ≤ length (now keys) ⌝ }
-    ensures { λ r. ⌜ Added (now (keys .entry)) at (directionText (maybe (viewDirection direction))) (now (keys .exit)) r ⌝ }
+    ensures { λ r. ⌜ Added (now (keys .entry)) at
+        (directionText (maybe (viewDirection direction))) (now (keys .exit)) r ⌝ }
 {
     match direction {
         Direction::Given(d) => decimal(10, keys, at, d),

@@ -35,7 +35,7 @@ pub fn file_key(
 }
 
 // The key of an entity: by its raw trip id.
-pub fn file_base(
+fn file_base(
     keys: &mut [u8],
     marks: &mut [u32],
     order: &mut [u32],
@@ -55,7 +55,7 @@ pub fn file_base(
 }
 
 // By its raw trip id and its date.
-pub fn file_dated(
+fn file_dated(
     keys: &mut [u8],
     marks: &mut [u32],
     order: &mut [u32],
@@ -76,7 +76,7 @@ pub fn file_dated(
 }
 
 // And without a trip id.
-pub fn file_incomplete(
+fn file_incomplete(
     keys: &mut [u8],
     marks: &mut [u32],
     order: &mut [u32],
@@ -100,7 +100,7 @@ pub fn file_incomplete(
 }
 
 // Every key of an entity goes into the index with its place, the dated one before its base.
-pub fn file_trip(
+fn file_trip(
     keys: &mut [u8],
     marks: &mut [u32],
     order: &mut [u32],

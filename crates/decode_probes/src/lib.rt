@@ -1,4 +1,5 @@
-// Calls of the readers of trip messages for a C host: the comparison with the original runs them. They ask nothing of their caller.
+// Calls of the readers of trip messages for a C host: the comparison with the original runs them. They ask nothing of
+// their caller.
 use decode::sizes::KEYS_LENGTH;
 use decode::sizes::MARKS_LENGTH;
 use decode::sizes::MOST_FEED;
@@ -32,14 +33,18 @@ ghost use Rattle.realtime.specs.Schema.{feed, feedMessage, feedEntity, stopTime
 ghost use Rattle.realtime.specs.Judge.{asked, rules};
 ghost use Rattle.realtime_views.specs.Typed.{orZero};
 ghost use Rattle.realtime_views.specs.Views.{header, stopUpdate, trip};
-ghost use Rattle.realtime_views.specs.promises.Views.{SpanInside, spanIn, viewDelay, viewDirection, viewEvent, viewHeader, viewTime, viewTimestamp};
+ghost use Rattle.realtime_views.specs.promises.Views.{SpanInside, spanIn, viewDelay, viewDirection, viewEvent};
+ghost use Rattle.realtime_views.specs.promises.Views.{viewHeader, viewTime, viewTimestamp};
 ghost use Rattle.decode.specs.Sizes.{updatesLength};
 ghost use Rattle.decode_slots.specs.Index.{index};
 ghost use Rattle.decode_slots.specs.Places as places;
 ghost use Rattle.decode_updates.specs.Line.{laid};
 ghost use Rattle.decode_updates.specs.Updates.{updatesAt};
-ghost use Rattle.decode_probes.specs.Indexing.{sized, unfailed, areOld, messageQuestion, question, answered, outcome, updatesOutcome};
-ghost use Rattle.decode_probes.specs.Answers.{questionOf, isWhole, isSome, orNought, ofWhole, headerNumbers, noHeader, tripNumbers, tripNumbersOf, noTrip, eventNumbers, stopNumbers, stopNumbersOf, noStop, textsAre};
+ghost use Rattle.decode_probes.specs.Indexing.{sized, unfailed, areOld, messageQuestion, question, answered};
+ghost use Rattle.decode_probes.specs.Indexing.{outcome, updatesOutcome};
+ghost use Rattle.decode_probes.specs.Answers.{questionOf, isWhole, isSome, orNought, ofWhole, headerNumbers};
+ghost use Rattle.decode_probes.specs.Answers.{noHeader, tripNumbers, tripNumbersOf, noTrip, eventNumbers};
+ghost use Rattle.decode_probes.specs.Answers.{stopNumbers, stopNumbersOf, noStop, textsAre};
 
 // Answers below this are the number of a question; from it on, it and a count.
 const FOUND: usize = 16;
@@ -231,7 +236,8 @@ fn reads(s: &[u8], p: Span, x: &[u8]) -> bool
 // Whether the start time, the start date and the route of an entity's trip are these.
 #[no_mangle]
 pub extern "C" fn trips_texts(e: &[u8], time: &[u8], date: &[u8], route: &[u8]) -> bool
-    ensures { λ r. ⌜ r ≡ ofWhole false (λ m. textsAre (trip m) (now (time .entry)) (now (date .entry)) (now (route .entry))) (tree feed feedEntity (now (e .entry))) ⌝ }
+    ensures { λ r. ⌜ r ≡ ofWhole false (λ m. textsAre (trip m) (now (time .entry)) (now (date .entry))
+        (now (route .entry))) (tree feed feedEntity (now (e .entry))) ⌝ }
 {
     if is_whole(e, FEED_ENTITY) {
         let t = realtime_views::trip_of(e, 0, e.len());
@@ -286,7 +292,8 @@ fn stop_numbers(u: StopUpdate) -> StopNumbers
 
 #[no_mangle]
 pub extern "C" fn trips_stop(u: &[u8]) -> StopNumbers
-    ensures { λ r. ⌜ r ≡ ofWhole noStop (λ m. stopNumbersOf (stopUpdate m)) (tree feed stopTimeUpdate (now (u .entry))) ⌝ }
+    ensures { λ r. ⌜ r ≡ ofWhole noStop (λ m. stopNumbersOf (stopUpdate m))
+        (tree feed stopTimeUpdate (now (u .entry))) ⌝ }
 {
     if is_whole(u, STOP_TIME_UPDATE) {
         return stop_numbers(realtime_views::stop_of(u, 0, u.len()));
@@ -308,7 +315,8 @@ pub extern "C" fn trips_stop(u: &[u8]) -> StopNumbers
 // Whether the stop id of a stop time update is this.
 #[no_mangle]
 pub extern "C" fn trips_stop_text(u: &[u8], stop: &[u8]) -> bool
-    ensures { λ r. ⌜ r ≡ ofWhole false (λ m. same (stopUpdate m .stop) (now (stop .entry))) (tree feed stopTimeUpdate (now (u .entry))) ⌝ }
+    ensures { λ r. ⌜ r ≡ ofWhole false (λ m. same (stopUpdate m .stop) (now (stop .entry)))
+        (tree feed stopTimeUpdate (now (u .entry))) ⌝ }
 {
     if is_whole(u, STOP_TIME_UPDATE) {
         let r = realtime_views::stop_of(u, 0, u.len());
@@ -318,11 +326,12 @@ pub extern "C" fn trips_stop_text(u: &[u8], stop: &[u8]) -> bool
     false
 }
 
-// The places of an entity's updates, in ascending order of sequence, in 387 words: the first of the questions 1, 3, 4 and 7 with the answer no, or 16 and how many
-// they are.
+// The places of an entity's updates, in ascending order of sequence, in 387 words: the first of the questions 1, 3, 4
+// and 7 with the answer no, or 16 and how many they are.
 #[no_mangle]
 pub extern "C" fn trips_updates(updates: &mut [u32], e: &[u8]) -> usize
-    ensures { λ r. ⌜ answered (λ n. updatesAt (now (e .entry)) (laid n (now (updates .exit)))) r ≡ updatesOutcome (eqb (length (now (updates .entry))) updatesLength) (now (e .entry)) ⌝ }
+    ensures { λ r. ⌜ answered (λ n. updatesAt (now (e .entry)) (laid n (now (updates .exit)))) r
+        ≡ updatesOutcome (eqb (length (now (updates .entry))) updatesLength) (now (e .entry)) ⌝ }
 {
     if updates.len() != UPDATES_LENGTH {
         return 1;
@@ -395,7 +404,8 @@ fn first_question(
     s: &[u8],
     old: &[u8],
 ) -> u32
-    ensures { λ r. ⌜ r ≡ question (sized keys marks order updates) (now (feed .entry)) (now (s .entry)) (now (old .entry)) ⌝ }
+    ensures { λ r. ⌜ r ≡ question (sized keys marks order updates) (now (feed .entry)) (now (s .entry))
+        (now (old .entry)) ⌝ }
 {
     if is_sized(keys, marks, order, updates) {
         if are_old(old) {
@@ -406,7 +416,8 @@ fn first_question(
     1
 }
 
-// What a message leaves of a feed's trips: the first of the questions 1 to 7 with the answer no, or 16 and how many slots of the index are in use.
+// What a message leaves of a feed's trips: the first of the questions 1 to 7 with the answer no, or 16 and how many
+// slots of the index are in use.
 #[no_mangle]
 pub extern "C" fn trips_index(
     keys: &mut [u8],
@@ -417,7 +428,10 @@ pub extern "C" fn trips_index(
     s: &[u8],
     old: &[u8],
 ) -> usize
-    ensures { λ r. ⌜ answered (λ n. places.held (now (s .entry)) (now (old .entry)) (index (now (keys .exit)) (now (marks .exit)) (now (order .exit)) n)) r ≡ outcome (sized (length (now (keys .entry))) (length (now (marks .entry))) (length (now (order .entry))) (length (now (updates .entry)))) (now (feed .entry)) (now (s .entry)) (now (old .entry)) ⌝ }
+    ensures { λ r. ⌜ answered (λ n. places.held (now (s .entry)) (now (old .entry))
+        (index (now (keys .exit)) (now (marks .exit)) (now (order .exit)) n)) r
+        ≡ outcome (sized (length (now (keys .entry))) (length (now (marks .entry))) (length (now (order .entry)))
+        (length (now (updates .entry)))) (now (feed .entry)) (now (s .entry)) (now (old .entry)) ⌝ }
 {
     let q = first_question(
         keys.len(),
