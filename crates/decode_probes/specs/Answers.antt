@@ -32,13 +32,15 @@ ofWhole d f none = d
 ofWhole d f (some m) = f m
 
 abbrev pub headerNumbers : HeaderView → HeaderNumbers
-headerNumbers h = record { differential = h .differential; timed = isSome (h .timestamp); timestamp = orZero (h .timestamp) }
+headerNumbers h =
+    record { differential = h .differential; timed = isSome (h .timestamp); timestamp = orZero (h .timestamp) }
 
 abbrev pub noHeader : HeaderNumbers
 noHeader = record { differential = false; timed = false; timestamp = 0 }
 
 abbrev pub tripNumbers : Bool → Option ℕ → Option ℤ → TripNumbers
-tripNumbers c d l = record { cancelled = c; directed = isSome d; direction = orZero d; delayed = isSome l; delay = orNought l }
+tripNumbers c d l =
+    record { cancelled = c; directed = isSome d; direction = orZero d; delayed = isSome l; delay = orNought l }
 
 abbrev pub tripNumbersOf : TripView → TripNumbers
 tripNumbersOf t = tripNumbers (t .cancelled) (t .direction) (t .delay)
@@ -51,7 +53,14 @@ abbrev pub textsAre : TripView → List ℕ → List ℕ → List ℕ → Bool
 textsAre t x y z = (same (t .time) x && same (t .date) y) && same (t .route) z
 
 abbrev pub eventNumbers : EventView → EventNumbers
-eventNumbers e = record { delayed = isSome (e .delay); delay = orNought (e .delay); timed = isSome (e .time); time = orNought (e .time) }
+eventNumbers e =
+    record {
+      delayed = isSome (e .delay);
+      delay = orNought (e .delay);
+      timed = isSome (e .time);
+      time = orNought
+          (e .time);
+    }
 
 abbrev pub stopNumbers : ℕ → Bool → EventView → EventView → StopNumbers
 stopNumbers n s a d = record { sequence = n; skipped = s; arrival = eventNumbers a; departure = eventNumbers d }
