@@ -37,7 +37,8 @@ abbrev more : List ℕ
 more = 0x12 ∷ 0x89 ∷ 0x00 ∷ 0x08 ∷ 0x05 ∷ update
 
 few-more : AddsFields feed feedMessage few more
-unfolding feed fieldRows wire.field wire.value wire.payload wire.until wire.lengthDelimited wire.bytes wire.key wire.varint wire.digits
+unfolding feed fieldRows wire.field wire.value wire.payload wire.until wire.lengthDelimited wire.bytes
+    wire.key wire.varint wire.digits
 few-more =
     reached 2 2 [] (0x12 ∷ []) (0x07 ∷ []) (0x89 ∷ 0x00 ∷ []) update (0x08 ∷ 0x05 ∷ update) [] []
     fields-nil refl refl refl refl
@@ -55,8 +56,8 @@ unfolding run questions.freshOf questions.messageOf questions.treeOutcome questi
     change.afterMessage change.feedAt change.putFeed reports.report
     leaves.leaves leaves.entries leaves.countWithoutAt key.entriesIn key.incompleteKey key.keyOk
     trips.tripIn trips.updatesIn trips.updateIn
-    tree nest feed fieldRows wire.fields wire.many wire.field wire.value wire.payload wire.until wire.lengthDelimited wire.bytes
-    wire.key wire.varint wire.digits lexOf
+    tree nest feed fieldRows wire.fields wire.many wire.field wire.value wire.payload wire.until
+    wire.lengthDelimited wire.bytes wire.key wire.varint wire.digits lexOf
 few-numbers = refl
 
 alike : AlikeAll (calls few) (0 ∷ 4 ∷ 0 ∷ 0 ∷ []) (calls more)
