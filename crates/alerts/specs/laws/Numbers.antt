@@ -10,7 +10,8 @@ use lib.ListN.{length}
 use borrow.Author.Tests.{eqb-true, eq-eqb}
 use Rattle.basics.specs.Lists.{All, any, member, concatMap}
 use Rattle.alerts.specs.Alert.{Alert}
-use Rattle.alerts.specs.Index.{distinct, lookups, rebuild-alert-index, alert-candidates-for-leg, candidate, numbersWhere, search}
+use Rattle.alerts.specs.Index.{distinct, lookups, rebuild-alert-index, alert-candidates-for-leg}
+use Rattle.alerts.specs.Index.{candidate, numbersWhere, search}
 use Rattle.basics.specs.laws.Lists.{any-join}
 use Rattle.basics.specs.laws.Booleans.{false-true, or-false}
 use Rattle.alerts.specs.laws.Candidates.{member-distinct, search-is-index, any-candidates}

@@ -15,7 +15,8 @@ use Rattle.alerts.specs.laws.Numbers.{candidateAlerts, any-candidate}
 use Rattle.overlay.specs.Records.{Feeds}
 use Rattle.overlay.specs.Lookup.{feed-of}
 use Rattle.journey.specs.Card.{Transit}
-use Rattle.journey.specs.Enrich.{cancels, live, late, alertsIn, applies, alerts-of, disrupted, status-of, labels-of, headers-of}
+use Rattle.journey.specs.Enrich.{cancels, live, late, alertsIn, applies, alerts-of}
+use Rattle.journey.specs.Enrich.{disrupted, status-of, labels-of, headers-of}
 use Rattle.journey.specs.laws.Labels.{any-filter, any-map, setOf, set-same, nonempty-has}
 
 -- ---- the Rust's form
@@ -36,7 +37,8 @@ statusByIndex B ts =
     (cond (any (late B) ts) 3 (cond (any (disruptedByIndex B) ts) 2 (cond (any (live B) ts) 1 0)))
 
 abbrev pub labelsByIndex : Feeds → List Transit → List (List ℕ)
-labelsByIndex B ts = filter (λ x. not (isEmpty x)) (concatMap (λ t. map label (filter (passes t) (candidatesOf B t))) ts)
+labelsByIndex B ts =
+    filter (λ x. not (isEmpty x)) (concatMap (λ t. map label (filter (passes t) (candidatesOf B t))) ts)
 
 abbrev pub headersByIndex : Feeds → List Transit → List (List ℕ)
 headersByIndex B ts = setOf (labelsByIndex B ts)

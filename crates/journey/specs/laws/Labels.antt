@@ -8,23 +8,23 @@ use Prim.Native.Nat.{ℕ}
 use Rattle.slices.specs.Lists.{lexOf}
 use Rattle.slices.specs.declared.Order.{Order}
 use Rattle.slices.specs.declared.Order.the-variants.{Less, Same, More}
-use Rattle.maps.specs.Map.{isSame, byOrder, get, puts, ascending}
+use Rattle.maps.specs.Map.{isSame, byOrder, get, ascending}
 use Rattle.maps.specs.laws.Map.{lastAt, puts-ascending, get-puts, equal-maps}
 use Rattle.maps.specs.Order.{texts}
 use Rattle.maps.specs.laws.Order.{texts-order}
 use Rattle.basics.specs.Lists.{any, filter, isEmpty, concatMap}
 use Rattle.basics.specs.Texts.{same}
-use Rattle.alerts.specs.Alert.{Alert}
 use Rattle.alerts.specs.Label.{label}
 use Rattle.basics.specs.laws.Lists.{any-same, any-join}
 use Rattle.basics.specs.laws.Texts.{same-true}
-use Rattle.basics.specs.laws.Booleans.{or-false}
+use Rattle.basics.specs.laws.Booleans.{and-no}
 use Rattle.overlay.specs.Records.{Feeds}
 use Rattle.overlay.specs.Lookup.{feed-of}
 use Rattle.overlay.specs.laws.Shown.{same-lex}
 use Rattle.journey.specs.Card.{Transit, Card}
 use Rattle.journey.specs.laws.Headers.{Entry, entry, set}
-use Rattle.journey.specs.Enrich.{alertsIn, applies, alerts-of, transits, keys, labels-of, headers-of, enrich-with-realtime}
+use Rattle.journey.specs.Enrich.{alertsIn, applies, alerts-of, transits, keys}
+use Rattle.journey.specs.Enrich.{labels-of, headers-of, enrich-with-realtime}
 
 -- ---- tests over lists
 
@@ -115,10 +115,6 @@ nonempty-has x l =
     ∙ any-same _ _ (λ y. go y (same x y) refl) l
     ∙ any-and (not (isEmpty x)) (same x) l
   where
-    and-no : (t : Bool) → t && false ≡ false
-    and-no true = refl
-    and-no false = refl
-
     go : (y : List ℕ) (t : Bool) → same x y ≡ t → not (isEmpty y) && t ≡ not (isEmpty x) && t
     go y true e = ap (λ z. not (isEmpty z) && true) (sym (same-true x y e))
     go y false e = and-no (not (isEmpty y)) ∙ sym (and-no (not (isEmpty x)))
