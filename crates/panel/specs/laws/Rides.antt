@@ -33,6 +33,7 @@ unfolding table tripsFrom run questions.freshOf questions.messageOf questions.tr
     isSummer leapDay yearFrom monthFrom
 rides = (refl, (refl, (refl, (refl, (refl, (refl, (refl, (refl, (refl, (refl, tt))))))))))
 
-kv : valid.valid (keyed 2048) ≡ true
+-- the state of the last row is valid
+pub keys-valid : valid.valid (keyed 2048) ≡ true
 unfolding tripsFrom valid.valid valid.within valid.feedValid keys.keyOk keys.incompleteKey leaves.countWithoutAt lexOf
-kv = refl
+keys-valid = refl
