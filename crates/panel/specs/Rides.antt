@@ -1,5 +1,6 @@
--- Believe: 01, Ride checks. The ride checks of document 01 that are marked P: the table.
-use Prim.Native.Nat.{ℕ, zero, suc, _+_, _/_, _%_}
+-- Believe: 01, Ride checks. The ride checks of document 01 that are marked P: the table, and what they say besides.
+use Prim.Native.Nat.{ℕ, zero, suc, _+_, _/_, _%_, _≤_}
+use mathlib.Core.Path.{_≡_}
 use mathlib.Core.Bool.{Bool, true, false}
 use mathlib.Core.List.{List, [], _∷_, _++_, map}
 use mathlib.Core.Logic.{inl, inr}
@@ -14,14 +15,16 @@ use Rattle.alerts.specs.Text.{text}
 use Rattle.alerts.specs.Alert.{Alert}
 use Rattle.alerts.specs.Applies.{product-code-token}
 use Rattle.overlay.specs.State.{State, overlay, feedWith, stateWith}
+use Rattle.overlay.specs.Image.{filled}
+use Rattle.overlay.specs.Valid.{valid}
 use Rattle.overlay.specs.Records.{Feeds}
 use Rattle.overlay.specs.Lookup as lookup
 use Rattle.journey.specs.Card.{Transit, Card, transitValue}
 use Rattle.journey.specs.Times as times
 use Rattle.journey.specs.Enrich as enrich
 use Rattle.panel.specs.Questions.{Lengths}
-use Rattle.panel.specs.Calls.{Call, message, card, Gave, freshOverlay, run, numbersGiven}
-use Rattle.basics.specs.Rows.{row, Row}
+use Rattle.panel.specs.Calls.{Call, message, card, Gave, gives, freshOverlay, run, numbersGiven}
+use Rattle.basics.specs.Rows.{row, Row, Holds}
 
 -- ---- what the rows speak of
 
@@ -131,3 +134,14 @@ table =
     ∷ row (numbersGiven (run small (freshOverlay small) (groups 16 ∷ groups 17 ∷ []))) (0 ∷ 4 ∷ [])
     ∷ row (map keysFit (2048 ∷ 2049 ∷ [])) (true ∷ false ∷ [])
     ∷ []
+
+-- THE RIDE CHECKS
+pub record Rides : Type 0 where
+  pub rows : Holds table
+
+  -- the first row at every length that has room for an overlay and for the card
+  pub same : (L : Lengths) → 3 ≤ L .overlay → 15 ≤ L .card
+      → gives L (freshOverlay L) (card emptyCard (L .card) (L .cardWork)) .out ≡ filled (L .card) emptyCard
+
+  -- the last row speaks of a state that is valid
+  pub keys : valid (keyed 2048) ≡ true

@@ -8,7 +8,7 @@ use native.Mathlib.Omega.{arith}
 use lib.Dec.{leb}
 use lib.ListN.{length, take, drop, replicate}
 use lib.Seq.{take-append-seam, drop-append-seam}
-use borrow.Author.Tests.{le-leb, leb-true}
+use borrow.Author.Tests.{le-leb}
 use Rattle.formats.specs.Format.{Value, write, read}
 use Rattle.formats.specs.laws.Format.{read-write}
 use Rattle.formats_judge.specs.Judged.{ok}
@@ -17,13 +17,12 @@ use Rattle.overlay.specs.Image.{filled, stateOf}
 use Rattle.overlay.specs.laws.Within.{Judged56, both, fits-of}
 use Rattle.overlay.specs.laws.Buffer.{held-rules, state-buffer}
 use Rattle.overlay.specs.laws.StaysValid.{StateKept, kept-of}
-use Rattle.basics.specs.laws.Booleans.{both-true}
 use Rattle.journey.specs.Card.{card as cardForm}
 use Rattle.journey.specs.laws.Found.{shown-judged}
 use Rattle.journey.specs.laws.Finished.{finished-judged}
 use Rattle.journey.specs.laws.Counts.{finished-seven}
 use Rattle.panel.specs.Questions.{Lengths, endedOnly, whole, finished, arrivingOutcome, cardCallOf}
-use Rattle.panel.specs.Outcome.{accepted, need, numberOf, bytesOf}
+use Rattle.panel.specs.Outcome.{bytesOf}
 use Rattle.panel.specs.Calls.{card, gives}
 use Rattle.panel.specs.Answers.{ifAny, questions}
 use Rattle.basics.specs.Options.{isSome}

@@ -2,19 +2,17 @@
 -- and 0 where there is none.
 use Prim.Native.Nat.{ℕ}
 use mathlib.Core.Path.{_≡_, refl}
-use mathlib.Core.Bool.{Bool, true, false, cond, _&&_}
+use mathlib.Core.Bool.{Bool, true, false, _&&_}
 use mathlib.Core.List.{List, [], _∷_}
 use mathlib.Core.Option.{Option, none, some}
 use lib.Dec.{leb}
 use lib.ListN.{length}
-use Rattle.formats.specs.Format.{Value, write}
+use Rattle.formats.specs.Format.{write}
 use Rattle.formats_judge.specs.Judged.{ok}
-use Rattle.realtime.specs.Tree.{Tree, tree}
+use Rattle.realtime.specs.Tree.{tree}
 use Rattle.realtime.specs.Schema.{feedMessage, feed}
 use Rattle.realtime.specs.Judge.{rules, textsFine, numbersFine}
 use Rattle.decode.specs.Trip.{instant}
-use Rattle.maps.specs.Map.{ascending}
-use Rattle.maps.specs.Order.{texts}
 use Rattle.alerts.specs.Alert.{alertSheet as alertForm}
 use Rattle.overlay.specs.State.{State, overlay, noState, vehicleSheet as vehicleForm}
 use Rattle.overlay.specs.Image.{stateOf}

@@ -5,40 +5,19 @@ use mathlib.Core.Bool.{Bool, true, false, cond, _&&_, false≢true}
 use mathlib.Core.List.{List, [], _∷_}
 use mathlib.Core.Option.{Option, none, some}
 use Prim.Native.Nat.{ℕ}
-use native.Mathlib.Omega.{arith}
-use lib.IntN.{ℤ}
 use lib.Dec.{eqb, leb}
 use lib.ListN.{length, replicate}
-use borrow.Author.Tests.{eqb-true, eq-eqb}
-use Rattle.basics.specs.laws.Options.{none-some}
-use Rattle.formats.specs.Format.{Format, Fits, Value, read, write}
-use Rattle.formats.specs.laws.Format.{write-read}
-use Rattle.formats_judge.specs.Judged.{ok}
-use Rattle.formats_capacity.specs.laws.Fitting.{Formed}
-use Rattle.basics.specs.laws.Booleans.{both-true}
-use Rattle.overlay.specs.laws.Within.{Judged56, elements, formed-of, unjudged, right}
-use Rattle.decode.specs.Trip.{instant}
-use Rattle.maps.specs.Map.{puts, ascending}
-use Rattle.maps.specs.Order.{texts}
-use Rattle.decode.specs.Leaves.{leaves}
-use Rattle.realtime.specs.Tree.{Tree, tree}
-use Rattle.realtime.specs.Schema.{feedMessage, feed}
-use Rattle.realtime.specs.Judge.{rules, textsFine, numbersFine}
-use Rattle.alerts.specs.Alert.{Alert, alert, alertSheet as alertForm}
-use Rattle.overlay.specs.State.{State, Feed, Vehicles, overlay, noState, vehicleEntry, vehicleSheet as vehicleForm}
+use borrow.Author.Tests.{eqb-true}
+use Rattle.formats.specs.Format.{Value, write}
+use Rattle.overlay.specs.State.{State, overlay, noState}
 use Rattle.journey.specs.Card.{card as cardForm}
-use Rattle.overlay.specs.Image.{filled, image, room, stateOf}
-use Rattle.overlay.specs.Valid.{valid, within, Held}
-use Rattle.overlay.specs.Records.{recordsOf, shown}
-use Rattle.overlay.specs.Change.{feedAt, putFeed, afterMessage, afterAlerts, withoutStale, afterVehicles}
-use Rattle.overlay.specs.laws.Buffer.{image-state, state-buffer, no-state}
-use Rattle.overlay.specs.laws.StaysValid.{StateKept, kept-of, held-of, message-kept, alerts-kept, vehicles-kept}
-use Rattle.overlay.specs.laws.Shown.{shown-put, shown-at}
-use Rattle.overlay.specs.laws.Entered.{entries-kept, timestamp-kept}
+use Rattle.overlay.specs.Image.{filled, room, stateOf}
+use Rattle.overlay.specs.Records.{shown}
+use Rattle.overlay.specs.laws.Buffer.{no-state}
 use Rattle.panel.specs.Outcome.{Outcome, refused, accepted, need, needSome, numberOf, bytesOf}
-use Rattle.panel.specs.Questions.{Lengths, lengthsOk, opened, countsFit, changedState, freshFits, feedOk, endedOnly, whole, treeOutcome, freshOf, messageOf, alertsOutcome, alertSheetOf, keysAscend, vehiclesOutcome, vehicleSheetOf, finished, arrivingOutcome, cardCallOf, reportOf}
+use Rattle.panel.specs.Questions.{Lengths, lengthsOk, opened, whole, freshOf, messageOf, alertSheetOf, vehicleSheetOf, finished, arrivingOutcome, cardCallOf, reportOf}
 use Rattle.panel.specs.Calls.{Call, fresh, message, alertSheet, vehicleSheet, card, report, ends, outOf, gives, writes, overlayAfter, freshOverlay, run}
-use Rattle.panel.specs.Book.{Book, noBook, recordsIn, enter, ifRead, messageEnters, alertsEnter, vehiclesEnter, fed, cardBy, says, shows, said, seen, saidAll, seenAll, History}
+use Rattle.panel.specs.Book.{Book, noBook, ifRead, fed, cardBy, says, shows, said, seen, saidAll, seenAll, History}
 use Rattle.panel.specs.laws.Accepts.{passed}
 use Rattle.panel.specs.laws.Left.{Holds, Leaves, past-four, fresh-leaves, fresh-accepted, message-leaves, sheet-leaves, position-leaves, written}
 

@@ -1,23 +1,21 @@
 -- Law. What an accepted writing call leaves: an overlay again, whose state shows what the book then holds.
-use mathlib.Core.Path.{_≡_, refl, sym, ap, ap₂, _∙_}
-use mathlib.Core.Bool.{Bool, true, false, cond, _&&_, false≢true}
-use mathlib.Core.List.{List, [], _∷_}
-use mathlib.Core.Option.{Option, none, some}
+use mathlib.Core.Path.{_≡_, refl, sym, ap, _∙_}
+use mathlib.Core.Bool.{Bool, true, _&&_, false≢true}
+use mathlib.Core.List.{List}
+use mathlib.Core.Option.{Option, some}
 use Prim.Native.Nat.{ℕ}
 use native.Mathlib.Omega.{arith}
 use lib.IntN.{ℤ}
-use lib.Dec.{eqb, leb}
-use lib.ListN.{length, replicate}
-use borrow.Author.Tests.{eqb-true, eq-eqb}
-use Rattle.basics.specs.laws.Options.{none-some}
-use Rattle.formats.specs.Format.{Format, Fits, Value, read, write}
-use Rattle.formats.specs.laws.Format.{write-read}
+use lib.Dec.{leb}
+use lib.ListN.{length}
+use borrow.Author.Tests.{eq-eqb}
+use Rattle.formats.specs.Format.{Format, Value, write}
 use Rattle.formats_judge.specs.Judged.{ok}
 use Rattle.formats_capacity.specs.laws.Fitting.{Formed}
 use Rattle.basics.specs.laws.Booleans.{both-true}
 use Rattle.overlay.specs.laws.Within.{Judged56, elements, formed-of, unjudged, right}
 use Rattle.decode.specs.Trip.{instant}
-use Rattle.maps.specs.Map.{puts, ascending}
+use Rattle.maps.specs.Map.{puts}
 use Rattle.maps.specs.Order.{texts}
 use Rattle.decode.specs.Leaves.{leaves}
 use Rattle.realtime.specs.Tree.{Tree, tree}
@@ -25,21 +23,21 @@ use Rattle.realtime.specs.Schema.{feedMessage, feed}
 use Rattle.realtime.specs.Judge.{rules, textsFine, numbersFine}
 use Rattle.alerts.specs.Alert.{Alert, alert, alertSheet as alertForm}
 use Rattle.overlay.specs.State.{State, Feed, Vehicles, overlay, noState, vehicleEntry, vehicleSheet as vehicleForm}
-use Rattle.journey.specs.Card.{card as cardForm}
-use Rattle.overlay.specs.Image.{filled, image, room, stateOf}
+use Rattle.overlay.specs.Image.{image, room, stateOf}
 use Rattle.overlay.specs.Valid.{valid, within, Held}
 use Rattle.overlay.specs.Records.{recordsOf, shown}
 use Rattle.overlay.specs.Change.{feedAt, putFeed, afterMessage, afterAlerts, withoutStale, afterVehicles}
-use Rattle.overlay.specs.laws.Buffer.{image-state, state-buffer, no-state}
+use Rattle.overlay.specs.laws.Buffer.{image-state, state-buffer}
 use Rattle.overlay.specs.laws.StaysValid.{StateKept, kept-of, held-of, message-kept, alerts-kept, vehicles-kept}
 use Rattle.overlay.specs.laws.Shown.{shown-put, shown-at}
 use Rattle.overlay.specs.laws.Entered.{entries-kept, timestamp-kept}
-use Rattle.panel.specs.Outcome.{Outcome, refused, accepted, need, needSome, numberOf, bytesOf}
-use Rattle.panel.specs.Questions.{Lengths, lengthsOk, opened, countsFit, changedState, freshFits, feedOk, endedOnly, whole, treeOutcome, freshOf, messageOf, alertsOutcome, alertSheetOf, keysAscend, vehiclesOutcome, vehicleSheetOf, finished, arrivingOutcome, cardCallOf, reportOf}
-use Rattle.panel.specs.Calls.{Call, fresh, message, alertSheet, vehicleSheet, card, report, ends, outOf, gives, writes, overlayAfter, freshOverlay, run}
+use Rattle.panel.specs.Outcome.{Outcome, accepted, need, needSome, numberOf, bytesOf}
+use Rattle.panel.specs.Questions.{Lengths, lengthsOk, opened, countsFit, changedState, freshFits, feedOk, whole, treeOutcome, freshOf, messageOf, alertsOutcome, alertSheetOf, keysAscend, vehiclesOutcome, vehicleSheetOf}
+use Rattle.panel.specs.Calls.{Call, fresh, message, alertSheet, vehicleSheet, card, report, gives, writes}
 use Rattle.basics.specs.Options.{isSome}
-use Rattle.panel.specs.Book.{Book, noBook, recordsIn, enter, ifRead, messageEnters, alertsEnter, vehiclesEnter, fed, cardBy, says, shows, said, seen, saidAll, seenAll, History}
+use Rattle.panel.specs.Book.{Book, noBook, recordsIn, enter, ifRead, messageEnters, alertsEnter, vehiclesEnter}
 use Rattle.panel.specs.laws.Accepts.{acceptedYes, acceptedSome}
+use Rattle.panel.specs.laws.RoundTrips.{whole-round-trips, ascend-some}
 
 -- the overlay holds what the book holds
 pub record Holds (old : List ℕ) (bk : Book) : Type 0 where
@@ -55,14 +53,8 @@ pub record Leaves (o : Outcome) (bk : Book) : Type 0 where
   pub same : shown state ≡ bk
 
 -- what is read whole is formed
-ended-some : {A : Type 0} (o : Option (A × List ℕ)) (v : A) → endedOnly o ≡ some v → o ≡ some (v, [])
-ended-some none v e = none-some e
-ended-some (some (u, [])) v e = let z : u ≡ v = cc in ap (λ x. some (x, [])) z
-ended-some (some (u, b ∷ s)) v e = none-some e
-
 pub whole-formed : (f : Format) (s : List ℕ) (v : Value f) → whole f s ≡ some v → Formed f v
-unfolding whole
-whole-formed f s v e = formed-of f v (write-read f s v [] (ended-some (read f s) v e) .1)
+whole-formed f s v e = formed-of f v (whole-round-trips f .read-was-written s v e .1)
 
 -- the state of an overlay that holds a book is kept
 pub holds-kept : {old : List ℕ} {bk : Book} → (h : Holds old bk) → StateKept (h .state)
@@ -191,22 +183,13 @@ sheet-leaves L old bk f sheet new work h e =
     (leaves-book (ap (alertsEnter f (r .value .1)) (h .same) ∙ read-is bk (λ v. alertsEnter f (v .1) bk) (r .is))
     (alerts-leave L f sheet (h .state) (r .value) (holds-kept h) (r .is) (r .next)))
 
--- a vehicle sheet whose keys ascend
-ascend-some : (o : Option (Value vehicleForm)) (v : Value vehicleForm) → keysAscend o ≡ some v → o ≡ some v
-ascend-some none v e = none-some e
-ascend-some (some u) v e = go (ascending texts (u .1)) e
-  where
-    go : (b : Bool) → cond b (some u) none ≡ some v → some u ≡ some v
-    go true h = h
-    go false h = none-some h
-
 pub position-leaves : (L : Lengths) (old : List ℕ) (bk : Book) (f sheet : List ℕ) (clock : ℤ) (new : ℕ) (work : List ℕ) → Holds old bk
     → numberOf (vehicleSheetOf L old f sheet clock new work) ≡ 0
     → Leaves (vehicleSheetOf L old f sheet clock new work) (ifRead (whole vehicleForm sheet) bk (λ v. vehiclesEnter f (v .1) clock bk))
 unfolding vehicleSheetOf
 position-leaves L old bk f sheet clock new work h e =
     let r = past-four L old new (L .overlay) work (L .vehicleWork) (leb (length sheet) 1048576) (keysAscend (whole vehicleForm sheet)) (vehiclesOutcome L f clock) (h .state) (h .is) e in
-    let is = ascend-some (whole vehicleForm sheet) (r .value) (r .is) in
+    let is = ascend-some (whole vehicleForm sheet) (r .value) (r .is) .0 in
     leaves-same (r .same)
     (leaves-book (ap (vehiclesEnter f (r .value .1) clock) (h .same) ∙ read-is bk (λ v. vehiclesEnter f (v .1) clock bk) is)
     (vehicles-leave L f sheet clock (h .state) (r .value) (holds-kept h) is (r .next)))
