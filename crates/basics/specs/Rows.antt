@@ -14,8 +14,3 @@ row {A} got due = record { of = A; got = got; due = due }
 abbrev pub Holds : List Row → Type 0
 Holds [] = Unit {0}
 Holds (r ∷ l) = (r .got ≡ r .due) × Holds l
-
--- one row after the other
-infixr 4 _also_
-abbrev pub _also_ : {A B : Type 0} → A → B → A × B
-a also b = (a, b)

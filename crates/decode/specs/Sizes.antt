@@ -1,5 +1,5 @@
--- Believe: 01, Limits. How large a feed's trips may be, and how long the lent slices are in which a message's trips are
--- worked out.
+-- Believe: 01, Questions before work. How large a feed's trips may be, and how long the lent slices are in which a
+-- message's trips are worked out.
 use Prim.Native.Nat.{ℕ}
 
 -- the trips of a feed, and the updates of a trip
@@ -40,10 +40,6 @@ marksLength = 6147
 
 abbrev pub orderLength : ℕ
 orderLength = 2049
-
--- the lines of `updates` are one more than a trip may have, of three words each
-abbrev pub mostLines : ℕ
-mostLines = 129
 
 abbrev pub updatesLength : ℕ
 updatesLength = 387

@@ -12,7 +12,8 @@ use Rattle.basics.specs.Lists.{All}
 use Rattle.slices.specs.Lists.{lexOf}
 use Rattle.slices.specs.declared.Order.{Order}
 use Rattle.slices.specs.declared.Order.the-variants.{Less, Same, More}
-use Rattle.maps.specs.Map.{Ordered, isSame, byOrder, put, ascending}
+use Rattle.maps.specs.Map.{Ordered, byOrder, put, ascending}
+use Rattle.maps.specs.promises.Order.{isSame}
 use Rattle.maps.specs.Order.{texts}
 use Rattle.maps.specs.laws.Order.{texts-order, lex-itself, lex-same}
 use Rattle.maps.specs.laws.Map.{put-ascending}

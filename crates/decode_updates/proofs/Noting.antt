@@ -12,8 +12,8 @@ use borrow.Author.Tests.{lt-ltb, le-ltb, ltb-true, eqb-true, eqb-false}
 use Rattle.slices.specs.Lists.{lexOf}
 use Rattle.slices.specs.declared.Order.{Order}
 use Rattle.slices.specs.declared.Order.the-variants.{Less, Same, More}
-use Rattle.maps.specs.Map.{isSame, put, ascending}
-use Rattle.maps.specs.promises.Order.{isMore}
+use Rattle.maps.specs.Map.{put, ascending}
+use Rattle.maps.specs.promises.Order.{isSame, isMore}
 use Rattle.maps.specs.Order.{numbers}
 use Rattle.maps.specs.laws.Order.{numbers-order, heads, lex-itself, lex-same, cons-behind}
 use Rattle.maps.specs.laws.Map.{put-ascending}

@@ -13,6 +13,7 @@ use Rattle.formats_judge.specs.Judged.{ok}
 use Rattle.realtime.specs.Tree.{Tree, tree}
 use Rattle.realtime.specs.Schema.{feedMessage, feed}
 use Rattle.realtime.specs.Judge.{rules, textsFine, numbersFine}
+use Rattle.decode.specs.Sizes.{mostFeed}
 use Rattle.decode.specs.Trip.{instant}
 use Rattle.maps.specs.Map.{ascending}
 use Rattle.maps.specs.Order.{texts}
@@ -58,7 +59,7 @@ unfoldable pub whole : (f : Format) → List ℕ → Option (Value f)
 whole f s = endedOnly (read f s)
 
 abbrev pub feedOk : List ℕ → Bool
-feedOk f = ok 5 (text 16 token) f
+feedOk f = ok 5 (text mostFeed token) f
 
 -- question 1: the old overlay's, the output's and the working buffers' lengths
 abbrev pub lengthsOk : Lengths → List ℕ → ℕ → ℕ → List ℕ → List ℕ → Bool

@@ -138,10 +138,8 @@ table =
 -- THE RIDE CHECKS
 pub record Rides : Type 0 where
   pub rows : Holds table
-
   -- the first row at every length that has room for an overlay and for the card
   pub same : (L : Lengths) → 3 ≤ L .overlay → 15 ≤ L .card
       → gives L (freshOverlay L) (card emptyCard (L .card) (L .cardWork)) .out ≡ filled (L .card) emptyCard
-
   -- the last row speaks of a state that is valid
   pub keys : valid (keyed 2048) ≡ true

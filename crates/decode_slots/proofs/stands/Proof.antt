@@ -5,7 +5,7 @@ use Prim.Native.Nat.{_<_}
 use native.Mathlib.Omega.{arith}
 use borrow.Author.Tests.{lt-ltb, le-ltb}
 use Rattle.slices.specs.Lists.{lexOf}
-use Rattle.maps.specs.Map.{isSame}
+use Rattle.maps.specs.promises.Order.{isSame}
 use Rattle.decode_slots.specs.Index.{slotKey}
 use Rattle.decode_slots.specs.promises.Index.{keyIn}
 use Rattle.decode_slots.proofs.Ranks.{slot-below}

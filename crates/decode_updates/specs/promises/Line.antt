@@ -5,11 +5,15 @@ use mathlib.Core.Path.{_≡_}
 use mathlib.Core.Bool.{true}
 use mathlib.Core.List.{List}
 use lib.ListN.{length}
-use Rattle.decode.specs.Sizes.{mostLines, updatesLength}
+use Rattle.decode.specs.Sizes.{updatesLength}
 use Rattle.maps.specs.Map.{put, ascending}
 use Rattle.maps.specs.Order.{numbers}
 use Rattle.decode_slots.specs.promises.Index.{inserted}
 use Rattle.decode_updates.specs.Line.{laid}
+
+-- the lines of `updates` are one more than a trip may have, of three words each
+abbrev pub mostLines : ℕ
+mostLines = 129
 
 -- three numbers go in after the first 3 r
 abbrev pub three : List ℕ → ℕ → ℕ → ℕ → ℕ → ℕ → List ℕ

@@ -6,7 +6,8 @@ use mathlib.Core.Bool.{Bool, true, false, _&&_, _||_}
 use mathlib.Core.List.{List, [], _∷_}
 use mathlib.Core.Option.{some}
 use lib.ListN.{length, take, drop}
-use Rattle.decode.specs.Sizes.{mostUpdates, orderLength, mostLines}
+use Rattle.decode.specs.Sizes.{mostUpdates, orderLength}
+use Rattle.decode_updates.specs.promises.Line.{mostLines, Lined}
 use Rattle.basics.specs.Lists.{All}
 use Rattle.realtime.specs.Tree.{Tree, tree, sub, rep}
 use Rattle.realtime.specs.Schema.{feedEntity, stopTimeUpdate}
@@ -14,7 +15,6 @@ use Rattle.realtime.specs.Schema as schema
 use Rattle.decode.specs.Record.{updatesIn, tripIn}
 use Rattle.decode_slots.specs.Index.{slotPlace}
 use Rattle.decode_updates.specs.Line.{laid}
-use Rattle.decode_updates.specs.promises.Line.{Lined}
 use Rattle.decode_slots.specs.Places.{recordAt, isNew, crowded}
 use Rattle.decode_slots.specs.promises.Places.{Readable}
 use Rattle.decode_updates.specs.Updates.{updatesAt}

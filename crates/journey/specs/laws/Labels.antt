@@ -8,7 +8,8 @@ use Prim.Native.Nat.{ℕ}
 use Rattle.slices.specs.Lists.{lexOf}
 use Rattle.slices.specs.declared.Order.{Order}
 use Rattle.slices.specs.declared.Order.the-variants.{Less, Same, More}
-use Rattle.maps.specs.Map.{isSame, byOrder, get, ascending}
+use Rattle.maps.specs.Map.{byOrder, get, ascending}
+use Rattle.maps.specs.promises.Order.{isSame}
 use Rattle.maps.specs.laws.Map.{lastAt, puts-ascending, get-puts, equal-maps}
 use Rattle.maps.specs.Order.{texts}
 use Rattle.maps.specs.laws.Order.{texts-order}
@@ -23,8 +24,7 @@ use Rattle.overlay.specs.Lookup.{feed-of}
 use Rattle.overlay.specs.laws.Shown.{same-lex}
 use Rattle.journey.specs.Card.{Transit, Card}
 use Rattle.journey.specs.laws.Headers.{Entry, entry, set}
-use Rattle.journey.specs.Enrich.{alertsIn, applies, alerts-of, transits, keys}
-use Rattle.journey.specs.Enrich.{labels-of, headers-of, enrich-with-realtime}
+use Rattle.journey.specs.Enrich.{alertsIn, applies, alerts-of, transits, keys, labels-of, headers-of, enrich-with-realtime}
 
 -- ---- tests over lists
 

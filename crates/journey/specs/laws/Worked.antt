@@ -8,7 +8,8 @@ use mathlib.Core.List.{List, [], _∷_}
 use mathlib.Core.Logic.{inl, inr}
 use mathlib.Core.Option.{none, some}
 use lib.IntN.{ℤ, pos, negsuc}
-use Rattle.basics.specs.Rows.{Row, row, Holds, _also_}
+use Rattle.basics.specs.Rows.{Row, row, Holds}
+use Rattle.basics.specs.laws.Rows.{_also_}
 use Rattle.formats.specs.Format.{Value}
 use Rattle.slices.specs.Lists.{lexOf}
 use Rattle.calendar.specs.Civil.{leapDay, yearFrom, monthFrom}

@@ -6,7 +6,8 @@ use mathlib.Core.List.{List, [], _∷_, map}
 use mathlib.Core.Logic.{inl, inr}
 use mathlib.Core.Option.{some, Option·map}
 use lib.IntN.{ℤ, pos, negsuc}
-use Rattle.basics.specs.Rows.{Row, row, Holds, _also_}
+use Rattle.basics.specs.Rows.{Row, row, Holds}
+use Rattle.basics.specs.laws.Rows.{_also_}
 use Rattle.formats.specs.Format.{Value, read, write}
 use Rattle.slices.specs.Lists.{lexOf}
 use Rattle.calendar.specs.Civil.{leapDay, yearFrom, monthFrom}

@@ -7,3 +7,8 @@ abbrev pub isMore : Order → Bool
 isMore Less = false
 isMore Same = false
 isMore More = true
+
+abbrev pub isSame : Order → Bool
+isSame Less = false
+isSame Same = true
+isSame More = false

@@ -6,7 +6,8 @@ use mathlib.Core.Path.{refl}
 use mathlib.Core.List.{List, [], _∷_, _++_}
 use mathlib.Core.Logic.{inl, inr}
 use lib.IntN.{pos, negsuc}
-use Rattle.basics.specs.Rows.{Row, row, Holds, _also_}
+use Rattle.basics.specs.Rows.{Row, row, Holds}
+use Rattle.basics.specs.laws.Rows.{_also_}
 use Rattle.slices.specs.Lists.{lexOf}
 use Rattle.realtime.specs.Tree.{Tree, end, num, txt, msg}
 use Rattle.decode.specs.Trip.{Trip, StopUpdate}

@@ -8,7 +8,8 @@ use mathlib.Core.Logic.{inl, inr}
 use mathlib.Core.Option.{Option, none, some, Option·map}
 use lib.IntN.{ℤ, pos}
 use lib.Dec.{eqb}
-use Rattle.basics.specs.Rows.{Row, row, Holds, _also_}
+use Rattle.basics.specs.Rows.{Row, row, Holds}
+use Rattle.basics.specs.laws.Rows.{_also_}
 use Rattle.slices.specs.Lists.{lexOf}
 use Rattle.realtime.specs.Tree.{Tree, end, num, txt, msg}
 use Rattle.decode.specs.Trip.{Trip, StopUpdate}
