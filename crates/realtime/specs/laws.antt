@@ -4,3 +4,4 @@ pub mod Transitive
 pub mod Places
 pub mod Steps
 pub mod Examples
+pub mod Asked
