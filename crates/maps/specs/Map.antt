@@ -19,11 +19,6 @@ isSame Less = false
 isSame Same = true
 isSame More = false
 
-abbrev pub isMore : Order → Bool
-isMore Less = false
-isMore Same = false
-isMore More = true
-
 -- by an order: one of three
 abbrev pub byOrder : {A : Type 0} → Order → A → A → A → A
 byOrder Less a b c = a

@@ -20,7 +20,7 @@ use Rattle.overlay.specs.Records.{recordsOf, shown}
 use Rattle.overlay.specs.Change.{feedAt, putFeed}
 
 -- two texts are the same where their order says so
-same-lex : (a b : List ℕ) → same a b ≡ isSame (lexOf a b)
+pub same-lex : (a b : List ℕ) → same a b ≡ isSame (lexOf a b)
 unfolding lexOf
 same-lex [] [] = refl
 same-lex [] (y ∷ b) = refl

@@ -1,0 +1,9 @@
+-- Promise. An order's answer, as the code asks it.
+use mathlib.Core.Bool.{Bool, true, false}
+use Rattle.slices.specs.declared.Order.{Order}
+use Rattle.slices.specs.declared.Order.the-variants.{Less, Same, More}
+
+abbrev pub isMore : Order → Bool
+isMore Less = false
+isMore Same = false
+isMore More = true
