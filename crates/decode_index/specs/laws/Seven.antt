@@ -11,7 +11,8 @@ use Rattle.basics.specs.Lists.{all}
 use Rattle.basics.specs.laws.Booleans.{and-yes, false-true}
 use Rattle.formats.specs.Format.{Format, list, optional, _&_, Value}
 use Rattle.formats_judge.specs.Judged.{ok}
-use Rattle.decode.specs.Trip.{delay, instant, number32, stopUpdate, tripEntry, arrivalDelayOf, arrivalTimeOf, departureDelayOf, departureTimeOf, delayOf, directionOf, updatesOf}
+use Rattle.decode.specs.Trip.{delay, instant, number32, stopUpdate, tripEntry, delayOf, directionOf, updatesOf}
+use Rattle.decode.specs.Trip.{arrivalDelayOf, arrivalTimeOf, departureDelayOf, departureTimeOf}
 use Rattle.decode.specs.Leaves.{Trips}
 use Rattle.decode_slots.specs.Places.{crowded, anyCrowded}
 use Rattle.decode_index.specs.Leaving.{Leaving, manyTrips, manyUpdates, trips, leaving}
@@ -90,4 +91,5 @@ leaving-seven t =
 -- and then it answers these trips, and no others
 pub leaving-yes : (t : Trips) → (ok 7 (list 2048 tripEntry) t ≡ true) ↔ (leaving t ≡ trips t)
 leaving-yes t =
-    (λ e. answered (ltb 2048 (length t)) (anyCrowded t) t (sym (leaving-seven t) ∙ e), λ e. leaving-seven t ∙ ap isTrips e)
+    let said = answered (ltb 2048 (length t)) (anyCrowded t) t in
+    (λ e. said (sym (leaving-seven t) ∙ e), λ e. leaving-seven t ∙ ap isTrips e)
