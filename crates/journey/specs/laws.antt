@@ -6,3 +6,4 @@ pub mod Worked
 pub mod WorkedCard
 pub mod Labels
 pub mod ByIndex
+pub mod WorkedLimits
