@@ -1,5 +1,4 @@
 use Prim.Native.Nat.{_≤_}
-use Rattle.decode.specs.laws.Leaves.{left}
 use Rattle.formats.specs.Class.{printable}
 use Rattle.formats.specs.Format.{text}
 use Rattle.formats_check.specs.laws.Checked.{check-in}
