@@ -1,0 +1,39 @@
+use borrow.Author.Needs.{needs}
+use Prim.Native.Nat.{_-_, _≤_}
+use lib.ListN.{length}
+use native.Mathlib.Omega.{arith}
+use Rattle.overlay_open.specs.laws.Trips.{Seeking, seeking-start, seeking-end, seeking-so, seeking-on}
+use Rattle.overlay_open.proofs.has_at.Statement.{statement}
+use Rattle.overlay_open.proofs.has_at.Tie as tie
+
+abbrev Inv-loop : tie.InvT-loop
+Inv-loop v i₀ i = (i ≤ length v) × Seeking v i
+
+abbrev μ-loop : tie.MeasureT-loop
+μ-loop v i₀ i = length v - i
+
+loop-holds : tie.Need-loop-holds Inv-loop μ-loop
+loop-holds c = (search needs, search seeking-start)
+
+shared-slice-read-b : tie.Need-shared-slice-read-b Inv-loop μ-loop
+shared-slice-read-b c = search needs
+
+returns : tie.Need-returns Inv-loop μ-loop
+returns c = search seeking-so
+
+add-i : tie.Need-add-i Inv-loop μ-loop
+add-i c = search needs
+
+loop-less : tie.Need-loop-less Inv-loop μ-loop
+loop-less c = omega arith
+
+loop-again : tie.Need-loop-again Inv-loop μ-loop
+loop-again c = (omega arith, search seeking-on)
+
+returns-2 : tie.Need-returns-2 Inv-loop μ-loop
+returns-2 c = search seeking-end
+
+pub has-at-spec : {M : Type 1} → statement M
+has-at-spec =
+    tie.close
+    (tie.spec Inv-loop μ-loop loop-holds shared-slice-read-b returns add-i loop-less loop-again returns-2)

@@ -1,0 +1,5 @@
+pub mod Within
+pub mod Trips
+pub mod Feeds
+pub mod Valid
+pub mod Opened

@@ -1,0 +1,84 @@
+-- Law. What `open` answers is where the state of the buffer ends; and there it stands, with zeros behind it.
+use mathlib.Core.Path.{_≡_, refl, sym, ap, _∙_}
+use mathlib.Core.Bool.{Bool, true, false, cond, _&&_}
+use mathlib.Core.List.{List, [], _∷_, _++_}
+use mathlib.Core.Option.{Option, none, some}
+use Prim.Native.Nat.{ℕ, _+_, _-_, _≤_}
+use native.Mathlib.Omega.{arith}
+use lib.Dec.{eqb}
+use lib.ListN.{length, drop, length-append, length-drop}
+use borrow.Author.Tests.{eqb-true, eqb-false, eq-eqb, ne-eqb}
+use Rattle.basics.specs.Lists.{all}
+use Rattle.slices.specs.Lists.{zeros}
+use Rattle.formats.specs.Format.{read, write}
+use Rattle.formats.specs.laws.Format.{law}
+use Rattle.formats.specs.declared.Skip.{Skip}
+use Rattle.formats.specs.declared.Skip.the-variants as skip
+use Rattle.overlay.specs.State.{State, overlay}
+use Rattle.overlay.specs.Valid.{valid}
+use Rattle.overlay.specs.Image.{heldState, stateOf}
+use Rattle.formats_check.specs.promises.Checked.{holds, Tested}
+use Rattle.formats_check.specs.laws.Checked.{Missed, absent, refused, good, missed}
+use Rattle.overlay_open.specs.declared.Ending.{Ending}
+use Rattle.overlay_open.specs.declared.Ending.the-variants.{At, No}
+use Rattle.overlay_open.specs.promises.Good.{stateGood}
+use Rattle.overlay_open.specs.promises.Opened.{ending}
+use Rattle.overlay_open.specs.laws.Valid.{state-valid}
+
+zero-either : (x : ℕ) → eqb x 0 ≡ eqb 0 x
+zero-either x = go (eqb x 0) refl
+  where
+    go : (b : Bool) → eqb x 0 ≡ b → eqb x 0 ≡ eqb 0 x
+    go true e = let h : x ≡ 0 = eqb-true x 0 e in e ∙ sym (eq-eqb 0 x (omega arith))
+    go false e = e ∙ sym (ne-eqb 0 x (λ h. eqb-false x 0 e (omega arith)))
+
+zeros-all : (s : List ℕ) → zeros s ≡ all (eqb 0) s
+unfolding zeros
+zeros-all [] = refl
+zeros-all (x ∷ s) = rw (zero-either x, zeros-all s) refl
+
+held-no : (z v : Bool) (s : State) → v ≡ false → No ≡ ending (cond (z && v) (some s) none)
+held-no true v s h = rw h refl
+held-no false v s h = refl
+
+module _ {s : List ℕ} {r : Skip} (T : Tested overlay stateGood s 0 r) where
+  pub open-no : r ≡ skip.Broken → No ≡ ending (stateOf s)
+  unfolding stateOf
+  open-no h = go (missed (T .is) h)
+    where
+      go : Missed (holds stateGood) (read overlay s) → No ≡ ending (heldState (read overlay s))
+      go (absent i) = rw i refl
+      go (refused x i t) = rw i (held-no (all (eqb 0) (x .1)) (valid (x .0)) (x .0) (sym (state-valid (x .0)) ∙ t))
+
+  module _ {e : ℕ} (h : r ≡ skip.At e) where
+    state : State
+    state = good (T .is) h .value
+
+    reads : read overlay s ≡ some (state, drop e s)
+    reads = good (T .is) h .reads
+
+    is-valid : valid state ≡ true
+    is-valid = sym (state-valid state) ∙ good (T .is) h .fits
+
+    ends : e ≡ length (write overlay state)
+    ends =
+        let b = law overlay .back s state (drop e s) reads .0 in
+        let n : length s ≡ length (write overlay state) + (length s - e)
+              = ap length b ∙ length-append (write overlay state) (drop e s)
+              ∙ ap (λ k. length (write overlay state) + k) (length-drop e s) in
+        omega (arith, n, good (T .is) h .within)
+
+    module _ {t : Bool} (z : t ≡ zeros (drop e s)) where
+      held : stateOf s ≡ cond t (some state) none
+      unfolding stateOf
+      held = rw (reads, is-valid, ← zeros-all (drop e s), ← z) (go t)
+        where
+          go : (t : Bool) → cond {A = Option State} (t && true) (some state) none ≡ cond {A = Option State} t (some state) none
+          go true = refl
+          go false = refl
+
+      pub open-so : t ≡ true → At e ≡ ending (stateOf s)
+      open-so f = ap At ends ∙ sym (ap ending (held ∙ ap (λ b. cond {A = Option State} b (some state) none) f))
+
+      pub open-more : t ≡ false → No ≡ ending (stateOf s)
+      open-more f = sym (ap ending (held ∙ ap (λ b. cond {A = Option State} b (some state) none) f))
