@@ -1,12 +1,12 @@
 // Question 2: whether a buffer is an overlay, in one walk by checked reading, and where its state ends.
 use formats::Numeral;
 use formats::Skip;
-use formats_check::Span;
 use formats_check::Entry;
+use formats_check::Span;
+use formats_check::follows;
 use formats_check::number_at;
 use formats_check::number_long;
 use formats_check::printable_at;
-use formats_check::follows;
 ghost use mathlib.Core.Path.{_≡_};
 ghost use mathlib.Core.Bool.{cond, _||_};
 ghost use Prim.Native.Nat.{_-_, _≤_};
@@ -80,9 +80,7 @@ fn counted(marked: bool, s: &[u8], a: usize, e: usize) -> u64
 // n trips one after another, ascending by key; `count` is the number of those without '@', or n.
 fn trips_from(n: u64, count: u64, marked: bool, feed: &[u8], s: &[u8], at: usize) -> Skip
     requires { ⌜ (at ≤ length (now s)) × (n ≤ 2048) × (marked ≡ hasByte 64 (now feed)) ⌝ }
-    ensures {
-        λ r. ⌜ Climbs 137 printable (entryGood (now (feed .entry))) (plain (now (feed .entry))) (isCount count n) n (now (s .entry)) at r ⌝
-    }
+    ensures { λ r. ⌜ Climbs 137 printable (entryGood (now (feed .entry))) (plain (now (feed .entry))) (isCount count n) n (now (s .entry)) at r ⌝ }
 {
     let mut p = at;
     let mut left = n;
@@ -277,9 +275,7 @@ fn optional_timestamp(s: &[u8], at: usize) -> Skip
 
 // A feed from its trips on, from its count on, and whole: `id` is the feed's.
 fn from_trips(id: &[u8], count: u64, s: &[u8], at: usize) -> Skip
-    ensures {
-        λ r. ⌜ Tested (list 2048 tripEntry & list 1024 vehicleEntry & list 256 alert) (listsGood (now (id .entry)) count) (now (s .entry)) at r ⌝
-    }
+    ensures { λ r. ⌜ Tested (list 2048 tripEntry & list 1024 vehicleEntry & list 256 alert) (listsGood (now (id .entry)) count) (now (s .entry)) at r ⌝ }
 {
     let Skip::At(p) = trips(id, count, s, at) else {
         return Skip::Broken;
@@ -291,9 +287,7 @@ fn from_trips(id: &[u8], count: u64, s: &[u8], at: usize) -> Skip
 }
 
 fn from_count(id: &[u8], s: &[u8], at: usize) -> Skip
-    ensures {
-        λ r. ⌜ Tested (number 0 2048 & list 2048 tripEntry & list 1024 vehicleEntry & list 256 alert) (countGood (now (id .entry))) (now (s .entry)) at r ⌝
-    }
+    ensures { λ r. ⌜ Tested (number 0 2048 & list 2048 tripEntry & list 1024 vehicleEntry & list 256 alert) (countGood (now (id .entry))) (now (s .entry)) at r ⌝ }
 {
     let Numeral::Got(c, p) = number_at(s, at) else {
         return Skip::Broken;
@@ -333,19 +327,19 @@ fn feeds_from(n: u64, s: &[u8], at: usize) -> Skip
     let mut p = at;
     let mut left = n;
     let mut first = true;
-    let mut b: usize = 0;
-    let mut d: usize = 0;
+    let mut x: usize = 0;
+    let mut y: usize = 0;
     while 0 < left {
         let Entry::At(a, e, q) = feed_entry(s, p) else {
             return Skip::Broken;
         };
-        if !follows(first, s, b, d, a, e) {
+        if !follows(first, s, x, y, a, e) {
             return Skip::Broken;
         }
         p = q;
         first = false;
-        b = a;
-        d = e;
+        x = a;
+        y = e;
         left -= 1;
     }
     Skip::At(p)
@@ -388,7 +382,8 @@ pub fn open(s: &[u8]) -> Ending
     let Skip::At(e) = state(s) else {
         return Ending::No;
     };
-    if slices::all_zero(&s[e..]) {
+    let from = e;
+    if slices::all_zero(&s[from..]) {
         return Ending::At(e);
     }
     Ending::No

@@ -94,7 +94,10 @@ shared-slice-read-result-16 : tie.Need-shared-slice-read-result-16
 shared-slice-read-result-16 c = search needs
 
 returns : tie.Need-returns
-returns c = span-eight (c .before .before .before .before .before .before .before .before .before .before .before .before .before .before .before .before .args .v .now) (c .before .before .before .before .before .before .before .before .before .before .before .before .before .before .before .before .args .i)
+returns c = span-eight (c .before .before .before .before .before .before .before .before .before .before .before
+    .before .before .before .before .before .args .v .now)
+    (c .before .before .before .before .before .before .before .before .before .before .before .before .before
+    .before .before .before .args .i)
 
 pub eight-spec : {M : Type 1} → statement M
 eight-spec =

@@ -36,7 +36,11 @@ part-all-printable-start : tie.Need-part-all-printable-start
 part-all-printable-start c = search needs
 
 part-all-printable-end : tie.Need-part-all-printable-end
-part-all-printable-end c = omega (arith, in-place (c .before .before .before .before .before .number-at .ensures) (c .before .before .before .n .given .1))
+part-all-printable-end c = omega (
+  arith,
+  in-place (c .before .before .before .before .before .number-at .ensures)
+      (c .before .before .before .n .given .1),
+)
 
 all-printable-requires : tie.Need-all-printable-requires
 all-printable-requires c κs = search needs

@@ -36,7 +36,11 @@ part-in-class-start : tie.Need-part-in-class-start
 part-in-class-start c = search needs
 
 part-in-class-end : tie.Need-part-in-class-end
-part-in-class-end c = omega (arith, in-place (c .before .before .before .before .before .number-at .ensures) (c .before .before .before .n .given .1))
+part-in-class-end c = omega (
+  arith,
+  in-place (c .before .before .before .before .before .number-at .ensures)
+      (c .before .before .before .n .given .1),
+)
 
 in-class-requires : tie.Need-in-class-requires
 in-class-requires c κs = search needs

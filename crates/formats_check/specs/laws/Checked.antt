@@ -163,7 +163,8 @@ module _ {a : Format} (b : Format) {s : List ℕ} {at : ℕ} {r : Skip} (c : Fin
   parts {p} h =
       let G = good c h in
       let H = halves a b (read a (drop at s)) v u e in
-      let i : _≡_ {A = Out (Value a)} (some (v .0, H .between)) (some (G .value, drop p s)) = sym (H .first) ∙ G .reads in
+      let i : _≡_ {A = Out (Value a)} (some (v .0, H .between)) (some (G .value, drop p s)) = sym (H .first)
+      ∙ G .reads in
       let j : H .between ≡ drop p s = second-is i in
       record { front = rw j at (H .first); rest = rw j at (H .second) }
     where

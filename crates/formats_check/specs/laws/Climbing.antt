@@ -268,7 +268,8 @@ module _ {l : ℕ} {c : Class} {g : Format} {t : Test (text l c & g)} {w : List 
       climbing-so j {y} f = on j (m + y) (ap (λ x. m + x) f)
 
 pub climbing-on : {l : ℕ} {c : Class} {g : Format} {t : Test (text l c & g)} {n : ℕ} {s : List ℕ} {at : ℕ}
-    {k : Option (List ℕ)} {left p : ℕ} → Climbing l c t weightless (whatever n) n s at k 0 left p → 0 < left → {r : Entry}
+    {k : Option (List ℕ)} {left p : ℕ} → Climbing l c t weightless (whatever n) n s at k 0 left p → 0 < left
+    → {r : Entry}
     → Entered l c t s p r → {a e q : ℕ} → r ≡ entry.At a e q → {b : Bool} → b ≡ follows k (take (e - a) (drop a s))
     → b ≡ true → Climbing l c t weightless (whatever n) n s at (known false s a e) 0 (left - 1) q
 climbing-on C z E h i j = on C z E h i j 0 refl
@@ -329,7 +330,8 @@ module _ (l : ℕ) (c : Class) {g : Format} (t : Test (text l c & g)) (w : List 
       climbs-many k =
           record { is = list-over m climbsGood refl e h (λ v i. rw (lt-leb (length v) m i) refl) k }
 
-      pub climbs-so : n ≤ m → {x : Skip} → Climbs l c t w (d n) n s p x → Tested (list m (text l c & g)) climbTest s at x
+      pub climbs-so : n ≤ m → {x : Skip} → Climbs l c t w (d n) n s p x
+          → Tested (list m (text l c & g)) climbTest s at x
       climbs-so k W = record { is = list-so m climbsGood refl e h runs-so (W .is) }
         where
           runs-so : (v : List (List ℕ × Value g)) → length v ≡ n → climbsGood v ≡ runs (climb l c t w (d n)) (none, 0) v

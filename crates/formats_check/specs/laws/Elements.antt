@@ -45,10 +45,12 @@ module _ (lo hi : ℕ) {s : List ℕ} {at : ℕ} {o : Numeral} (e : Number s at 
     number-low l = is-bad (number lo hi) (fine (number lo hi)) s at n p (a-number e h .reads) (rw (lt-leb lo n l) refl)
 
     pub number-high : lo ≤ n → hi < n → Fine (number lo hi) s at Broken
-    number-high l u = is-bad (number lo hi) (fine (number lo hi)) s at n p (a-number e h .reads) (rw (le-leb lo n l, lt-leb n hi u) refl)
+    number-high l u = is-bad (number lo hi) (fine (number lo hi)) s at n p (a-number e h .reads) (rw
+        (le-leb lo n l, lt-leb n hi u) refl)
 
     pub number-so : lo ≤ n → n ≤ hi → Fine (number lo hi) s at (At p)
-    number-so l u = is-good (number lo hi) (fine (number lo hi)) s at n p (a-number e h .reads) (rw (le-leb lo n l, le-leb n hi u) refl) (a-number e h .within)
+    number-so l u = is-good (number lo hi) (fine (number lo hi)) s at n p (a-number e h .reads) (rw
+        (le-leb lo n l, le-leb n hi u) refl) (a-number e h .within)
 
 -- a flag or another small number
 module _ (k : ℕ) {s : List ℕ} {at : ℕ} {o : Numeral} (e : Number s at o) where
@@ -60,7 +62,8 @@ module _ (k : ℕ) {s : List ℕ} {at : ℕ} {o : Numeral} (e : Number s at o) w
     small-over u = is-none (small k) (fine (small k)) s at (rw (a-number e h .reads, lt-leb n k u) refl)
 
     pub small-so : n ≤ k → Fine (small k) s at (At p)
-    small-so u = is-good (small k) (fine (small k)) s at n p (rw (a-number e h .reads, le-leb n k u) refl) refl (a-number e h .within)
+    small-so u = is-good (small k) (fine (small k)) s at n p (rw (a-number e h .reads, le-leb n k u) refl) refl
+        (a-number e h .within)
 
 -- a signed number, by a test on how it is written
 module _ (lo hi : ℤ) {s : List ℕ} {at : ℕ} {o : Numeral} (e : Number s at o) where
@@ -72,7 +75,8 @@ module _ (lo hi : ℤ) {s : List ℕ} {at : ℕ} {o : Numeral} (e : Number s at 
     signed-bad t = is-bad (signed lo hi) (fine (signed lo hi)) s at (zag n) p (rw (a-number e h .reads) refl) t
 
     pub signed-so : fine (signed lo hi) (zag n) ≡ true → Fine (signed lo hi) s at (At p)
-    signed-so t = is-good (signed lo hi) (fine (signed lo hi)) s at (zag n) p (rw (a-number e h .reads) refl) t (a-number e h .within)
+    signed-so t = is-good (signed lo hi) (fine (signed lo hi)) s at (zag n) p (rw (a-number e h .reads) refl) t
+        (a-number e h .within)
 
 -- from -m-1 to m: written, up to 2m+1
 module _ (m n : ℕ) where
@@ -113,7 +117,11 @@ module _ (l : ℕ) (c : Class) {s : List ℕ} {at : ℕ} {o : Numeral} (e : Numb
     text-place = a-number e h .within
 
     pub text-short : length s - p < n → Text Broken
-    text-short k = is-none (text l c) (fine (text l c)) s at (rw (a-number e h .reads, lt-leb n (length (drop p s)) (rw length-drop k)) refl)
+    text-short k = is-none (text l c) (fine (text l c)) s at (rw (
+      a-number e h .reads,
+      lt-leb n (length (drop p s))
+          (rw length-drop k),
+    ) refl)
 
     sized : n ≤ length s - p → length (take n (drop p s)) ≡ n
     sized k = length-take-le n (drop p s) (rw length-drop k)
@@ -125,7 +133,8 @@ module _ (l : ℕ) (c : Class) {s : List ℕ} {at : ℕ} {o : Numeral} (e : Numb
     text-over k = go (leb n (length s - p)) refl
       where
         go : (t : Bool) → leb n (length s - p) ≡ t → Text Broken
-        go true i = let j = leb-true n (length s - p) i in is-bad (text l c) (fine (text l c)) s at _ (p + n) (text-read j) (rw (sized j, lt-leb n l k) refl)
+        go true i = let j = leb-true n (length s - p) i in is-bad (text l c) (fine (text l c)) s at _ (p + n)
+            (text-read j) (rw (sized j, lt-leb n l k) refl)
         go false i = text-short (leb-false n (length s - p) i)
 
     module _ (k : n ≤ length s - p) (m : n ≤ l) (t : Bool) (i : t ≡ inClass c (take (p + n - p) (drop p s))) where
@@ -133,10 +142,12 @@ module _ (l : ℕ) (c : Class) {s : List ℕ} {at : ℕ} {o : Numeral} (e : Numb
       told = let j : p + n - p ≡ n = omega arith in sym (rw j at i)
 
       pub text-other : t ≡ false → Text Broken
-      text-other f = is-bad (text l c) (fine (text l c)) s at _ (p + n) (text-read k) (rw (sized k, le-leb n l m, told, f) refl)
+      text-other f = is-bad (text l c) (fine (text l c)) s at _ (p + n) (text-read k) (rw
+          (sized k, le-leb n l m, told, f) refl)
 
       pub text-so : t ≡ true → Text (At (p + n))
-      text-so f = is-good (text l c) (fine (text l c)) s at _ (p + n) (text-read k) (rw (sized k, le-leb n l m, told, f) refl) (omega (arith, text-place))
+      text-so f = is-good (text l c) (fine (text l c)) s at _ (p + n) (text-read k) (rw
+          (sized k, le-leb n l m, told, f) refl) (omega (arith, text-place))
 
 -- A FLOAT: any eight bytes
 module _ {s : List ℕ} {at : ℕ} {o : Numeral} (e : o ≡ numbered s (littleR 8 (drop at s))) where

@@ -25,7 +25,8 @@ and-assoc : (a b c : Bool) → ((a && b) && c) ≡ (a && (b && c))
 and-assoc true b c = refl
 and-assoc false b c = refl
 
-span-all : (n : ℕ) (v : List ℕ) (i : ℕ) → i + n ≤ length v → all (allowed printable) (drop i v) ≡ (span n v i && all (allowed printable) (drop (i + n) v))
+span-all : (n : ℕ) (v : List ℕ) (i : ℕ) → i + n ≤ length v → all (allowed printable) (drop i v) ≡ (span n v i && all
+    (allowed printable) (drop (i + n) v))
 span-all zero v i h = let e : i + 0 ≡ i = add-zero i in rw e refl
 span-all (suc n) v i h =
     let e : i + suc n ≡ suc (i + n) = omega arith in
@@ -36,9 +37,12 @@ span-all (suc n) v i h =
 
 pub span-eight : (v : List ℕ) (i : ℕ)
     → ((((((((leb 32 (getD v i 0) && leb (getD v i 0) 126) && (leb 32 (getD v (i + 1) 0) && leb (getD v (i + 1) 0) 126))
-    && (leb 32 (getD v (i + 2) 0) && leb (getD v (i + 2) 0) 126)) && (leb 32 (getD v (i + 3) 0) && leb (getD v (i + 3) 0) 126))
-    && (leb 32 (getD v (i + 4) 0) && leb (getD v (i + 4) 0) 126)) && (leb 32 (getD v (i + 5) 0) && leb (getD v (i + 5) 0) 126))
-    && (leb 32 (getD v (i + 6) 0) && leb (getD v (i + 6) 0) 126)) && (leb 32 (getD v (i + 7) 0) && leb (getD v (i + 7) 0) 126)) ≡ span 8 v i
+    && (leb 32 (getD v (i + 2) 0) && leb (getD v (i + 2) 0) 126)) && (leb 32 (getD v (i + 3) 0) && leb (getD v
+    (i + 3) 0) 126))
+    && (leb 32 (getD v (i + 4) 0) && leb (getD v (i + 4) 0) 126)) && (leb 32 (getD v (i + 5) 0) && leb (getD v
+    (i + 5) 0) 126))
+    && (leb 32 (getD v (i + 6) 0) && leb (getD v (i + 6) 0) 126)) && (leb 32 (getD v (i + 7) 0) && leb (getD v
+    (i + 7) 0) 126)) ≡ span 8 v i
 span-eight v i = rw (add-zero i)
 
 -- what is found of the whole is found from here on

@@ -65,7 +65,8 @@ module _ {hi : ℕ} {g : Format} {n : ℕ} {s : List ℕ} {at low left p : ℕ} 
           where
             go : Missed (fine g) (read g (drop q s)) → Missed (rising hi g low) (read (entry hi g) (drop p s))
             go (absent i) = absent (rw (key .reads, i) refl)
-            go (refused y i t) = refused ((k, y .0), y .1) (rw (key .reads, i) refl) (last (leb low k) (leb 0 k && leb k hi) (fine g (y .0)) t)
+            go (refused y i t) = refused ((k, y .0), y .1) (rw (key .reads, i) refl) (last (leb low k)
+                (leb 0 k && leb k hi) (fine g (y .0)) t)
               where
                 last : (a b c : Bool) → c ≡ false → (a && (b && c)) ≡ false
                 last true true c e = e
@@ -76,7 +77,8 @@ module _ {hi : ℕ} {g : Format} {n : ℕ} {s : List ℕ} {at low left p : ℕ} 
         rising-so {u} b l m =
             let G = good c b in
             record {
-              on = λ x w. A .on x (walk-on (entry hi g) (rise hi g) low s p left z (k, G .value) u (rw (key .reads, G .reads) refl)
+              on = λ x w. A .on x (walk-on (entry hi g) (rise hi g) low s p left z (k, G .value) u (rw
+                  (key .reads, G .reads) refl)
                   (rw (le-leb low k l, le-leb 0 k (omega arith), le-leb k hi m, G .fits) refl) x w);
             }
 
@@ -91,7 +93,8 @@ module _ {hi : ℕ} {g : Format} {n : ℕ} {s : List ℕ} {at low left p : ℕ} 
 
           go : (y : _) → read g (drop q s) ≡ y → Missed (rising hi g low) (read (entry hi g) (drop p s))
           go none i = absent (rw (key .reads, i) refl)
-          go (some y) i = refused ((k, y .0), y .1) (rw (key .reads, i) refl) (last (leb low k) (leb 0 k && leb k hi) (fine g (y .0)) t)
+          go (some y) i = refused ((k, y .0), y .1) (rw (key .reads, i) refl) (last (leb low k)
+              (leb 0 k && leb k hi) (fine g (y .0)) t)
 
       pub rising-low : k < low → Rises hi g 0 n s at Broken
       rising-low l = no (over (rw (lt-leb low k l) refl))
@@ -105,7 +108,11 @@ less-is k x = go (ltb k x) refl (ltb x k) refl
   where
     go : (t : Bool) → ltb k x ≡ t → (u : Bool) → ltb x k ≡ u → isLess (lexOf (k ∷ []) (x ∷ [])) ≡ leb (k + 1) x
     go true e u f = rw (cons-before k x [] [] (ltb-true k x e), le-leb (k + 1) x (omega (arith, ltb-true k x e))) refl
-    go false e true f = rw (cons-behind k x [] [] (ltb-true x k f), lt-leb (k + 1) x (omega (arith, ltb-true x k f))) refl
+    go false e true f = rw (
+      cons-behind k x [] [] (ltb-true x k f),
+      lt-leb (k + 1) x (omega
+          (arith, ltb-true x k f)),
+    ) refl
     go false e false f =
         let i : k ≡ x = omega (arith, ltb-false k x e, ltb-false x k f) in
         rw (i, lex-itself (x ∷ []), lt-leb (x + 1) x (omega arith)) refl
@@ -125,16 +132,22 @@ start : (a b c t r : Bool) → t ≡ true → (b && c) ≡ r → ((a && b) && c)
 start a b c t r p q = and-assoc a b c ∙ ap (λ z. a && z) q ∙ sym (ap (λ z. (z && a) && r) p)
 
 module _ (hi : ℕ) (g : Format) where
-  rises-above : (k : ℕ) (v : List (Value (entry hi g))) → (all (fine (entry hi g)) v && above numbers k v) ≡ runs (rise hi g) (k + 1) v
+  rises-above : (k : ℕ) (v : List (Value (entry hi g))) → (all (fine (entry hi g)) v && above numbers k v) ≡ runs
+      (rise hi g) (k + 1) v
   rises-above k [] = refl
   rises-above k (e ∷ v) =
-      rw (shuffle (fine (entry hi g) e) (all (fine (entry hi g)) v) (isLess (lexOf (k ∷ []) (e .0 ∷ []))) (above numbers (e .0) v), less-is k (e .0))
+      rw (
+        shuffle (fine (entry hi g) e) (all (fine (entry hi g)) v) (isLess (lexOf (k ∷ []) (e .0 ∷ [])))
+            (above numbers (e .0) v),
+        less-is k (e .0),
+      )
       (ap (λ t. (leb (k + 1) (e .0) && fine (entry hi g) e) && t) (rises-above (e .0) v))
 
   rises : (v : List (Value (entry hi g))) → (all (fine (entry hi g)) v && ascending numbers v) ≡ runs (rise hi g) 0 v
   rises [] = refl
   rises (e ∷ v) =
-      start (fine (entry hi g) e) (all (fine (entry hi g)) v) (above numbers (e .0) v) (leb 0 (e .0)) (runs (rise hi g) (e .0 + 1) v)
+      start (fine (entry hi g) e) (all (fine (entry hi g)) v) (above numbers (e .0) v) (leb 0 (e .0)) (runs
+      (rise hi g) (e .0 + 1) v)
       (le-leb 0 (e .0) (omega arith)) (rises-above (e .0) v)
 
 -- entries that are good and ascend

@@ -102,7 +102,8 @@ module _ (l : ℕ) {f : Format} (P : List (Value f) → Bool) (w : nonempty f �
         → ((v : List (Value f)) → length v ≡ n → P v ≡ runs W k v) → Walked f W k n s p x → Checked (list l f) P s at x
     list-so {S} {W} {k} {x} t g =
         record {
-          says = rw (a-number e h .reads, elements-are f w n (drop p s)) (g .says ∙ go (manyR (read f) n (drop p s)) refl);
+          says = rw (a-number e h .reads, elements-are f w n (drop p s)) (g .says
+              ∙ go (manyR (read f) n (drop p s)) refl);
         }
       where
         go : (o : Out (List (Value f))) → manyR (read f) n (drop p s) ≡ o
@@ -139,7 +140,10 @@ module _ {f : Format} {n : ℕ} {s : List ℕ} {at left p : ℕ} (A : Eaching f 
     each-so {q} h =
         let G = good c h in
         record {
-          is = record { on = λ x w. A .is .on x (walk-on f (each f) tt s p left z (G .value) q (G .reads) (G .fits) x w) };
+          is = record {
+            on = λ x w. A .is .on x (walk-on f (each f) tt s p left z (G .value) q (G .reads)
+                (G .fits) x w);
+          };
         }
 
 module _ {l : ℕ} {f : Format} (w : nonempty f ≡ true) {s : List ℕ} {at : ℕ} {o : Numeral} (e : Number s at o) where

@@ -65,7 +65,8 @@ module _ {s : List ℕ} {y at e : ℕ} where
           → bind (numberR (drop (y + 1) s)) (λ n t. some (inr n, t)) ≡ some (w, u)
       given {w} {u} q = go (eqb c 1) (rw (opened s y c h i, ne-eqb c 0 z) at q)
         where
-          go : (b : Bool) → cond {A = Out Way} b (bind (numberR (drop (y + 1) s)) (λ n t. some (inr n, t))) none ≡ some (w, u)
+          go : (b : Bool) → cond {A = Out Way} b (bind (numberR (drop (y + 1) s)) (λ n t. some
+              (inr n, t))) none ≡ some (w, u)
               → bind (numberR (drop (y + 1) s)) (λ n t. some (inr n, t)) ≡ some (w, u)
           go true q = q
           go false q = none-some q
@@ -77,7 +78,8 @@ module _ {s : List ℕ} {y at e : ℕ} where
       direction-so {n} {p} k {r} P =
           record {
             moves = piece-moves P;
-            on = λ w u q. found (λ (w : Way) u. Piece (directionText w) s at e r) (rw (a-number N k .reads) at (given q)) P;
+            on = λ w u q. found (λ (w : Way) u. Piece (directionText w) s at e r) (rw (a-number N k .reads) at
+                (given q)) P;
           }
 
 -- THE ROUTE, with the feed in front
@@ -220,7 +222,8 @@ module _ {f s : List ℕ} {a e b d : ℕ} {r : Span} (R : Spans 64 printable s d
       incomplete-way i =
           record {
             on = λ v u q g.
-                absurd (no-parts timeOn W (routed q .rest) i (and-right (fine id (v .0)) (fine (optional number32 & timeOn) (v .1)) g));
+                absurd (no-parts timeOn W (routed q .rest) i (and-right (fine id (v .0)) (fine
+                (optional number32 & timeOn) (v .1)) g));
           }
 
       module _ {z : ℕ} (i : o ≡ At z) {p : Span} (T : Spans 16 printable s z p) where
@@ -249,7 +252,8 @@ module _ {f s : List ℕ} {a e b d : ℕ} {r : Span} (R : Spans 64 printable s d
                 let m : v .0 ≡ bytes s x y = span-key R h .bytes (v .0) (routed q .front) in
                 let n : v .1 .1 .0 ≡ bytes s k l = span-key T j .bytes (v .1 .1 .0) (last .front) in
                 M .on (v .1 .0) (drop z s) (timed q .front)
-                ∙ ap (λ y. isSame (lexOf (bytes s a e) (headOf f y (v .1 .0) ++ tailOf (bytes s b d) (bytes s k l)))) (sym m)
+                ∙ ap (λ y. isSame (lexOf (bytes s a e) (headOf f y (v .1 .0) ++ tailOf (bytes s b d)
+                (bytes s k l)))) (sym m)
                 ∙ ap (λ y. isSame (lexOf (bytes s a e) (headOf f (v .0) (v .1 .0) ++ tailOf (bytes s b d) y))) (sym n)
 
 -- THE DATED KEY, by what is in front of '@'
@@ -273,7 +277,11 @@ all-take : (n : ℕ) (x : List ℕ) → all (allowed printable) x ≡ true → a
 all-take zero x h = refl
 all-take (suc n) [] h = refl
 all-take (suc n) (b ∷ x) h =
-    rw (and-left (allowed printable b) (all (allowed printable) x) h, all-take n x (and-right (allowed printable b) (all (allowed printable) x) h)) refl
+    rw (
+      and-left (allowed printable b) (all (allowed printable) x) h,
+      all-take n x (and-right (allowed printable b)
+          (all (allowed printable) x) h),
+    ) refl
 
 dated-zero : (n : ℕ) (d x : List ℕ) → n ≡ 0 → false ≡ datedAt n d x
 dated-zero n d x z = rw z (and-no (not (isEmpty d)))
@@ -342,7 +350,8 @@ module _ {s : List ℕ} {a e b d : ℕ} (I : Inside s a e) (J : Inside s b d) wh
       dated-so j {t} w =
           record {
             on = λ c.
-                piece-end (piece-then P i Q) j (record { forward = omega arith; within = I .within }) t w ∙ sym (told c);
+                piece-end (piece-then P i Q) j (record { forward = omega arith; within = I .within }) t w
+                ∙ sym (told c);
           }
 
 -- ANY KEY
@@ -358,13 +367,19 @@ module _ {f s : List ℕ} {a e : ℕ} (I : Inside s a e) where
     unfolding keyOk
     key-empty z =
         let l : bytes s a e ≡ [] = bytes-none s a e z in
-        record { on = λ c v u q g. L .on c v u q g ∙ ap (λ x. rawOk x || (datedOk (dateOf v) (bytes s a e) || isSame (lexOf (bytes s a e) (incompleteKey f v)))) (sym l) }
+        record {
+          on = λ c v u q g. L .on c v u q g ∙ ap (λ x. rawOk x || (datedOk (dateOf v) (bytes s a e) || isSame
+              (lexOf (bytes s a e) (incompleteKey f v)))) (sym l);
+        }
 
     pub key-long : 64 < e - a → Keys f s a e t
     unfolding keyOk
     key-long h =
         let l : length (bytes s a e) ≡ e - a = bytes-length I in
-        record { on = λ c v u q g. L .on c v u q g ∙ ap (λ x. x || (datedOk (dateOf v) (bytes s a e) || isSame (lexOf (bytes s a e) (incompleteKey f v)))) (raw l) }
+        record {
+          on = λ c v u q g. L .on c v u q g ∙ ap (λ x. x || (datedOk (dateOf v) (bytes s a e) || isSame
+              (lexOf (bytes s a e) (incompleteKey f v)))) (raw l);
+        }
       where
         raw : length (bytes s a e) ≡ e - a → false ≡ rawOk (bytes s a e)
         raw l = rw (not-empty (bytes s a e) (omega arith), l, lt-leb (e - a) 64 h) refl
@@ -377,7 +392,8 @@ module _ {f s : List ℕ} {a e : ℕ} {r : Skip} (A : Fine (optional delay) s e 
   longer-delay h = record { on = λ c v u q g. absurd (no-parts flagOn A q h g) }
 
   module _ {p : ℕ} (h : r ≡ At p) {o : Skip} (B : Fine (small 1) s p o) where
-    behind-delay : {v : Trip} {u : List ℕ} → read trip (drop e s) ≡ some (v, u) → read flagOn (drop p s) ≡ some (v .1, u)
+    behind-delay : {v : Trip} {u : List ℕ} → read trip (drop e s) ≡ some (v, u)
+        → read flagOn (drop p s) ≡ some (v .1, u)
     behind-delay q = parts flagOn A q h .rest
 
     pub longer-flag : o ≡ Broken → Longer f s a e false
@@ -385,7 +401,8 @@ module _ {f s : List ℕ} {a e : ℕ} {r : Skip} (A : Fine (optional delay) s e 
         record {
           on = λ c v u q g.
               absurd
-              (no-parts (date & routeOn) B (behind-delay q) i (and-right (fine (optional delay) (v .0)) (fine flagOn (v .1)) g));
+              (no-parts (date & routeOn) B (behind-delay q) i (and-right (fine (optional delay) (v .0)) (fine flagOn
+              (v .1)) g));
         }
 
     module _ {q : ℕ} (i : o ≡ At q) {w : Span} (D : Spans 16 printable s q w) where
@@ -428,7 +445,8 @@ module _ {f s : List ℕ} {a e : ℕ} {r : Skip} (A : Fine (optional delay) s e 
                   N .on (v .1 .1 .1) u (cut {v} x .rest)
                   (and-right (fine date (dateOf v)) (fine routeOn (v .1 .1 .1))
                   (and-right (fine (optional delay) (v .0)) (fine flagOn (v .1)) g))
-                  ∙ ap (λ z. isSame (lexOf (bytes s a e) (headOf f (v .1 .1 .1 .0) (v .1 .1 .1 .1 .0) ++ tailOf z (v .1 .1 .1 .1 .1 .0)))) (sym (is-date {v} x))
+                  ∙ ap (λ z. isSame (lexOf (bytes s a e) (headOf f (v .1 .1 .1 .0) (v .1 .1 .1 .1 .0) ++ tailOf z
+                  (v .1 .1 .1 .1 .1 .0)))) (sym (is-date {v} x))
                   ∙ sym
                   (ap (λ z. z || isSame (lexOf (bytes s a e) (incompleteKey f v))) (says c {v} x ∙ k));
             }

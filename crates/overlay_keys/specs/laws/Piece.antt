@@ -7,7 +7,7 @@ use native.Mathlib.Omega.{arith}
 use lib.Dec.{eqb}
 use lib.ListN.{length, take, drop, getD, length-append, length-drop}
 use lib.Seq.{length-take-le, take-add, take-take, drop-drop, drop-cons, take-append-seam}
-use borrow.Author.Tests.{eq-eqb, ne-eqb, lt-ltb, le-ltb}
+use borrow.Author.Tests.{eqb-true, eqb-false, lt-ltb, le-ltb}
 use Rattle.formats.specs.declared.Skip.{Skip}
 use Rattle.formats.specs.declared.Skip.the-variants.{At, Broken}
 use Rattle.slices.specs.Lists.{lexOf}
@@ -46,7 +46,8 @@ module _ {s : List ℕ} {at e : ℕ} (I : Inside s at e) where
   piece-short {x} h =
       record { tells = λ z q. omega (arith, bytes-length I, ap length q, length-append x z) }
 
-  module _ {x : List ℕ} (h : length x ≤ e - at) {t : Bool} (i : t ≡ same (take (at + length x - at) (drop at s)) x) where
+  module _ {x : List ℕ} (h : length x ≤ e - at) {t : Bool} (i : t ≡ same (take (at + length x - at)
+      (drop at s)) x) where
     pub piece-so : t ≡ true → Piece x s at e (At (at + length x))
     piece-so f =
         let k : at + length x ≤ e = omega (arith, I .forward) in

@@ -23,7 +23,8 @@ routeOn = id & optional number32 & time & list 128 (number32 & stopUpdate)
 -- for the direction that stands at y: it is a piece; the head of the incomplete key is one, its route from x up to y
 pub record Direction (s : List ℕ) (y at e : ℕ) (r : Skip) : Type 0 where
   pub moves : Moves at e r
-  pub on : (w : Maybe ℕ) (u : List ℕ) → read (optional number32) (drop y s) ≡ some (w, u) → Piece (directionText w) s at e r
+  pub on : (w : Maybe ℕ) (u : List ℕ) → read (optional number32) (drop y s) ≡ some (w, u)
+      → Piece (directionText w) s at e r
 
 pub record Route (f s : List ℕ) (x y at e : ℕ) (r : Skip) : Type 0 where
   pub is : Piece (prefixed f (bytes s x y)) s at e r

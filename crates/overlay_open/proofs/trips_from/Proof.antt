@@ -53,8 +53,14 @@ loop-less : tie.Need-loop-less Inv-loop μ-loop
 loop-less c = search needs
 
 loop-again : tie.Need-loop-again Inv-loop μ-loop
-loop-again c =
-    (search entered-past, search entered-forward, search entered-in, omega arith, search (climbing-so, plain-so, not-false))
+loop-again c = (
+  search entered-past,
+  search entered-forward,
+  search entered-in,
+  omega arith,
+  search
+      (climbing-so, plain-so, not-false),
+)
 
 returns-3 : tie.Need-returns-3 Inv-loop μ-loop
 returns-3 c = search (climbing-end, count-plain)

@@ -64,8 +64,8 @@ module _ {s : List ℕ} {r : Skip} (T : Tested overlay stateGood s 0 r) where
     ends =
         let b = law overlay .back s state (drop e s) reads .0 in
         let n : length s ≡ length (write overlay state) + (length s - e)
-              = ap length b ∙ length-append (write overlay state) (drop e s)
-              ∙ ap (λ k. length (write overlay state) + k) (length-drop e s) in
+        = ap length b ∙ length-append (write overlay state) (drop e s)
+        ∙ ap (λ k. length (write overlay state) + k) (length-drop e s) in
         omega (arith, n, good (T .is) h .within)
 
     module _ {t : Bool} (z : t ≡ zeros (drop e s)) where
@@ -73,7 +73,8 @@ module _ {s : List ℕ} {r : Skip} (T : Tested overlay stateGood s 0 r) where
       unfolding stateOf
       held = rw (reads, is-valid, ← zeros-all (drop e s), ← z) (go t)
         where
-          go : (t : Bool) → cond {A = Option State} (t && true) (some state) none ≡ cond {A = Option State} t (some state) none
+          go : (t : Bool) → cond {A = Option State} (t && true) (some state) none ≡ cond {A = Option State} t
+              (some state) none
           go true = refl
           go false = refl
 

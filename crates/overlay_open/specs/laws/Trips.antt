@@ -43,7 +43,7 @@ fine-entry v h =
     let i = and-left (fine (text 137 printable) (v .0)) (holds tripGood (v .1)) h in
     let j = and-right (fine (text 137 printable) (v .0)) (holds tripGood (v .1)) h in
     let k : fine trip (v .1) ≡ true
-          = and-left (fine trip (v .1)) (ascending numbers (updatesOf (v .1))) (trip-good (v .1) ∙ j) in
+    = and-left (fine trip (v .1)) (ascending numbers (updatesOf (v .1))) (trip-good (v .1) ∙ j) in
     rw (i, k) refl
 
 module _ {f s : List ℕ} {at : ℕ} {r : Span} (S : Spans 137 printable s at r) where
@@ -67,8 +67,8 @@ module _ {f s : List ℕ} {at : ℕ} {r : Span} (S : Spans 137 printable s at r)
               let P = parts trip (span-is S h) q refl in
               let k : v .0 ≡ take (e - a) (drop a s) = span-key S h .bytes (v .0) (P .front) in
               let c : inClass printable (v .0) ≡ true
-                    = and-right (leb (length (v .0)) 137) (inClass printable (v .0))
-                    (and-left (fine (text 137 printable) (v .0)) (fine trip (v .1)) g) in
+              = and-right (leb (length (v .0)) 137) (inClass printable (v .0))
+              (and-left (fine (text 137 printable) (v .0)) (fine trip (v .1)) g) in
               K .on (ap (inClass printable) (sym k) ∙ c) (v .1) u (P .rest)
               (and-right (fine (text 137 printable) (v .0)) (fine trip (v .1)) g)
               ∙ ap (λ y. keyOk f y (v .1)) (sym k)

@@ -50,11 +50,14 @@ fine-within (small k) v = refl
 fine-within (text l c) v = three-first _
 fine-within float v = refl
 fine-within (constant c) v = refl
-fine-within (list l f) v = ap (λ t. leb (length v) l && t) (go (fine-within f) v) ∙ three-third (leb (length v) l) (all (ok 5 f) v) (all (ok 6 f) v) (all (ok 7 f) v)
+fine-within (list l f) v = ap (λ t. leb (length v) l && t) (go (fine-within f) v)
+    ∙ three-third (leb (length v) l) (all (ok 5 f) v) (all (ok 6 f) v) (all (ok 7 f) v)
   where
-    go : ((x : Value f) → fine f x ≡ three (ok 5 f x) (ok 6 f x) (ok 7 f x)) → (v : List (Value f)) → all (fine f) v ≡ three (all (ok 5 f) v) (all (ok 6 f) v) (all (ok 7 f) v)
+    go : ((x : Value f) → fine f x ≡ three (ok 5 f x) (ok 6 f x) (ok 7 f x)) → (v : List (Value f))
+        → all (fine f) v ≡ three (all (ok 5 f) v) (all (ok 6 f) v) (all (ok 7 f) v)
     go h [] = refl
-    go h (x ∷ v) = both (h x) (go h v) ∙ three-both (ok 5 f x) (ok 6 f x) (ok 7 f x) (all (ok 5 f) v) (all (ok 6 f) v) (all (ok 7 f) v)
+    go h (x ∷ v) = both (h x) (go h v) ∙ three-both (ok 5 f x) (ok 6 f x) (ok 7 f x) (all (ok 5 f) v) (all
+        (ok 6 f) v) (all (ok 7 f) v)
 fine-within (choice a b) (inl x) = fine-within a x
 fine-within (choice a b) (inr y) = fine-within b y
 fine-within (a & b) v =

@@ -70,7 +70,8 @@ and-assoc true b c = refl
 and-assoc false b c = refl
 
 -- a test of the last part, after the annotations of the whole
-behind-as : (a b : Format) (t : Test b) (A : Value b → Bool) → ((v : Value b) → (fine b v && A v) ≡ holds t v) → (v : Value (a & b)) → (fine (a & b) v && A (v .1)) ≡ holds (behind a t) v
+behind-as : (a b : Format) (t : Test b) (A : Value b → Bool) → ((v : Value b) → (fine b v && A v) ≡ holds t v)
+    → (v : Value (a & b)) → (fine (a & b) v && A (v .1)) ≡ holds (behind a t) v
 behind-as a b t A h v = and-assoc (fine a (v .0)) (fine b (v .1)) (A (v .1)) ∙ ap (λ x. fine a (v .0) && x) (h (v .1))
 
 abbrev F6 : Format
@@ -86,17 +87,20 @@ time-good : (v : Value (time & F6)) → (fine (time & F6) v && A6 (v .1)) ≡ ho
 time-good = behind-as time F6 (own F6 (ascend 128 4294967295 stopUpdate)) A6 (λ v. refl)
 
 route-good : (v : Value (id & F4)) → (fine (id & F4) v && A6 (v .1 .1 .1)) ≡ holds routeGood v
-route-good = behind-as id F4 (behind (optional number32) timeGood) (λ v. A6 (v .1 .1)) (behind-as (optional number32) (time & F6) timeGood (λ v. A6 (v .1)) time-good)
+route-good = behind-as id F4 (behind (optional number32) timeGood) (λ v. A6 (v .1 .1)) (behind-as
+    (optional number32) (time & F6) timeGood (λ v. A6 (v .1)) time-good)
 
 pub trip-good : (t : Trip) → (fine trip t && ascending numbers (updatesOf t)) ≡ holds tripGood t
 trip-good =
-    behind-as (optional delay) (small 1 & date & id & F4) (behind (small 1) (behind date routeGood)) (λ v. A6 (v .1 .1 .1 .1 .1))
+    behind-as (optional delay) (small 1 & date & id & F4) (behind (small 1) (behind date routeGood)) (λ v. A6
+    (v .1 .1 .1 .1 .1))
     (behind-as (small 1) (date & id & F4) (behind date routeGood) (λ v. A6 (v .1 .1 .1 .1))
     (behind-as date (id & F4) routeGood (λ v. A6 (v .1 .1 .1)) route-good))
 
 -- where a good record is known to stand, this is the way past it
 pub record Past (s : List ℕ) (at r : ℕ) : Type 0 where
-  pub on : (v : Trip) (q : ℕ) → read trip (drop at s) ≡ some (v, drop q s) → q ≤ length s → holds tripGood v ≡ true → r ≡ q
+  pub on : (v : Trip) (q : ℕ) → read trip (drop at s) ≡ some (v, drop q s) → q ≤ length s → holds tripGood v ≡ true
+      → r ≡ q
 
 module _ {s : List ℕ} {at : ℕ} {x : Skip} (T : Tested trip tripGood s at x) where
   at-at : {p q : ℕ} → At p ≡ At q → p ≡ q
@@ -106,4 +110,7 @@ module _ {s : List ℕ} {at : ℕ} {x : Skip} (T : Tested trip tripGood s at x) 
   past-so h = record { on = λ v q e i j. at-at (sym h ∙ check-past (T .is) v q e i j) }
 
   pub past-no : x ≡ Broken → (r : ℕ) → Past s at r
-  past-no h r = record { on = λ v q e i j. absurd (let z : Broken ≡ At q = sym h ∙ check-past (T .is) v q e i j in let y : _≡_ {A = ℕ} 0 1 = cc in omega arith) }
+  past-no h r = record {
+    on = λ v q e i j. absurd (let z : Broken ≡ At q = sym h
+        ∙ check-past (T .is) v q e i j in let y : _≡_ {A = ℕ} 0 1 = cc in omega arith);
+  }
