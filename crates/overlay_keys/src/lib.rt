@@ -66,7 +66,8 @@ fn direction(s: &[u8], y: usize, at: usize, e: usize) -> Skip
     if s.len() <= y {
         return Skip::Broken;
     }
-    if s[y] == 0 {
+    let c = s[y];
+    if c == 0 {
         return Skip::At(at);
     }
     let Numeral::Got(n, p) = number_at(s, y + 1) else {

@@ -35,12 +35,24 @@ use Rattle.decode.specs.Trip.{Trip, dateOf, delay, date, id, number32, time, st
 use Rattle.basics.specs.Options.{Maybe}
 use Rattle.decode.specs.Key.{directionText, decimalOf, prefixed, headOf, tailOf, rawOk, datedOk, datedKey, incompleteKey, keyOk}
 use Rattle.overlay_keys.specs.promises.Piece.{bytes, Inside, Piece}
-use Rattle.overlay_keys.specs.promises.Keys.{routeOn, Direction, Route, Head, Tail, Matches, Incomplete, Dated, Keys}
+use Rattle.overlay_keys.specs.promises.Keys.{routeOn, Direction, Route, Head, Tail, Matches, Incomplete, Dated, Longer, Keys}
 use Rattle.overlay_keys.specs.laws.Piece.{bytes-join, bytes-length, bytes-none, piece-empty, piece-stop, piece-then, piece-not, piece-end, piece-moves, piece-inside, moves-stop, moves-none, moves-inside, moves-then}
 
 -- THE DIRECTION in decimal
 abbrev Way : Type 0
 Way = Unit {0} ⊎ ℕ
+
+abbrev someNumber : Out ℕ → Out Way
+someNumber o = bind o (λ n t. some (inr n, t))
+
+given : (s : List ℕ) (y c : ℕ) → y < length s → c ≡ getD s y 0 → (c ≡ 0 → ⊥) → {w : Way} {u : List ℕ}
+    → read (optional number32) (drop y s) ≡ some (w, u) → someNumber (numberR (drop (y + 1) s)) ≡ some (w, u)
+given s y c h i z {w} {u} q = go (eqb c 1) (rw (opened s y c h i, ne-eqb c 0 z) at q)
+  where
+    go : (b : Bool) → cond {A = Out Way} b (someNumber (numberR (drop (y + 1) s))) none ≡ some (w, u)
+        → someNumber (numberR (drop (y + 1) s)) ≡ some (w, u)
+    go true q = q
+    go false q = none-some q
 
 module _ {s : List ℕ} {y at e : ℕ} where
   pub direction-end : length s ≤ y → Direction s y at e Broken
@@ -61,25 +73,15 @@ module _ {s : List ℕ} {y at e : ℕ} where
         opening = rw (opened s y c h i, z) refl
 
     module _ (z : c ≡ 0 → ⊥) {o : Numeral} (N : Number s (y + 1) o) where
-      given : {w : Way} {u : List ℕ} → read (optional number32) (drop y s) ≡ some (w, u)
-          → bind (numberR (drop (y + 1) s)) (λ n t. some (inr n, t)) ≡ some (w, u)
-      given {w} {u} q = go (eqb c 1) (rw (opened s y c h i, ne-eqb c 0 z) at q)
-        where
-          go : (b : Bool) → cond {A = Out Way} b (bind (numberR (drop (y + 1) s)) (λ n t. some
-              (inr n, t))) none ≡ some (w, u)
-              → bind (numberR (drop (y + 1) s)) (λ n t. some (inr n, t)) ≡ some (w, u)
-          go true q = q
-          go false q = none-some q
-
       pub direction-bad : o ≡ Bad → Direction s y at e Broken
-      direction-bad k = record { moves = moves-stop; on = λ w u q. none-some (rw (no-number N k) at (given q)) }
+      direction-bad k = record { moves = moves-stop; on = λ w u q. none-some (rw (no-number N k) at (given s y c h i z q)) }
 
       pub direction-so : {n p : ℕ} → o ≡ Got n p → {r : Skip} → Piece (decimalOf 10 n) s at e r → Direction s y at e r
       direction-so {n} {p} k {r} P =
           record {
             moves = piece-moves P;
             on = λ w u q. found (λ (w : Way) u. Piece (directionText w) s at e r) (rw (a-number N k .reads) at
-                (given q)) P;
+                (given s y c h i z q)) P;
           }
 
 -- THE ROUTE, with the feed in front
@@ -100,11 +102,11 @@ module _ {f s : List ℕ} {x y at e : ℕ} where
 
     module _ {q : Skip} (P : Piece f s at e q) where
       pub route-feed : q ≡ Broken → Route f s x y at e Broken
-      route-feed i = whole (piece-stop P i)
+      route-feed i = whole (piece-stop P (58 ∷ bytes s x y) i)
 
       module _ {m : ℕ} (i : q ≡ At m) {o : Skip} (Q : Piece (58 ∷ []) s m e o) where
         pub route-colon : o ≡ Broken → Route f s x y at e Broken
-        route-colon j = whole (piece-then P i (piece-stop Q j))
+        route-colon j = whole (piece-then P i (piece-stop Q (bytes s x y) j))
 
         pub route-so : {n : ℕ} → o ≡ At n → {r : Skip} → Piece (bytes s x y) s n e r → Route f s x y at e r
         route-so j R = whole (piece-then P i (piece-then Q j R))
@@ -125,7 +127,7 @@ module _ {f s : List ℕ} {x y at e : ℕ} {q : Skip} (P : Piece before s at e q
   head-mark h =
       record {
         moves = moves-stop;
-        on = λ w u i. piece-stop (piece-stop (piece-stop P {y = prefixed f (bytes s x y)} h) {y = between} refl) refl;
+        on = λ w u i. piece-stop (piece-stop (piece-stop P (prefixed f (bytes s x y)) h) between refl) (directionText w) refl;
       }
 
   module _ {m : ℕ} (h : q ≡ At m) {o : Skip} (R : Route f s x y m e o) where
@@ -133,14 +135,14 @@ module _ {f s : List ℕ} {x y at e : ℕ} {q : Skip} (P : Piece before s at e q
     first-two = piece-then P h (R .is)
 
     pub head-route : o ≡ Broken → Head f s x y at e Broken
-    head-route i = record { moves = moves-stop; on = λ w u j. piece-stop (piece-stop first-two {y = between} i) refl }
+    head-route i = record { moves = moves-stop; on = λ w u j. piece-stop (piece-stop first-two between i) (directionText w) refl }
 
     module _ {n : ℕ} (i : o ≡ At n) {g : Skip} (B : Piece between s n e g) where
       first-three : Piece (before ++ prefixed f (bytes s x y) ++ between) s at e g
       first-three = piece-then first-two i B
 
       pub head-between : g ≡ Broken → Head f s x y at e Broken
-      head-between j = record { moves = moves-stop; on = λ w u k. piece-stop first-three j }
+      head-between j = record { moves = moves-stop; on = λ w u k. piece-stop first-three (directionText w) j }
 
       pub head-so : {p : ℕ} → g ≡ At p → {r : Skip} → Direction s y p e r → Head f s x y at e r
       head-so j D =
@@ -159,24 +161,18 @@ timeMark = 38 ∷ 115 ∷ 116 ∷ 61 ∷ []
 module _ {s : List ℕ} {b d u v at e : ℕ} {q : Skip} (P : Piece dateMark s at e q) where
   pub tail-mark : q ≡ Broken → Tail s b d u v at e Broken
   tail-mark h =
-      record { is = piece-stop (piece-stop (piece-stop P {y = bytes s b d} h) {y = timeMark} refl) refl }
+      record { is = piece-stop (piece-stop (piece-stop P (bytes s b d) h) timeMark refl) (bytes s u v) refl }
 
   module _ {m : ℕ} (h : q ≡ At m) {o : Skip} (D : Piece (bytes s b d) s m e o) where
-    dated-two : Piece (dateMark ++ bytes s b d) s at e o
-    dated-two = piece-then P h D
-
     pub tail-date : o ≡ Broken → Tail s b d u v at e Broken
-    tail-date i = record { is = piece-stop (piece-stop dated-two {y = timeMark} i) refl }
+    tail-date i = record { is = piece-stop (piece-stop (piece-then P h D) timeMark i) (bytes s u v) refl }
 
     module _ {n : ℕ} (i : o ≡ At n) {g : Skip} (M : Piece timeMark s n e g) where
-      dated-three : Piece (dateMark ++ bytes s b d ++ timeMark) s at e g
-      dated-three = piece-then dated-two i M
-
       pub tail-between : g ≡ Broken → Tail s b d u v at e Broken
-      tail-between j = record { is = piece-stop dated-three j }
+      tail-between j = record { is = piece-stop (piece-then (piece-then P h D) i M) (bytes s u v) j }
 
       pub tail-so : {p : ℕ} → g ≡ At p → {r : Skip} → Piece (bytes s u v) s p e r → Tail s b d u v at e r
-      tail-so j T = record { is = piece-then dated-three j T }
+      tail-so j T = record { is = piece-then (piece-then (piece-then P h D) i M) j T }
 
 pub head-inside : {f s : List ℕ} {x y at e : ℕ} {r : Skip} → Head f s x y at e r → {m : ℕ} → r ≡ At m → Inside s at e
     → Inside s m e
@@ -193,7 +189,7 @@ module _ {f s : List ℕ} {a e b d x y u v : ℕ} {q : Skip} (H : Head f s x y a
   match-head h =
       record {
         on = λ w z i.
-            piece-not (piece-stop (H .on w z i) {y = tailOf (bytes s b d) (bytes s u v)} h) refl;
+            piece-not (piece-stop (H .on w z i) (tailOf (bytes s b d) (bytes s u v)) h) refl;
       }
 
   module _ {m : ℕ} (h : q ≡ At m) {o : Skip} (T : Tail s b d u v m e o) where
@@ -207,8 +203,8 @@ module _ {f s : List ℕ} {a e b d x y u v : ℕ} {q : Skip} (H : Head f s x y a
 abbrev timeOn : Format
 timeOn = time & list 128 (number32 & stopUpdate)
 
-module _ {f s : List ℕ} {a e b d : ℕ} {r : Span} (R : Spans 64 printable s d r) where
-  pub incomplete-route : r ≡ span.No → Incomplete f s a e b d false
+module _ {s : List ℕ} {d : ℕ} {r : Span} (R : Spans 64 printable s d r) where
+  pub incomplete-route : {f : List ℕ} {a e b : ℕ} → r ≡ span.No → Incomplete f s a e b d false
   incomplete-route h =
       record { on = λ v u q g. absurd (no-parts (optional number32 & timeOn) (span-none R h) q refl g) }
 
@@ -218,7 +214,7 @@ module _ {f s : List ℕ} {a e b d : ℕ} {r : Span} (R : Spans 64 printable s d
     routed q = parts (optional number32 & timeOn) (span-is R h) q refl
 
     module _ {o : Skip} (W : Fine (optional number32) s y o) where
-      pub incomplete-way : o ≡ Broken → Incomplete f s a e b d false
+      pub incomplete-way : {f : List ℕ} {a e b : ℕ} → o ≡ Broken → Incomplete f s a e b d false
       incomplete-way i =
           record {
             on = λ v u q g.
@@ -231,7 +227,7 @@ module _ {f s : List ℕ} {a e b d : ℕ} {r : Span} (R : Spans 64 printable s d
             → Parts (optional number32) timeOn s y z (v .1) u
         timed q = parts timeOn W (routed q .rest) i
 
-        pub incomplete-time : p ≡ span.No → Incomplete f s a e b d false
+        pub incomplete-time : {f : List ℕ} {a e b : ℕ} → p ≡ span.No → Incomplete f s a e b d false
         incomplete-time j =
             record {
               on = λ v u q g.
@@ -241,9 +237,9 @@ module _ {f s : List ℕ} {a e b d : ℕ} {r : Span} (R : Spans 64 printable s d
                   (and-right (fine id (v .0)) (fine (optional number32 & timeOn) (v .1)) g)));
             }
 
-        pub incomplete-so : {k l : ℕ} → p ≡ span.At k l → {t : Bool} → Matches f s a e b d x y k l t
+        pub incomplete-so : {f : List ℕ} {a e b : ℕ} {k l : ℕ} → p ≡ span.At k l → {t : Bool} → Matches f s a e b d x y k l t
             → Incomplete f s a e b d t
-        incomplete-so {k} {l} j {t} M = record { on = λ v u q g. told v u q }
+        incomplete-so {f} {a} {e} {b} {k} {l} j {t} M = record { on = λ v u q g. told v u q }
           where
             told : (v : Value routeOn) (u : List ℕ) → read routeOn (drop d s) ≡ some (v, u)
                 → t ≡ isSame (lexOf (bytes s a e) (headOf f (v .0) (v .1 .0) ++ tailOf (bytes s b d) (v .1 .1 .0)))
@@ -340,7 +336,7 @@ module _ {s : List ℕ} {a e b d : ℕ} (I : Inside s a e) (J : Inside s b d) wh
         ∙ ap isSame (lex-front (bytes s a mark) (bytes s mark e) (64 ∷ bytes s b d))
 
     pub dated-mark : q ≡ Broken → Dated s a e b d false
-    dated-mark i = record { on = λ c. piece-not (piece-stop P {y = bytes s b d} i) refl ∙ sym (told c) }
+    dated-mark i = record { on = λ c. piece-not (piece-stop P (bytes s b d) i) refl ∙ sym (told c) }
 
     module _ {m : ℕ} (i : q ≡ At m) {o : Skip} (Q : Piece (bytes s b d) s m e o) where
       pub dated-other : o ≡ Broken → Dated s a e b d false
@@ -387,8 +383,8 @@ module _ {f s : List ℕ} {a e : ℕ} (I : Inside s a e) where
 abbrev flagOn : Format
 flagOn = small 1 & date & routeOn
 
-module _ {f s : List ℕ} {a e : ℕ} {r : Skip} (A : Fine (optional delay) s e r) where
-  pub longer-delay : r ≡ Broken → Longer f s a e false
+module _ {s : List ℕ} {e : ℕ} {r : Skip} (A : Fine (optional delay) s e r) where
+  pub longer-delay : {f : List ℕ} {a : ℕ} → r ≡ Broken → Longer f s a e false
   longer-delay h = record { on = λ c v u q g. absurd (no-parts flagOn A q h g) }
 
   module _ {p : ℕ} (h : r ≡ At p) {o : Skip} (B : Fine (small 1) s p o) where
@@ -396,7 +392,7 @@ module _ {f s : List ℕ} {a e : ℕ} {r : Skip} (A : Fine (optional delay) s e 
         → read flagOn (drop p s) ≡ some (v .1, u)
     behind-delay q = parts flagOn A q h .rest
 
-    pub longer-flag : o ≡ Broken → Longer f s a e false
+    pub longer-flag : {f : List ℕ} {a : ℕ} → o ≡ Broken → Longer f s a e false
     longer-flag i =
         record {
           on = λ c v u q g.
@@ -410,7 +406,7 @@ module _ {f s : List ℕ} {a e : ℕ} {r : Skip} (A : Fine (optional delay) s e 
           → read (date & routeOn) (drop q s) ≡ some (v .1 .1, u)
       behind-flag x = parts (date & routeOn) B (behind-delay x) i .rest
 
-      pub longer-date : w ≡ span.No → Longer f s a e false
+      pub longer-date : {f : List ℕ} {a : ℕ} → w ≡ span.No → Longer f s a e false
       longer-date j =
           record {
             on = λ c v u x g.
@@ -419,7 +415,7 @@ module _ {f s : List ℕ} {a e : ℕ} {r : Skip} (A : Fine (optional delay) s e 
                 (and-right (fine (optional delay) (v .0)) (fine flagOn (v .1)) g));
           }
 
-      module _ {b d : ℕ} (j : w ≡ span.At b d) {t : Bool} (T : Dated s a e b d t) where
+      module _ {a b d : ℕ} (j : w ≡ span.At b d) {t : Bool} (T : Dated s a e b d t) where
         cut : {v : Trip} {u : List ℕ} → read trip (drop e s) ≡ some (v, u) → Parts date routeOn s q d (v .1 .1) u
         cut x = parts routeOn (span-is D j) (behind-flag x) refl
 
@@ -430,16 +426,16 @@ module _ {f s : List ℕ} {a e : ℕ} {r : Skip} (A : Fine (optional delay) s e 
             → datedOk (dateOf v) (bytes s a e) ≡ t
         says c {v} x = ap (λ y. datedOk y (bytes s a e)) (is-date {v} x) ∙ sym (T .on c)
 
-        pub longer-dated : t ≡ true → Longer f s a e true
-        longer-dated k =
+        pub longer-dated : {f : List ℕ} → t ≡ true → Longer f s a e true
+        longer-dated {f} k =
             record {
               on = λ c v u x g.
                   sym (ap (λ y. y || isSame (lexOf (bytes s a e) (incompleteKey f v))) (says c {v} x ∙ k));
             }
 
-        pub longer-so : t ≡ false → {y : Bool} → Incomplete f s a e b d y → Longer f s a e y
+        pub longer-so : {f : List ℕ} → t ≡ false → {y : Bool} → Incomplete f s a e b d y → Longer f s a e y
         unfolding incompleteKey
-        longer-so k {y} N =
+        longer-so {f} k {y} N =
             record {
               on = λ c v u x g.
                   N .on (v .1 .1 .1) u (cut {v} x .rest)

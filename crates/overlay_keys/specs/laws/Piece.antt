@@ -66,18 +66,17 @@ module _ {s : List ℕ} {at e : ℕ} (I : Inside s at e) where
   byte-end h = piece-short (omega arith)
 
   module _ {x b : ℕ} (h : at < e) (i : b ≡ getD s at 0) where
-    here : at < length s
-    here = omega (arith, I .within)
-
     pub byte-so : b ≡ x → Piece (x ∷ []) s at e (At (at + 1))
     byte-so f =
         let n : at + 1 - at ≡ suc 0 = omega arith in
         let j : getD s at 0 ≡ x = sym i ∙ f in
+        let here : at < length s = omega (arith, I .within) in
         record { tells = (omega arith, omega arith, rw (n, drop-cons s at 0 here) (ap (λ y. y ∷ []) j)) }
 
     pub byte-other : (b ≡ x → ⊥) → Piece (x ∷ []) s at e Broken
     byte-other f =
         let n : e - at ≡ suc (e - at - 1) = omega arith in
+        let here : at < length s = omega (arith, I .within) in
         record { tells = λ z q. f (i ∙ heads (rw (n, drop-cons s at 0 here) at q)) }
       where
         heads : {y : ℕ} {l z : List ℕ} → _≡_ {A = List ℕ} (y ∷ l) (x ∷ z) → y ≡ x
@@ -88,15 +87,15 @@ module _ {x s : List ℕ} {at e : ℕ} {r : Skip} (P : Piece x s at e r) where
   stops : r ≡ Broken → (z : List ℕ) → bytes s at e ≡ x ++ z → ⊥
   stops h = rw h at (P .tells)
 
-  pub piece-stop : {y : List ℕ} → r ≡ Broken → Piece (x ++ y) s at e Broken
-  piece-stop {y} h = record { tells = λ z q. stops h (y ++ z) (q ∙ append-assoc x y z) }
+  pub piece-stop : (y : List ℕ) → r ≡ Broken → Piece (x ++ y) s at e Broken
+  piece-stop y h = record { tells = λ z q. stops h (y ++ z) (q ∙ append-assoc x y z) }
 
   module _ {m : ℕ} (h : r ≡ At m) where
     at-m : (at ≤ m) × (m ≤ e) × (bytes s at m ≡ x)
     at-m = rw h at (P .tells)
 
     pub piece-inside : Inside s at e → Inside s m e
-    piece-inside I = record { forward = at-m .1 .0; within = I .within }
+    piece-inside I = record { forward = at-m .1; within = I .within }
 
     pub piece-then : {y : List ℕ} {q : Skip} → Piece y s m e q → Piece (x ++ y) s at e q
     piece-then {y} {q} Q = record { tells = go q (Q .tells) }
@@ -104,20 +103,20 @@ module _ {x s : List ℕ} {at e : ℕ} {r : Skip} (P : Piece x s at e r) where
         go : (q : Skip) → Pieced y s m e q → Pieced (x ++ y) s at e q
         go (At n) t = (
           omega (arith, at-m .0, t .0),
-          t .1 .0,
-          bytes-join s at m n (at-m .0) (t .0) ∙ rw (at-m .1 .1, t .1 .1) refl,
+          t .1,
+          bytes-join s at m n (at-m .0) (t .0) ∙ rw (at-m .2, t .2) refl,
         )
         go Broken t = λ z q.
             t z
             (append-cancel-left x (bytes s m e) (y ++ z)
-            (ap (λ w. w ++ bytes s m e) (sym (at-m .1 .1)) ∙ sym (bytes-join s at m e (at-m .0) (at-m .1 .0)) ∙ q
+            (ap (λ w. w ++ bytes s m e) (sym (at-m .2)) ∙ sym (bytes-join s at m e (at-m .0) (at-m .1)) ∙ q
             ∙ append-assoc x y z))
 
   pub piece-moves : Moves at e r
   piece-moves = record { tells = go r (P .tells) }
     where
       go : (r : Skip) → Pieced x s at e r → Moved at e r
-      go (At m) t = (t .0, t .1 .0)
+      go (At m) t = (t .0, t .1)
       go Broken t = tt
 
   -- the whole is the same just where the pieces end with it
@@ -133,7 +132,7 @@ module _ {x s : List ℕ} {at e : ℕ} {r : Skip} (P : Piece x s at e r) where
   pub piece-end : {m : ℕ} → r ≡ At m → Inside s at e → (t : Bool) → t ≡ eqb m e → t ≡ isSame (lexOf (bytes s at e) x)
   piece-end {m} h I true i =
       let j : m ≡ e = eqb-true m e (sym i) in
-      let k : bytes s at e ≡ x = ap (bytes s at) (sym j) ∙ at-m h .1 .1 in
+      let k : bytes s at e ≡ x = ap (bytes s at) (sym j) ∙ at-m h .2 in
       sym (ap isSame (ap (λ y. lexOf y x) k ∙ lex-itself x))
   piece-end {m} h I false i =
       let A = at-m h in
@@ -143,10 +142,10 @@ module _ {x s : List ℕ} {at e : ℕ} {r : Skip} (P : Piece x s at e r) where
         arith,
         bytes-length I,
         ap length (lex-same (bytes s at e) x q),
-        ap length (A .1 .1),
+        ap length (A .2),
         A .0,
-        A .1 .0,
-        bytes-length (record { forward = A .0; within = within (A .1 .0) (I .within) }),
+        A .1,
+        bytes-length (record { forward = A .0; within = within (A .1) (I .within) }),
       )))
     where
       within : {a b c : ℕ} → a ≤ b → b ≤ c → a ≤ c
@@ -174,7 +173,7 @@ module _ {at e : ℕ} {r : Skip} (M : Moves at e r) {m : ℕ} (h : r ≡ At m) w
       go Broken t = tt
 
 -- numbers in decimal
-module _ {k n : ℕ} {s : List ℕ} {at e : ℕ} where
+module _ (k n : ℕ) {s : List ℕ} {at e : ℕ} where
   pub decimal-none : Inside s at e → k ≡ 0 → Piece (decimalOf k n) s at e (At at)
   decimal-none I z = rw z (piece-empty I)
 
@@ -187,7 +186,7 @@ module _ {k n : ℕ} {s : List ℕ} {at e : ℕ} where
     pub decimal-stop : r ≡ Broken → Piece (decimalOf k n) s at e Broken
     decimal-stop i =
         let j : k ≡ suc (k - 1) = omega arith in
-        rw (j, le-ltb n 10 h) (piece-stop P i)
+        rw (j, le-ltb n 10 h) (piece-stop P ((48 + n % 10) ∷ []) i)
 
     pub decimal-more : {m : ℕ} → r ≡ At m → {q : Skip} → Piece ((48 + n % 10) ∷ []) s m e q
         → Piece (decimalOf k n) s at e q

@@ -6,7 +6,8 @@ use mathlib.Core.Option.{Option, none, some}
 use Prim.Native.Nat.{ℕ, _+_, _-_, _≤_}
 use native.Mathlib.Omega.{arith}
 use lib.Dec.{eqb}
-use lib.ListN.{length, drop, length-append, length-drop}
+use lib.ListN.{length, take, drop, length-append, length-drop}
+use lib.Seq.{take-all}
 use borrow.Author.Tests.{eqb-true, eqb-false, eq-eqb, ne-eqb}
 use Rattle.basics.specs.Lists.{all}
 use Rattle.slices.specs.Lists.{zeros}
@@ -47,8 +48,10 @@ module _ {s : List ℕ} {r : Skip} (T : Tested overlay stateGood s 0 r) where
   open-no h = go (missed (T .is) h)
     where
       go : Missed (holds stateGood) (read overlay s) → No ≡ ending (heldState (read overlay s))
-      go (absent i) = rw i refl
-      go (refused x i t) = rw i (held-no (all (eqb 0) (x .1)) (valid (x .0)) (x .0) (sym (state-valid (x .0)) ∙ t))
+      go (absent i) = sym (ap (λ o. ending (heldState o)) i)
+      go (refused x i t) =
+          held-no (all (eqb 0) (x .1)) (valid (x .0)) (x .0) (sym (state-valid (x .0)) ∙ t)
+          ∙ sym (ap (λ o. ending (heldState o)) i)
 
   module _ {e : ℕ} (h : r ≡ skip.At e) where
     state : State
@@ -68,10 +71,19 @@ module _ {s : List ℕ} {r : Skip} (T : Tested overlay stateGood s 0 r) where
         ∙ ap (λ k. length (write overlay state) + k) (length-drop e s) in
         omega (arith, n, good (T .is) h .within)
 
-    module _ {t : Bool} (z : t ≡ zeros (drop e s)) where
+    module _ {t : Bool} (z : t ≡ zeros (take (length s - e) (drop e s))) where
+      rest : take (length s - e) (drop e s) ≡ drop e s
+      rest = take-all (length s - e) (drop e s) (omega (arith, length-drop e s))
+
+      told : all (eqb 0) (drop e s) ≡ t
+      told = sym (z ∙ ap zeros rest ∙ zeros-all (drop e s))
+
       held : stateOf s ≡ cond t (some state) none
       unfolding stateOf
-      held = rw (reads, is-valid, ← zeros-all (drop e s), ← z) (go t)
+      held =
+          ap heldState reads
+          ∙ ap (λ b. cond {A = Option State} (b && valid state) (some state) none) told
+          ∙ ap (λ b. cond {A = Option State} (t && b) (some state) none) is-valid ∙ go t
         where
           go : (t : Bool) → cond {A = Option State} (t && true) (some state) none ≡ cond {A = Option State} t
               (some state) none

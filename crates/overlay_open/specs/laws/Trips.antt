@@ -46,18 +46,18 @@ fine-entry v h =
     = and-left (fine trip (v .1)) (ascending numbers (updatesOf (v .1))) (trip-good (v .1) ∙ j) in
     rw (i, k) refl
 
-module _ {f s : List ℕ} {at : ℕ} {r : Span} (S : Spans 137 printable s at r) where
-  pub trip-entry-key : r ≡ span.No → Entered 137 printable (entryGood f) s at entry.No
-  trip-entry-key h = enter-no (more-no (entry-no S tripGood h) (keyIn f) refl)
+module _ {s : List ℕ} {at : ℕ} {r : Span} (S : Spans 137 printable s at r) where
+  pub trip-entry-key : {f : List ℕ} → r ≡ span.No → Entered 137 printable (entryGood f) s at entry.No
+  trip-entry-key {f} h = enter-no (more-no (entry-no S tripGood h) (keyIn f) refl)
 
   module _ {a e : ℕ} (h : r ≡ span.At a e) {x : Skip} (T : Tested trip tripGood s e x) where
     whole : Tested tripEntry (behind (text 137 printable) tripGood) s at x
     whole = entry-so S h T
 
-    pub trip-entry-record : x ≡ Broken → Entered 137 printable (entryGood f) s at entry.No
-    trip-entry-record i = enter-no (more-no whole (keyIn f) i)
+    pub trip-entry-record : {f : List ℕ} → x ≡ Broken → Entered 137 printable (entryGood f) s at entry.No
+    trip-entry-record {f} i = enter-no (more-no whole (keyIn f) i)
 
-    module _ {q : ℕ} (i : x ≡ At q) {t : Bool} (K : Keys f s a e t) where
+    module _ {q : ℕ} (i : x ≡ At q) {f : List ℕ} {t : Bool} (K : Keys f s a e t) where
       tells : Tells tripEntry (keyIn f) s at t
       tells = record { on = told }
         where
@@ -108,12 +108,12 @@ has-append : (x y : List ℕ) → hasByte 64 (x ++ y) ≡ (hasByte 64 x || hasBy
 has-append [] y = refl
 has-append (b ∷ x) y = rw (has-append x y) (sym (or-assoc (eqb b 64) (hasByte 64 x) (hasByte 64 y)))
 
-pub plain-so : {f k : List ℕ} {m : Bool} → m ≡ hasByte 64 f → {y : ℕ} → (y ≡ cond (m || hasByte 64 k) 0 1) × (y ≤ 1)
+pub plain-so : (f k : List ℕ) {m : Bool} → m ≡ hasByte 64 f → {y : ℕ} → y ≡ cond (m || hasByte 64 k) 0 1
     → y ≡ plain f k
-plain-so {f} {k} h e = e .0 ∙ ap (λ b. cond {A = ℕ} b 0 1) (ap (λ b. b || hasByte 64 k) h ∙ sym (has-append f (58 ∷ k)))
+plain-so f k h e = e ∙ ap (λ b. cond {A = ℕ} b 0 1) (ap (λ b. b || hasByte 64 k) h ∙ sym (has-append f (58 ∷ k)))
 
 -- the count
-module _ {c n m : ℕ} where
+module _ (c n m : ℕ) where
   pub count-plain : c ≡ m → isCount c n m ≡ true
   count-plain h = rw (eq-eqb c m h) refl
 
@@ -123,7 +123,7 @@ module _ {c n m : ℕ} where
   pub count-none : (c ≡ m → ⊥) → (c ≡ n → ⊥) → isCount c n m ≡ false
   count-none h i = rw (ne-eqb c m h, ne-eqb c n i) refl
 
-module _ {b m : Bool} where
+module _ (b m : Bool) where
   pub counted-marked : m ≡ true → 0 ≡ cond {A = ℕ} (m || b) 0 1
   counted-marked h = rw h refl
 
@@ -135,7 +135,7 @@ module _ {b m : Bool} where
     counted-one j = rw (h, ← i, j) refl
 
 -- the list of them
-module _ {f : List ℕ} {c : ℕ} {s : List ℕ} {at : ℕ} {o : Numeral} (e : Number s at o) where
+module _ (f : List ℕ) (c : ℕ) {s : List ℕ} {at : ℕ} {o : Numeral} (e : Number s at o) where
   pub trips-no : o ≡ Bad → Tested (list 2048 tripEntry) (tripsGood f c) s at Broken
   unfolding tripsGood
   trips-no h = climbs-no 137 printable (entryGood f) (plain f) (isCount c) 2048 e h
