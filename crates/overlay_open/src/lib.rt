@@ -80,7 +80,8 @@ fn counted(marked: bool, s: &[u8], a: usize, e: usize) -> u64
 // n trips one after another, ascending by key; `count` is the number of those without '@', or n.
 fn trips_from(n: u64, count: u64, marked: bool, feed: &[u8], s: &[u8], at: usize) -> Skip
     requires { ⌜ (at ≤ length (now s)) × (n ≤ 2048) × (marked ≡ hasByte 64 (now feed)) ⌝ }
-    ensures { λ r. ⌜ Climbs 137 printable (entryGood (now (feed .entry))) (plain (now (feed .entry))) (isCount count n) n (now (s .entry)) at r ⌝ }
+    ensures { λ r. ⌜ Climbs 137 printable (entryGood (now (feed .entry))) (plain (now (feed .entry)))
+        (isCount count n) n (now (s .entry)) at r ⌝ }
 {
     let mut p = at;
     let mut left = n;
@@ -275,7 +276,8 @@ fn optional_timestamp(s: &[u8], at: usize) -> Skip
 
 // A feed from its trips on, from its count on, and whole: `id` is the feed's.
 fn from_trips(id: &[u8], count: u64, s: &[u8], at: usize) -> Skip
-    ensures { λ r. ⌜ Tested (list 2048 tripEntry & list 1024 vehicleEntry & list 256 alert) (listsGood (now (id .entry)) count) (now (s .entry)) at r ⌝ }
+    ensures { λ r. ⌜ Tested (list 2048 tripEntry & list 1024 vehicleEntry & list 256 alert) (listsGood (now (id .entry)) count)
+        (now (s .entry)) at r ⌝ }
 {
     let Skip::At(p) = trips(id, count, s, at) else {
         return Skip::Broken;
@@ -287,7 +289,8 @@ fn from_trips(id: &[u8], count: u64, s: &[u8], at: usize) -> Skip
 }
 
 fn from_count(id: &[u8], s: &[u8], at: usize) -> Skip
-    ensures { λ r. ⌜ Tested (number 0 2048 & list 2048 tripEntry & list 1024 vehicleEntry & list 256 alert) (countGood (now (id .entry))) (now (s .entry)) at r ⌝ }
+    ensures { λ r. ⌜ Tested (number 0 2048 & list 2048 tripEntry & list 1024 vehicleEntry & list 256 alert)
+        (countGood (now (id .entry))) (now (s .entry)) at r ⌝ }
 {
     let Numeral::Got(c, p) = number_at(s, at) else {
         return Skip::Broken;

@@ -1,4 +1,5 @@
-use Rattle.overlay_keys.specs.laws.Keys.{incomplete-route, incomplete-so, incomplete-time, incomplete-way, span-inside}
+use Rattle.overlay_keys.specs.laws.Keys.{incomplete-route, incomplete-so, incomplete-time, incomplete-way}
+use Rattle.overlay_keys.specs.laws.Keys.{span-inside}
 use borrow.Author.Needs.{needs}
 use Rattle.overlay_keys.proofs.incomplete.Statement.{statement}
 use Rattle.overlay_keys.proofs.incomplete.Tie as tie

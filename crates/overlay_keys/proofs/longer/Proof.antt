@@ -1,4 +1,5 @@
-use Rattle.overlay_keys.specs.laws.Keys.{longer-date, longer-dated, longer-delay, longer-flag, longer-so, span-inside}
+use Rattle.overlay_keys.specs.laws.Keys.{longer-date, longer-dated, longer-delay, longer-flag, longer-so}
+use Rattle.overlay_keys.specs.laws.Keys.{span-inside}
 use borrow.Author.Needs.{needs}
 use Rattle.overlay_keys.proofs.longer.Statement.{statement}
 use Rattle.overlay_keys.proofs.longer.Tie as tie

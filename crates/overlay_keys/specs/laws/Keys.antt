@@ -33,10 +33,14 @@ use Rattle.slices.specs.laws.Lists.{and-left, and-right}
 use Rattle.maps.specs.Map.{isSame}
 use Rattle.decode.specs.Trip.{Trip, dateOf, delay, date, id, number32, time, stopUpdate, trip}
 use Rattle.basics.specs.Options.{Maybe}
-use Rattle.decode.specs.Key.{directionText, decimalOf, prefixed, headOf, tailOf, rawOk, datedOk, datedKey, incompleteKey, keyOk}
+use Rattle.decode.specs.Key.{directionText, decimalOf, prefixed, headOf, tailOf, rawOk, datedOk, datedKey}
+use Rattle.decode.specs.Key.{incompleteKey, keyOk}
 use Rattle.overlay_keys.specs.promises.Piece.{bytes, Inside, Piece}
-use Rattle.overlay_keys.specs.promises.Keys.{routeOn, Direction, Route, Head, Tail, Matches, Incomplete, Dated, Longer, Keys}
-use Rattle.overlay_keys.specs.laws.Piece.{bytes-join, bytes-length, bytes-none, piece-empty, piece-stop, piece-then, piece-not, piece-end, piece-moves, piece-inside, moves-stop, moves-none, moves-inside, moves-then}
+use Rattle.overlay_keys.specs.promises.Keys.{routeOn, Direction, Route, Head, Tail, Matches, Incomplete, Dated}
+use Rattle.overlay_keys.specs.promises.Keys.{Longer, Keys}
+use Rattle.overlay_keys.specs.laws.Piece.{bytes-join, bytes-length, bytes-none, piece-empty, piece-stop}
+use Rattle.overlay_keys.specs.laws.Piece.{piece-then, piece-not, piece-end, piece-moves, piece-inside}
+use Rattle.overlay_keys.specs.laws.Piece.{moves-stop, moves-none, moves-inside, moves-then}
 
 -- THE DIRECTION in decimal
 abbrev Way : Type 0
@@ -74,7 +78,8 @@ module _ {s : List ℕ} {y at e : ℕ} where
 
     module _ (z : c ≡ 0 → ⊥) {o : Numeral} (N : Number s (y + 1) o) where
       pub direction-bad : o ≡ Bad → Direction s y at e Broken
-      direction-bad k = record { moves = moves-stop; on = λ w u q. none-some (rw (no-number N k) at (given s y c h i z q)) }
+      direction-bad k =
+          record { moves = moves-stop; on = λ w u q. none-some (rw (no-number N k) at (given s y c h i z q)) }
 
       pub direction-so : {n p : ℕ} → o ≡ Got n p → {r : Skip} → Piece (decimalOf 10 n) s at e r → Direction s y at e r
       direction-so {n} {p} k {r} P =
@@ -127,7 +132,8 @@ module _ {f s : List ℕ} {x y at e : ℕ} {q : Skip} (P : Piece before s at e q
   head-mark h =
       record {
         moves = moves-stop;
-        on = λ w u i. piece-stop (piece-stop (piece-stop P (prefixed f (bytes s x y)) h) between refl) (directionText w) refl;
+        on = λ w u i.
+            piece-stop (piece-stop (piece-stop P (prefixed f (bytes s x y)) h) between refl) (directionText w) refl;
       }
 
   module _ {m : ℕ} (h : q ≡ At m) {o : Skip} (R : Route f s x y m e o) where
@@ -135,7 +141,8 @@ module _ {f s : List ℕ} {x y at e : ℕ} {q : Skip} (P : Piece before s at e q
     first-two = piece-then P h (R .is)
 
     pub head-route : o ≡ Broken → Head f s x y at e Broken
-    head-route i = record { moves = moves-stop; on = λ w u j. piece-stop (piece-stop first-two between i) (directionText w) refl }
+    head-route i =
+        record { moves = moves-stop; on = λ w u j. piece-stop (piece-stop first-two between i) (directionText w) refl }
 
     module _ {n : ℕ} (i : o ≡ At n) {g : Skip} (B : Piece between s n e g) where
       first-three : Piece (before ++ prefixed f (bytes s x y) ++ between) s at e g
@@ -237,8 +244,8 @@ module _ {s : List ℕ} {d : ℕ} {r : Span} (R : Spans 64 printable s d r) wher
                   (and-right (fine id (v .0)) (fine (optional number32 & timeOn) (v .1)) g)));
             }
 
-        pub incomplete-so : {f : List ℕ} {a e b : ℕ} {k l : ℕ} → p ≡ span.At k l → {t : Bool} → Matches f s a e b d x y k l t
-            → Incomplete f s a e b d t
+        pub incomplete-so : {f : List ℕ} {a e b : ℕ} {k l : ℕ} → p ≡ span.At k l → {t : Bool}
+            → Matches f s a e b d x y k l t → Incomplete f s a e b d t
         incomplete-so {f} {a} {e} {b} {k} {l} j {t} M = record { on = λ v u q g. told v u q }
           where
             told : (v : Value routeOn) (u : List ℕ) → read routeOn (drop d s) ≡ some (v, u)

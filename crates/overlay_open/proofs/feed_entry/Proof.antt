@@ -1,4 +1,5 @@
-use Rattle.formats_check.specs.laws.Climbing.{enter-bad, enter-no, enter-so, keyed-no, keyed-so, span-forward, span-within}
+use Rattle.formats_check.specs.laws.Climbing.{enter-bad, enter-no, enter-so, keyed-no, keyed-so, span-forward}
+use Rattle.formats_check.specs.laws.Climbing.{span-within}
 use borrow.Author.Needs.{needs}
 use Rattle.overlay_open.proofs.feed_entry.Statement.{statement}
 use Rattle.overlay_open.proofs.feed_entry.Tie as tie

@@ -5,8 +5,10 @@ use mathlib.Core.Path.{refl}
 use lib.ListN.{length}
 use native.Mathlib.Omega.{arith}
 use Rattle.formats.specs.Class.{token}
-use Rattle.formats_check.specs.laws.Climbing.{known, Climbing, climbing-start, climbing-bad, climbing-order, climbing-on}
-use Rattle.formats_check.specs.laws.Climbing.{climbing-end, entered-forward, entered-in, entered-past, weightless, whatever}
+use Rattle.formats_check.specs.laws.Climbing.{known, Climbing, climbing-start, climbing-bad, climbing-order}
+use Rattle.formats_check.specs.laws.Climbing.{climbing-on}
+use Rattle.formats_check.specs.laws.Climbing.{climbing-end, entered-forward, entered-in, entered-past, weightless}
+use Rattle.formats_check.specs.laws.Climbing.{whatever}
 use Rattle.overlay_open.specs.promises.Good.{namedGood}
 use Rattle.overlay_open.proofs.feeds_from.Statement.{statement}
 use Rattle.overlay_open.proofs.feeds_from.Tie as tie

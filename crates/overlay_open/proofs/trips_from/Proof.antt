@@ -5,7 +5,8 @@ use Rattle.overlay_open.specs.laws.Trips.{plain-so, count-plain, count-a
 use lib.ListN.{length}
 use native.Mathlib.Omega.{arith}
 use Rattle.formats.specs.Class.{printable}
-use Rattle.formats_check.specs.laws.Climbing.{known, Climbing, climbing-start, climbing-bad, climbing-order, climbing-so}
+use Rattle.formats_check.specs.laws.Climbing.{known, Climbing, climbing-start, climbing-bad, climbing-order}
+use Rattle.formats_check.specs.laws.Climbing.{climbing-so}
 use Rattle.formats_check.specs.laws.Climbing.{climbing-end, climbing-sum, entered-forward, entered-in, entered-past}
 use Rattle.overlay_open.specs.promises.Good.{entryGood, plain, isCount}
 use Rattle.overlay_open.proofs.trips_from.Statement.{statement}

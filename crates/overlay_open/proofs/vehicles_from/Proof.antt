@@ -5,8 +5,10 @@ use mathlib.Core.Path.{refl}
 use lib.ListN.{length}
 use native.Mathlib.Omega.{arith}
 use Rattle.formats.specs.Class.{printable}
-use Rattle.formats_check.specs.laws.Climbing.{known, Climbing, climbing-start, climbing-bad, climbing-order, climbing-on}
-use Rattle.formats_check.specs.laws.Climbing.{climbing-end, entered-forward, entered-in, entered-past, weightless, whatever}
+use Rattle.formats_check.specs.laws.Climbing.{known, Climbing, climbing-start, climbing-bad, climbing-order}
+use Rattle.formats_check.specs.laws.Climbing.{climbing-on}
+use Rattle.formats_check.specs.laws.Climbing.{climbing-end, entered-forward, entered-in, entered-past, weightless}
+use Rattle.formats_check.specs.laws.Climbing.{whatever}
 use Rattle.overlay_open.specs.promises.Good.{vehicleGood}
 use Rattle.overlay_open.proofs.vehicles_from.Statement.{statement}
 use Rattle.overlay_open.proofs.vehicles_from.Tie as tie

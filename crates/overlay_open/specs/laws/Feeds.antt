@@ -17,7 +17,8 @@ use Rattle.formats.specs.declared.Skip.the-variants.{At, Broken}
 use Rattle.overlay.specs.State.{timestamp}
 use Rattle.formats_check.specs.promises.Checked.{Number, Fine, Test, behind, under, Tested}
 use Rattle.formats_check.specs.laws.Checked.{good, under-no, under-so, behind-no, behind-so}
-use Rattle.formats_check.specs.laws.Elements.{a-number, number-no, number-high, number-so, signed-no, signed-so, around-in}
+use Rattle.formats_check.specs.laws.Elements.{a-number, number-no, number-high, number-so, signed-no, signed-so}
+use Rattle.formats_check.specs.laws.Elements.{around-in}
 
 module _ {s : List ℕ} {at : ℕ} {o : Numeral} (e : Number s at o) where
   below : {n p : ℕ} → o ≡ Got n p → n < 2 ^ 64

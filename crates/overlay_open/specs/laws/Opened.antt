@@ -6,18 +6,21 @@ use mathlib.Core.Option.{Option, none, some}
 use Prim.Native.Nat.{ℕ, _+_, _-_, _≤_}
 use native.Mathlib.Omega.{arith}
 use lib.Dec.{eqb}
-use lib.ListN.{length, take, drop, length-append, length-drop}
-use lib.Seq.{take-all}
+use lib.ListN.{length, take, drop, replicate, length-append, length-drop}
+use lib.Seq.{take-all, take-append-seam, drop-append-seam}
 use borrow.Author.Tests.{eqb-true, eqb-false, eq-eqb, ne-eqb}
 use Rattle.basics.specs.Lists.{all}
 use Rattle.slices.specs.Lists.{zeros}
+use Rattle.slices.specs.laws.Lists.{zeros-replicate}
 use Rattle.formats.specs.Format.{read, write}
 use Rattle.formats.specs.laws.Format.{law}
 use Rattle.formats.specs.declared.Skip.{Skip}
 use Rattle.formats.specs.declared.Skip.the-variants as skip
 use Rattle.overlay.specs.State.{State, overlay}
 use Rattle.overlay.specs.Valid.{valid}
-use Rattle.overlay.specs.Image.{heldState, stateOf}
+use Rattle.overlay.specs.Image.{filled, image, heldState, stateOf}
+use Rattle.overlay.specs.laws.Buffer.{state-buffer}
+use Rattle.formats_read.specs.promises.Here.{Here}
 use Rattle.formats_check.specs.promises.Checked.{holds, Tested}
 use Rattle.formats_check.specs.laws.Checked.{Missed, absent, refused, good, missed}
 use Rattle.overlay_open.specs.declared.Ending.{Ending}
@@ -95,3 +98,26 @@ module _ {s : List ℕ} {r : Skip} (T : Tested overlay stateGood s 0 r) where
 
       pub open-more : t ≡ false → No ≡ ending (stateOf s)
       open-more f = sym (ap ending (held ∙ ap (λ b. cond {A = Option State} b (some state) none) f))
+
+-- what the answer says: the state stands there, and zeros alone are behind it
+pub state-here : (b : List ℕ) (s : State) → stateOf b ≡ some s → Here overlay b 0 (length (write overlay s)) s
+unfolding image filled
+state-here b s e =
+    let B = state-buffer b s e in
+    record {
+      written =
+          ap (take (length (write overlay s))) (B .is)
+          ∙ take-append-seam (write overlay s) (replicate (length b - length (write overlay s)) 0);
+      fits = B .fits;
+      forward = omega arith;
+      within = B .room;
+    }
+
+pub state-zeros : (b : List ℕ) (s : State) → stateOf b ≡ some s
+    → all (eqb 0) (drop (length (write overlay s)) b) ≡ true
+unfolding image filled
+state-zeros b s e =
+    let n : ℕ = length b - length (write overlay s) in
+    ap (λ l. all (eqb 0) (drop (length (write overlay s)) l)) (state-buffer b s e .is)
+    ∙ ap (all (eqb 0)) (drop-append-seam (write overlay s) (replicate n 0)) ∙ sym (zeros-all (replicate n 0))
+    ∙ zeros-replicate n

@@ -6,7 +6,8 @@ use mathlib.Core.Bool.{Bool, true, false, _&&_}
 use lib.Dec.{leb}
 use lib.ListN.{length}
 use Rattle.basics.specs.Lists.{all}
-use Rattle.formats.specs.Format.{Format, never, empty, number, signed, small, text, float, constant, list, choice, _&_, Value}
+use Rattle.formats.specs.Format.{Format, never, empty, number, signed, small, text, float, constant, list, choice}
+use Rattle.formats.specs.Format.{_&_, Value}
 use Rattle.formats_judge.specs.Judged.{ok}
 use Rattle.overlay.specs.Valid.{within}
 use Rattle.formats_check.specs.promises.Checked.{fine}
