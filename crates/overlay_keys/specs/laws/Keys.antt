@@ -76,18 +76,18 @@ module _ {s : List ℕ} {y at e : ℕ} where
         opening : read (optional number32) (drop y s) ≡ some (inl tt, drop (y + 1) s)
         opening = rw (opened s y c h i, z) refl
 
-    module _ (z : c ≡ 0 → ⊥) {o : Numeral} (N : Number s (y + 1) o) where
-      pub direction-bad : o ≡ Bad → Direction s y at e Broken
-      direction-bad k =
-          record { moves = moves-stop; on = λ w u q. none-some (rw (no-number N k) at (given s y c h i z q)) }
+  module _ (h : y < length s) (z : getD s y 0 ≡ 0 → ⊥) {o : Numeral} (N : Number s (y + 1) o) where
+    pub direction-bad : o ≡ Bad → Direction s y at e Broken
+    direction-bad k =
+        record { moves = moves-stop; on = λ w u q. none-some (rw (no-number N k) at (given s y (getD s y 0) h refl z q)) }
 
-      pub direction-so : {n p : ℕ} → o ≡ Got n p → {r : Skip} → Piece (decimalOf 10 n) s at e r → Direction s y at e r
-      direction-so {n} {p} k {r} P =
-          record {
-            moves = piece-moves P;
-            on = λ w u q. found (λ (w : Way) u. Piece (directionText w) s at e r) (rw (a-number N k .reads) at
-                (given s y c h i z q)) P;
-          }
+    pub direction-so : {n p : ℕ} → o ≡ Got n p → {r : Skip} → Piece (decimalOf 10 n) s at e r → Direction s y at e r
+    direction-so {n} {p} k {r} P =
+        record {
+          moves = piece-moves P;
+          on = λ w u q. found (λ (w : Way) u. Piece (directionText w) s at e r) (rw (a-number N k .reads) at
+              (given s y (getD s y 0) h refl z q)) P;
+        }
 
 -- THE ROUTE, with the feed in front
 module _ {f s : List ℕ} {x y at e : ℕ} where
@@ -305,6 +305,9 @@ unfolding lexOf
 lex-front [] a b = refl
 lex-front (y ∷ x) a b = rw (le-ltb y y (omega arith)) (lex-front x a b)
 
+shift : (e a k : ℕ) → e - k - 1 - a ≡ e - a - suc k
+shift e a k = omega arith
+
 module _ {s : List ℕ} {a e b d : ℕ} (I : Inside s a e) (J : Inside s b d) where
   abbrev size : ℕ
   size = length (bytes s a e) - suc (length (bytes s b d))
@@ -329,7 +332,7 @@ module _ {s : List ℕ} {a e b d : ℕ} (I : Inside s a e) (J : Inside s b d) wh
 
     in-front : take size (bytes s a e) ≡ bytes s a mark
     in-front =
-        let n : mark - a ≡ size = omega (arith, sized, I .forward) in
+        let n : mark - a ≡ size = shift e a (d - b) ∙ sym sized in
         take-take size (e - a) (drop a s) (omega (arith, sized)) ∙ ap (λ n. take n (drop a s)) (sym n)
 
     told : all (allowed printable) (bytes s a e) ≡ true
@@ -431,13 +434,13 @@ module _ {s : List ℕ} {e : ℕ} {r : Skip} (A : Fine (optional delay) s e r) w
 
         says : inClass printable (bytes s a e) ≡ true → {v : Trip} {u : List ℕ} → read trip (drop e s) ≡ some (v, u)
             → datedOk (dateOf v) (bytes s a e) ≡ t
-        says c {v} x = ap (λ y. datedOk y (bytes s a e)) (is-date {v} x) ∙ sym (T .on c)
+        says c {v = v} x = ap (λ y. datedOk y (bytes s a e)) (is-date {v = v} x) ∙ sym (T .on c)
 
         pub longer-dated : {f : List ℕ} → t ≡ true → Longer f s a e true
         longer-dated {f} k =
             record {
               on = λ c v u x g.
-                  sym (ap (λ y. y || isSame (lexOf (bytes s a e) (incompleteKey f v))) (says c {v} x ∙ k));
+                  sym (ap (λ y. y || isSame (lexOf (bytes s a e) (incompleteKey f v))) (says c {v = v} x ∙ k));
             }
 
         pub longer-so : {f : List ℕ} → t ≡ false → {y : Bool} → Incomplete f s a e b d y → Longer f s a e y
@@ -445,11 +448,11 @@ module _ {s : List ℕ} {e : ℕ} {r : Skip} (A : Fine (optional delay) s e r) w
         longer-so {f} k {y} N =
             record {
               on = λ c v u x g.
-                  N .on (v .1 .1 .1) u (cut {v} x .rest)
+                  N .on (v .1 .1 .1) u (cut {v = v} x .rest)
                   (and-right (fine date (dateOf v)) (fine routeOn (v .1 .1 .1))
                   (and-right (fine (optional delay) (v .0)) (fine flagOn (v .1)) g))
                   ∙ ap (λ z. isSame (lexOf (bytes s a e) (headOf f (v .1 .1 .1 .0) (v .1 .1 .1 .1 .0) ++ tailOf z
-                  (v .1 .1 .1 .1 .1 .0)))) (sym (is-date {v} x))
+                  (v .1 .1 .1 .1 .1 .0)))) (sym (is-date {v = v} x))
                   ∙ sym
-                  (ap (λ z. z || isSame (lexOf (bytes s a e) (incompleteKey f v))) (says c {v} x ∙ k));
+                  (ap (λ z. z || isSame (lexOf (bytes s a e) (incompleteKey f v))) (says c {v = v} x ∙ k));
             }

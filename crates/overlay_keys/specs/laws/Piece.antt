@@ -145,7 +145,7 @@ module _ {x s : List ℕ} {at e : ℕ} {r : Skip} (P : Piece x s at e r) where
         ap length (A .2),
         A .0,
         A .1,
-        bytes-length (record { forward = A .0; within = within (A .1) (I .within) }),
+        bytes-length {s = s} {a = at} {e = m} (record { forward = A .0; within = within (A .1) (I .within) }),
       )))
     where
       within : {a b c : ℕ} → a ≤ b → b ≤ c → a ≤ c
