@@ -41,7 +41,7 @@ returns-3 : tie.Need-returns-3
 returns-3 c = search incomplete-time
 
 matches-requires : tie.Need-matches-requires
-matches-requires c κs = (search needs, search needs, search span-inside, search span-inside)
+matches-requires c κs = (search needs, (search needs, (search span-inside, search span-inside)))
 
 returns-4 : tie.Need-returns-4
 returns-4 c = search incomplete-so

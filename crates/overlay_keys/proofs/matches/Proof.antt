@@ -16,7 +16,7 @@ returns : tie.Need-returns
 returns c = search match-head
 
 tail-requires : tie.Need-tail-requires
-tail-requires c κs = (search needs, search needs, search head-inside)
+tail-requires c κs = (search needs, (search needs, search head-inside))
 
 enum-known-q : tie.Need-enum-known-q
 enum-known-q c = search needs

@@ -116,8 +116,8 @@ module _ {f s : List ℕ} {x y at e : ℕ} where
         pub route-so : {n : ℕ} → o ≡ At n → {r : Skip} → Piece (bytes s x y) s n e r → Route f s x y at e r
         route-so j R = whole (piece-then P i (piece-then Q j R))
 
-pub route-inside : {f s : List ℕ} {x y at e : ℕ} {r : Skip} → Route f s x y at e r → {m : ℕ} → r ≡ At m → Inside s at e
-    → Inside s m e
+pub route-inside : {f s : List ℕ} {x y at e : ℕ} {r : Skip} → Route f s x y at e r → {m : ℕ} → r ≡ At m → {a : ℕ}
+    → Inside s a e → Inside s m e
 route-inside R h I = piece-inside (R .is) h I
 
 -- THE HEAD of the incomplete key
@@ -181,8 +181,8 @@ module _ {s : List ℕ} {b d u v at e : ℕ} {q : Skip} (P : Piece dateMark s at
       pub tail-so : {p : ℕ} → g ≡ At p → {r : Skip} → Piece (bytes s u v) s p e r → Tail s b d u v at e r
       tail-so j T = record { is = piece-then (piece-then (piece-then P h D) i M) j T }
 
-pub head-inside : {f s : List ℕ} {x y at e : ℕ} {r : Skip} → Head f s x y at e r → {m : ℕ} → r ≡ At m → Inside s at e
-    → Inside s m e
+pub head-inside : {f s : List ℕ} {x y at e : ℕ} {r : Skip} → Head f s x y at e r → {m : ℕ} → r ≡ At m → {a : ℕ}
+    → Inside s a e → Inside s m e
 head-inside H h I = moves-inside (H .moves) h I
 
 -- where a text stands is inside
@@ -305,6 +305,9 @@ unfolding lexOf
 lex-front [] a b = refl
 lex-front (y ∷ x) a b = rw (le-ltb y y (omega arith)) (lex-front x a b)
 
+less : (x n k : ℕ) → x ≡ n → x - k ≤ n
+less x n k h = omega arith
+
 shift : (e a k : ℕ) → e - k - 1 - a ≡ e - a - suc k
 shift e a k = omega arith
 
@@ -333,7 +336,8 @@ module _ {s : List ℕ} {a e b d : ℕ} (I : Inside s a e) (J : Inside s b d) wh
     in-front : take size (bytes s a e) ≡ bytes s a mark
     in-front =
         let n : mark - a ≡ size = shift e a (d - b) ∙ sym sized in
-        take-take size (e - a) (drop a s) (omega (arith, sized)) ∙ ap (λ n. take n (drop a s)) (sym n)
+        take-take size (e - a) (drop a s)
+        (less (length (bytes s a e)) (e - a) (suc (length (bytes s b d))) (bytes-length I)) ∙ ap (λ n. take n (drop a s)) (sym n)
 
     told : all (allowed printable) (bytes s a e) ≡ true
         → datedOk (bytes s b d) (bytes s a e) ≡ isSame (lexOf (bytes s mark e) (64 ∷ bytes s b d))

@@ -94,7 +94,7 @@ module _ {x s : List ℕ} {at e : ℕ} {r : Skip} (P : Piece x s at e r) where
     at-m : (at ≤ m) × (m ≤ e) × (bytes s at m ≡ x)
     at-m = rw h at (P .tells)
 
-    pub piece-inside : Inside s at e → Inside s m e
+    pub piece-inside : {a : ℕ} → Inside s a e → Inside s m e
     piece-inside I = record { forward = at-m .1; within = I .within }
 
     pub piece-then : {y : List ℕ} {q : Skip} → Piece y s m e q → Piece (x ++ y) s at e q
@@ -162,7 +162,7 @@ module _ {at e : ℕ} {r : Skip} (M : Moves at e r) {m : ℕ} (h : r ≡ At m) w
   moved : (at ≤ m) × (m ≤ e)
   moved = rw h at (M .tells)
 
-  pub moves-inside : {s : List ℕ} → Inside s at e → Inside s m e
+  pub moves-inside : {s : List ℕ} {a : ℕ} → Inside s a e → Inside s m e
   moves-inside I = record { forward = moved .1; within = I .within }
 
   pub moves-then : {q : Skip} → Moves m e q → Moves at e q
