@@ -1,5 +1,6 @@
+use native.Mathlib.Omega.{arith}
 use Rattle.overlay_keys.specs.laws.Keys.{head-between, head-mark, head-route, head-so, route-inside}
-use Rattle.overlay_keys.specs.laws.Piece.{piece-inside}
+use Rattle.overlay_keys.specs.laws.Piece.{piece-inside, piece-forward}
 use borrow.Author.Needs.{needs}
 use Rattle.overlay_keys.proofs.head.Statement.{statement}
 use Rattle.overlay_keys.proofs.head.Tie as tie
@@ -47,7 +48,7 @@ returns-3 : tie.Need-returns-3
 returns-3 c = search head-between
 
 direction-requires : tie.Need-direction-requires
-direction-requires c κs = search (route-inside, piece-inside)
+direction-requires c κs = record { forward = search piece-forward; within = omega arith }
 
 returns-4 : tie.Need-returns-4
 returns-4 c = search head-so

@@ -94,6 +94,9 @@ module _ {x s : List ℕ} {at e : ℕ} {r : Skip} (P : Piece x s at e r) where
     at-m : (at ≤ m) × (m ≤ e) × (bytes s at m ≡ x)
     at-m = rw h at (P .tells)
 
+    pub piece-forward : m ≤ e
+    piece-forward = at-m .1
+
     pub piece-inside : {a : ℕ} → Inside s a e → Inside s m e
     piece-inside I = record { forward = at-m .1; within = I .within }
 
