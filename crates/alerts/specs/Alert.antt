@@ -1,8 +1,9 @@
 -- Believe: 01, Cards and sheets. An alert and an alert sheet, as formats and by their parts.
 use mathlib.Core.List.{List, []}
-use mathlib.Core.Logic.{_⊎_, inl, inr}
+use mathlib.Core.Logic.{inl, inr}
 use mathlib.Core.Bool.{Bool, true, false}
 use Prim.Native.Nat.{ℕ}
+use Rattle.basics.specs.Options.{Maybe, givenOr}
 use Rattle.formats.specs.Class.{printable, utf8}
 use Rattle.formats.specs.Format.{Format, Value, text, constant, list, _&_, optional}
 
@@ -18,20 +19,13 @@ alertSheet = constant 1 & list 256 alert
 abbrev pub Alert : Type 0
 Alert = Value alert
 
-abbrev pub alerts : Value alertSheet → List Alert
-alerts s = s .1
-
--- a text that may be absent
-abbrev pub Optional : Type 0
-Optional = Unit {0} ⊎ List ℕ
-
-abbrev pub header : Alert → Optional
+abbrev pub header : Alert → Maybe (List ℕ)
 header a = a .0
 
-abbrev pub description : Alert → Optional
+abbrev pub description : Alert → Maybe (List ℕ)
 description a = a .1 .0
 
-abbrev pub cause : Alert → Optional
+abbrev pub cause : Alert → Maybe (List ℕ)
 cause a = a .1 .1 .0
 
 abbrev pub informed-trip-ids : Alert → List (List ℕ)
@@ -43,11 +37,10 @@ informed-route-ids a = a .1 .1 .1 .1 .0
 abbrev pub informed-stop-ids : Alert → List (List ℕ)
 informed-stop-ids a = a .1 .1 .1 .1 .1
 
-abbrev pub isGiven : Optional → Bool
+abbrev pub isGiven : Maybe (List ℕ) → Bool
 isGiven (inl u) = false
 isGiven (inr t) = true
 
 -- an absent text is searched as an empty one
-abbrev pub orEmptyText : Optional → List ℕ
-orEmptyText (inl u) = []
-orEmptyText (inr t) = t
+abbrev pub orEmptyText : Maybe (List ℕ) → List ℕ
+orEmptyText t = givenOr [] t

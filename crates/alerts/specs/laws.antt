@@ -1,5 +1,6 @@
 pub mod Text
 pub mod Candidates
+pub mod Numbers
 pub mod Implied
 pub mod ProductCodes
 pub mod Vectors

@@ -2,7 +2,7 @@
 -- of a format, absent or given.
 use mathlib.Core.Logic.{_⊎_, inl, inr}
 use mathlib.Core.Option.{Option, none, some}
-use mathlib.Core.Bool.{Bool, false}
+use mathlib.Core.Bool.{Bool, false, true}
 
 -- what an optional value is: absent, or given
 abbrev pub Maybe : Type 0 → Type 0
@@ -42,3 +42,8 @@ givenAnd p (inr a) = p a
 abbrev pub givenOr : {A : Type 0} → A → Maybe A → A
 givenOr old (inl x) = old
 givenOr old (inr a) = a
+
+-- something is there
+abbrev pub isSome : {A : Type 0} → Option A → Bool
+isSome none = false
+isSome (some a) = true

@@ -7,12 +7,11 @@ use mathlib.Core.Logic.{inl, inr}
 use lib.Dec.{ltb, leb}
 use lib.ListN.{length, take}
 use Rattle.formats.specs.Class.{printable, inClass}
-use Rattle.slices.specs.Lists.{lexOf}
 use Rattle.realtime.specs.Tree.{Tree}
 use Rattle.realtime_views.specs.Views.{trip, deleted}
 use Rattle.decode.specs.Trip.{Trip, dateOf, routeOf, directionOf, timeOf}
 use Rattle.basics.specs.Options.{Maybe}
-use Rattle.maps.specs.Map.{isSame}
+use Rattle.basics.specs.Texts.{same}
 use Rattle.decode.specs.Record.{tripIn}
 use Rattle.basics.specs.Lists.{isEmpty}
 
@@ -60,7 +59,8 @@ abbrev pub rawOk : List ℕ → Bool
 rawOk x = not (isEmpty x) && (leb (length x) 64 && inClass printable x)
 
 abbrev pub datedOk : List ℕ → List ℕ → Bool
-datedOk d x = let n = length x - suc (length d) in not (isEmpty d) && (rawOk (take n x) && isSame (lexOf x (datedKey (take n x) d)))
+datedOk d x =
+    let n = length x - suc (length d) in not (isEmpty d) && (rawOk (take n x) && same x (datedKey (take n x) d))
 
 unfoldable pub keyOk : List ℕ → List ℕ → Trip → Bool
-keyOk feed x t = rawOk x || (datedOk (dateOf t) x || isSame (lexOf x (incompleteKey feed t)))
+keyOk feed x t = rawOk x || (datedOk (dateOf t) x || same x (incompleteKey feed t))

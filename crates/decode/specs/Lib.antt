@@ -1,3 +1,4 @@
+pub mod Sizes
 pub mod Trip
 pub mod Record
 pub mod Key

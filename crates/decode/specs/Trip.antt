@@ -5,17 +5,18 @@ use mathlib.Core.List.{List}
 use lib.IntN.{ℤ, pos, negsuc}
 use Rattle.formats.specs.Class.{printable}
 use Rattle.formats.specs.Format.{Format, number, signed, small, text, list, _&_, optional, Value}
+use Rattle.decode.specs.Sizes.{mostUpdates, keyBytes, mostId, mostDate, mostTime}
 use Rattle.basics.specs.Options.{Maybe}
 
 -- the limits of questions 5 and 6
 abbrev pub id : Format
-id = text 64 printable
+id = text mostId printable
 
 abbrev pub date : Format
-date = text 16 printable
+date = text mostDate printable
 
 abbrev pub time : Format
-time = text 16 printable
+time = text mostTime printable
 
 abbrev pub delay : Format
 delay = signed (negsuc 2147483647) (pos 2147483647)
@@ -32,11 +33,11 @@ stopUpdate = id & optional delay & optional instant & optional delay & optional 
 
 -- delay; cancelled; start date; route; direction; start time; updates, ascending by sequence
 abbrev pub trip : Format
-trip = optional delay & small 1 & date & id & optional number32 & time & list 128 (number32 & stopUpdate)
+trip = optional delay & small 1 & date & id & optional number32 & time & list mostUpdates (number32 & stopUpdate)
 
 -- a record by the rest of its key after the feed and ':'
 abbrev pub tripEntry : Format
-tripEntry = text 137 printable & trip
+tripEntry = text keyBytes printable & trip
 
 abbrev pub StopUpdate : Type 0
 StopUpdate = Value stopUpdate

@@ -1,7 +1,10 @@
 // The keys of an entity, written into their slots.
+pub mod sizes; // how large things may be
+
 use realtime_views::Direction;
 use realtime_views::Span;
 use realtime_views::Trip;
+use sizes::KEY_BYTES;
 ghost use mathlib.Core.Path.{_≡_};
 ghost use Prim.Native.Nat.{_+_, _*_, _≤_, _<_};
 ghost use mathlib.Core.List.{[], _∷_, _++_};
@@ -9,6 +12,7 @@ ghost use lib.ListN.{length, take, drop};
 ghost use Rattle.decode.specs.Key.{decimalOf, datedKey, prefixed, directionText, headOf, tailOf};
 ghost use Rattle.realtime_views.specs.promises.Views.{spanIn, SpanInside, viewDirection};
 ghost use Rattle.basics.specs.Options.{maybe};
+ghost use Rattle.decode.specs.Sizes.{keyBytes, mostFeed, mostId, mostDate, mostTime};
 ghost use Rattle.decode.specs.promises.Written.{Added};
 ghost use Rattle.decode.specs.promises.Keyed.{Room, Short, Keyed};
 
@@ -34,7 +38,7 @@ fn digit(n: u32) -> u8
     requires { ⌜ n < 10 ⌝ }
     ensures { λ r. ⌜ r ≡ 48 + n ⌝ }
 {
-    48 + n as u8
+    b'0' + n as u8
 }
 
 // n in decimal, at most k digits.
@@ -55,42 +59,46 @@ fn decimal(k: usize, out: &mut [u8], at: usize, n: u32) -> usize
 // A key that stands in s, into slot n: how long it is.
 pub fn write_key(keys: &mut [u8], n: usize, s: &[u8], start: usize, len: usize) -> usize
     requires { ⌜ Room (now keys) n ⌝ }
-    requires { ⌜ (start + len ≤ length (now s)) × (len ≤ 137) ⌝ }
+    requires { ⌜ (start + len ≤ length (now s)) × (len ≤ keyBytes) ⌝ }
     ensures { λ r. ⌜ Keyed (now (keys .entry)) n (take len (drop start (now (s .entry)))) (now (keys .exit)) r ⌝ }
 {
-    add(keys, 137 * n, wire::part(s, start, len)) - 137 * n
+    add(keys, KEY_BYTES * n, wire::part(s, start, len)) - KEY_BYTES * n
 }
 
 // The raw trip id of an entity with its date.
 pub fn write_dated(keys: &mut [u8], n: usize, s: &[u8], t: Trip) -> usize
     requires { ⌜ Room (now keys) n ⌝ }
     requires { ⌜ Short (now s) t ⌝ }
-    ensures { λ r. ⌜ Keyed (now (keys .entry)) n (datedKey (spanIn (now (s .entry)) (t .id)) (spanIn (now (s .entry)) (t .date))) (now (keys .exit)) r ⌝ }
+    ensures { λ r. ⌜ Keyed (now (keys .entry)) n
+        (datedKey (spanIn (now (s .entry)) (t .id)) (spanIn (now (s .entry)) (t .date))) (now (keys .exit)) r ⌝ }
 {
     let id = t.id;
     let date = t.date;
-    let p = add(keys, 137 * n, wire::part(s, id.start, id.len));
-    let q = add_byte(keys, p, 64);
-    add(keys, q, wire::part(s, date.start, date.len)) - 137 * n
+    let p = add(keys, KEY_BYTES * n, wire::part(s, id.start, id.len));
+    let q = add_byte(keys, p, b'@');
+    add(keys, q, wire::part(s, date.start, date.len)) - KEY_BYTES * n
 }
 
-// feed:route, and nothing where there is no route.
+// feed:route, and nothing where there is no route: 16 + 1 + 64 bytes at most.
 fn write_route(keys: &mut [u8], at: usize, feed: &[u8], s: &[u8], route: Span) -> usize
-    requires { ⌜ (at + 81 ≤ length (now keys)) × (length (now feed) ≤ 16) ⌝ }
-    requires { ⌜ SpanInside (length (now s)) route × (route .len ≤ 64) ⌝ }
-    ensures { λ r. ⌜ Added (now (keys .entry)) at (prefixed (now (feed .entry)) (spanIn (now (s .entry)) route)) (now (keys .exit)) r ⌝ }
+    requires { ⌜ (at + 81 ≤ length (now keys)) × (length (now feed) ≤ mostFeed) ⌝ }
+    requires { ⌜ SpanInside (length (now s)) route × (route .len ≤ mostId) ⌝ }
+    ensures { λ r. ⌜ Added (now (keys .entry)) at
+        (prefixed (now (feed .entry)) (spanIn (now (s .entry)) route)) (now (keys .exit)) r ⌝ }
 {
     if route.len == 0 {
         return at;
     }
     let p = add(keys, at, feed);
-    let q = add_byte(keys, p, 58);
+    let q = add_byte(keys, p, b':');
     add(keys, q, wire::part(s, route.start, route.len))
 }
 
+// A direction has 10 digits at most.
 fn write_direction(keys: &mut [u8], at: usize, direction: Direction) -> usize
     requires { ⌜ at + 10 ≤ length (now keys) ⌝ }
-    ensures { λ r. ⌜ Added (now (keys .entry)) at (directionText (maybe (viewDirection direction))) (now (keys .exit)) r ⌝ }
+    ensures { λ r. ⌜ Added (now (keys .entry)) at
+        (directionText (maybe (viewDirection direction))) (now (keys .exit)) r ⌝ }
 {
     match direction {
         Direction::Given(d) => decimal(10, keys, at, d),
@@ -98,10 +106,13 @@ fn write_direction(keys: &mut [u8], at: usize, direction: Direction) -> usize
     }
 }
 
+// #r=, 81 bytes of a route, &d= and a direction: 97 at most.
 fn write_head(keys: &mut [u8], at: usize, feed: &[u8], s: &[u8], t: Trip) -> usize
-    requires { ⌜ (at + 97 ≤ length (now keys)) × (length (now feed) ≤ 16) ⌝ }
+    requires { ⌜ (at + 97 ≤ length (now keys)) × (length (now feed) ≤ mostFeed) ⌝ }
     requires { ⌜ Short (now s) t ⌝ }
-    ensures { λ r. ⌜ Added (now (keys .entry)) at (headOf (now (feed .entry)) (spanIn (now (s .entry)) (t .route)) (maybe (viewDirection (t .direction)))) (now (keys .exit)) r ⌝ }
+    ensures { λ r. ⌜ Added (now (keys .entry)) at
+        (headOf (now (feed .entry)) (spanIn (now (s .entry)) (t .route)) (maybe (viewDirection (t .direction))))
+        (now (keys .exit)) r ⌝ }
 {
     let route = t.route;
     let direction = t.direction;
@@ -111,11 +122,13 @@ fn write_head(keys: &mut [u8], at: usize, feed: &[u8], s: &[u8], t: Trip) -> usi
     write_direction(keys, c, direction)
 }
 
+// &sd= and a date, &st= and a time: 40 bytes at most.
 fn write_tail(keys: &mut [u8], at: usize, s: &[u8], date: Span, time: Span) -> usize
     requires { ⌜ at + 40 ≤ length (now keys) ⌝ }
-    requires { ⌜ SpanInside (length (now s)) date × (date .len ≤ 16) ⌝ }
-    requires { ⌜ SpanInside (length (now s)) time × (time .len ≤ 16) ⌝ }
-    ensures { λ r. ⌜ Added (now (keys .entry)) at (tailOf (spanIn (now (s .entry)) date) (spanIn (now (s .entry)) time)) (now (keys .exit)) r ⌝ }
+    requires { ⌜ SpanInside (length (now s)) date × (date .len ≤ mostDate) ⌝ }
+    requires { ⌜ SpanInside (length (now s)) time × (time .len ≤ mostTime) ⌝ }
+    ensures { λ r. ⌜ Added (now (keys .entry)) at
+        (tailOf (spanIn (now (s .entry)) date) (spanIn (now (s .entry)) time)) (now (keys .exit)) r ⌝ }
 {
     let a = add(keys, at, b"&sd=");
     let b = add(keys, a, wire::part(s, date.start, date.len));
@@ -126,12 +139,14 @@ fn write_tail(keys: &mut [u8], at: usize, s: &[u8], date: Span, time: Span) -> u
 // The key of an entity without a trip id.
 pub fn write_incomplete(keys: &mut [u8], n: usize, feed: &[u8], s: &[u8], t: Trip) -> usize
     requires { ⌜ Room (now keys) n ⌝ }
-    requires { ⌜ length (now feed) ≤ 16 ⌝ }
+    requires { ⌜ length (now feed) ≤ mostFeed ⌝ }
     requires { ⌜ Short (now s) t ⌝ }
-    ensures { λ r. ⌜ Keyed (now (keys .entry)) n (headOf (now (feed .entry)) (spanIn (now (s .entry)) (t .route)) (maybe (viewDirection (t .direction))) ++ tailOf (spanIn (now (s .entry)) (t .date)) (spanIn (now (s .entry)) (t .time))) (now (keys .exit)) r ⌝ }
+    ensures { λ r. ⌜ Keyed (now (keys .entry)) n
+        (headOf (now (feed .entry)) (spanIn (now (s .entry)) (t .route)) (maybe (viewDirection (t .direction)))
+        ++ tailOf (spanIn (now (s .entry)) (t .date)) (spanIn (now (s .entry)) (t .time))) (now (keys .exit)) r ⌝ }
 {
-    let p = write_head(keys, 137 * n, feed, s, t);
+    let p = write_head(keys, KEY_BYTES * n, feed, s, t);
     let date = t.date;
     let time = t.time;
-    write_tail(keys, p, s, date, time) - 137 * n
+    write_tail(keys, p, s, date, time) - KEY_BYTES * n
 }

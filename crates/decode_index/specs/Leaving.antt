@@ -3,6 +3,7 @@
 use mathlib.Core.Bool.{cond}
 use lib.Dec.{ltb}
 use lib.ListN.{length}
+use Rattle.decode.specs.Sizes.{mostTrips}
 use Rattle.decode.specs.Leaves.{Trips}
 use Rattle.decode_slots.specs.Places.{anyCrowded}
 
@@ -13,4 +14,4 @@ pub data Leaving : Type 0 where
   trips : Trips → Leaving
 
 abbrev pub leaving : Trips → Leaving
-leaving t = cond (ltb 2048 (length t)) manyTrips (cond (anyCrowded t) manyUpdates (trips t))
+leaving t = cond (ltb mostTrips (length t)) manyTrips (cond (anyCrowded t) manyUpdates (trips t))

@@ -1,3 +1,4 @@
 pub mod Message
 pub mod Leaving
 pub mod promises
+pub mod laws

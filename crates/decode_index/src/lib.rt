@@ -1,15 +1,18 @@
 // The index of what a message leaves of a feed's trips: every entity's keys, in order.
+use decode::sizes::MOST_TRIPS;
 use realtime_views::Item;
 ghost use mathlib.Core.Path.{_≡_};
 ghost use Prim.Native.Nat.{_≤_};
 ghost use lib.ListN.{length};
+ghost use Rattle.decode.specs.Sizes.{mostFeed, mostMessage, updatesLength};
 ghost use Rattle.decode_slots.specs.Index.{index};
-ghost use Rattle.decode_slots.specs.promises.Index.{SoundIndex};
+ghost use Rattle.decode_slots.specs.promises.Index.{Open, Lent};
 ghost use Rattle.decode_old.specs.promises.Old.{Stands};
 ghost use Rattle.decode_index.specs.promises.Message.{JudgedMessage, Indexed};
 ghost use Rattle.decode_index.specs.promises.Leaving.{Old, Begun, Leaves};
 
-// The entities of a message are applied one after the other: how many keys there are then. Above 2,048 the rest is not looked at.
+// The entities of a message are applied one after the other: how many keys there are then. Above 2,048 the rest is not
+// looked at.
 pub fn apply_entities(
     keys: &mut [u8],
     marks: &mut [u32],
@@ -18,10 +21,12 @@ pub fn apply_entities(
     feed: &[u8],
     s: &[u8],
 ) -> usize
-    requires { ⌜ SoundIndex (now keys) (now marks) (now order) n ⌝ }
-    requires { ⌜ (n ≤ 2048) × (length (now feed) ≤ 16) × (length (now s) ≤ 1048576) ⌝ }
+    requires { ⌜ Open (now keys) (now marks) (now order) n ⌝ }
+    requires { ⌜ (length (now feed) ≤ mostFeed) × (length (now s) ≤ mostMessage) ⌝ }
     requires { ⌜ JudgedMessage (now s) ⌝ }
-    ensures { λ r. ⌜ Indexed (now (feed .entry)) (now (s .entry)) (index (now (keys .entry)) (now (marks .entry)) (now (order .entry)) n) (now (keys .exit)) (now (marks .exit)) (now (order .exit)) r ⌝ }
+    ensures { λ r. ⌜ Indexed (now (feed .entry)) (now (s .entry))
+        (index (now (keys .entry)) (now (marks .entry)) (now (order .entry)) n)
+        (now (keys .exit)) (now (marks .exit)) (now (order .exit)) r ⌝ }
 {
     let mut walk = realtime_views::entities(s);
     let mut m = n;
@@ -34,7 +39,7 @@ pub fn apply_entities(
                 walk: rest,
             } => {
                 m = decode_keys::apply(keys, marks, order, m, feed, s, at, len);
-                if m > 2048 {
+                if m > MOST_TRIPS {
                     return m;
                 }
                 walk = rest;
@@ -43,7 +48,8 @@ pub fn apply_entities(
     }
 }
 
-// What a message leaves: the index in its first n slots, or more than 2,048 trips, or a record with more than 128 updates.
+// What a message leaves: the index in its first n slots, or more than 2,048 trips, or a record with more than 128
+// updates.
 pub enum Left {
     ManyTrips,
     ManyUpdates,
@@ -59,9 +65,10 @@ fn begin(
     old: &[u8],
     at: usize,
 ) -> usize
-    requires { ⌜ (length (now keys) ≡ 280713) × (length (now marks) ≡ 6147) × (length (now order) ≡ 2049) ⌝ }
+    requires { ⌜ Lent (now keys) (now marks) (now order) ⌝ }
     requires { ⌜ Stands (now old) at ⌝ }
-    ensures { λ r. ⌜ Begun (now (old .entry)) at differential (now (keys .exit)) (now (marks .exit)) (now (order .exit)) r ⌝ }
+    ensures { λ r. ⌜ Begun (now (old .entry)) at differential
+        (now (keys .exit)) (now (marks .exit)) (now (order .exit)) r ⌝ }
 {
     if differential {
         return decode_old::join(keys, marks, order, old, at);
@@ -80,16 +87,17 @@ pub fn leave(
     old: &[u8],
     at: usize,
 ) -> Left
-    requires { ⌜ (length (now keys) ≡ 280713) × (length (now marks) ≡ 6147) × (length (now order) ≡ 2049) × (length (now updates) ≡ 387) ⌝ }
-    requires { ⌜ (length (now feed) ≤ 16) × (length (now s) ≤ 1048576) ⌝ }
+    requires { ⌜ Lent (now keys) (now marks) (now order) × (length (now updates) ≡ updatesLength) ⌝ }
+    requires { ⌜ (length (now feed) ≤ mostFeed) × (length (now s) ≤ mostMessage) ⌝ }
     requires { ⌜ JudgedMessage (now s) ⌝ }
     requires { ⌜ Old (now old) at ⌝ }
-    ensures { λ r. ⌜ Leaves (now (feed .entry)) (now (s .entry)) (now (old .entry)) at (now (keys .exit)) (now (marks .exit)) (now (order .exit)) r ⌝ }
+    ensures { λ r. ⌜ Leaves (now (feed .entry)) (now (s .entry)) (now (old .entry)) at
+        (now (keys .exit)) (now (marks .exit)) (now (order .exit)) r ⌝ }
 {
     let h = realtime_views::header_of(s);
     let n = begin(keys, marks, order, h.differential, old, at);
     let m = apply_entities(keys, marks, order, n, feed, s);
-    if m > 2048 {
+    if m > MOST_TRIPS {
         return Left::ManyTrips;
     }
     if decode_updates::any_crowded(updates, marks, order, m, s) {

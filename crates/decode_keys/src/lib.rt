@@ -1,4 +1,5 @@
 // The keys of an entity go into the index, with the place of the entity.
+use decode::sizes::MOST_TRIPS;
 use realtime_views::Trip;
 ghost use Prim.Native.Nat.{_+_, _≤_};
 ghost use mathlib.Core.List.{_++_};
@@ -7,7 +8,8 @@ ghost use Rattle.realtime_views.specs.promises.Views.{spanIn, viewDirection};
 ghost use Rattle.decode.specs.Key.{datedKey, headOf, tailOf};
 ghost use Rattle.basics.specs.Options.{maybe};
 ghost use Rattle.decode.specs.promises.Keyed.{Short};
-ghost use Rattle.decode_slots.specs.promises.Index.{SoundIndex};
+ghost use Rattle.decode.specs.Sizes.{keyBytes, mostFeed, mostMessage};
+ghost use Rattle.decode_slots.specs.promises.Index.{Open};
 ghost use Rattle.decode_keys.specs.promises.Entity.{Filed, Entered, FineEntity, Applies};
 
 // A key that stands in s goes into the index with its place.
@@ -22,17 +24,18 @@ pub fn file_key(
     from: u32,
     to: u32,
 ) -> usize
-    requires { ⌜ SoundIndex (now keys) (now marks) (now order) n ⌝ }
-    requires { ⌜ n ≤ 2048 ⌝ }
-    requires { ⌜ (start + len ≤ length (now s)) × (len ≤ 137) ⌝ }
-    ensures { λ r. ⌜ Filed (now (keys .entry)) (now (marks .entry)) (now (order .entry)) n (take len (drop start (now (s .entry)))) from to (now (keys .exit)) (now (marks .exit)) (now (order .exit)) r ⌝ }
+    requires { ⌜ Open (now keys) (now marks) (now order) n ⌝ }
+    requires { ⌜ (start + len ≤ length (now s)) × (len ≤ keyBytes) ⌝ }
+    ensures { λ r. ⌜ Filed (now (keys .entry)) (now (marks .entry)) (now (order .entry)) n
+        (take len (drop start (now (s .entry)))) from to
+        (now (keys .exit)) (now (marks .exit)) (now (order .exit)) r ⌝ }
 {
     let long = decode::write_key(keys, n, s, start, len);
     decode_slots::settle(keys, marks, order, n, long, from, to)
 }
 
 // The key of an entity: by its raw trip id.
-pub fn file_base(
+fn file_base(
     keys: &mut [u8],
     marks: &mut [u32],
     order: &mut [u32],
@@ -42,17 +45,17 @@ pub fn file_base(
     from: u32,
     to: u32,
 ) -> usize
-    requires { ⌜ SoundIndex (now keys) (now marks) (now order) n ⌝ }
-    requires { ⌜ n ≤ 2048 ⌝ }
+    requires { ⌜ Open (now keys) (now marks) (now order) n ⌝ }
     requires { ⌜ Short (now s) t ⌝ }
-    ensures { λ r. ⌜ Filed (now (keys .entry)) (now (marks .entry)) (now (order .entry)) n (spanIn (now (s .entry)) (t .id)) from to (now (keys .exit)) (now (marks .exit)) (now (order .exit)) r ⌝ }
+    ensures { λ r. ⌜ Filed (now (keys .entry)) (now (marks .entry)) (now (order .entry)) n
+        (spanIn (now (s .entry)) (t .id)) from to (now (keys .exit)) (now (marks .exit)) (now (order .exit)) r ⌝ }
 {
     let id = t.id;
     file_key(keys, marks, order, n, s, id.start, id.len, from, to)
 }
 
 // By its raw trip id and its date.
-pub fn file_dated(
+fn file_dated(
     keys: &mut [u8],
     marks: &mut [u32],
     order: &mut [u32],
@@ -62,17 +65,18 @@ pub fn file_dated(
     from: u32,
     to: u32,
 ) -> usize
-    requires { ⌜ SoundIndex (now keys) (now marks) (now order) n ⌝ }
-    requires { ⌜ n ≤ 2048 ⌝ }
+    requires { ⌜ Open (now keys) (now marks) (now order) n ⌝ }
     requires { ⌜ Short (now s) t ⌝ }
-    ensures { λ r. ⌜ Filed (now (keys .entry)) (now (marks .entry)) (now (order .entry)) n (datedKey (spanIn (now (s .entry)) (t .id)) (spanIn (now (s .entry)) (t .date))) from to (now (keys .exit)) (now (marks .exit)) (now (order .exit)) r ⌝ }
+    ensures { λ r. ⌜ Filed (now (keys .entry)) (now (marks .entry)) (now (order .entry)) n
+        (datedKey (spanIn (now (s .entry)) (t .id)) (spanIn (now (s .entry)) (t .date))) from to
+        (now (keys .exit)) (now (marks .exit)) (now (order .exit)) r ⌝ }
 {
     let len = decode::write_dated(keys, n, s, t);
     decode_slots::settle(keys, marks, order, n, len, from, to)
 }
 
 // And without a trip id.
-pub fn file_incomplete(
+fn file_incomplete(
     keys: &mut [u8],
     marks: &mut [u32],
     order: &mut [u32],
@@ -83,17 +87,20 @@ pub fn file_incomplete(
     from: u32,
     to: u32,
 ) -> usize
-    requires { ⌜ SoundIndex (now keys) (now marks) (now order) n ⌝ }
-    requires { ⌜ (n ≤ 2048) × (length (now feed) ≤ 16) ⌝ }
+    requires { ⌜ Open (now keys) (now marks) (now order) n ⌝ }
+    requires { ⌜ length (now feed) ≤ mostFeed ⌝ }
     requires { ⌜ Short (now s) t ⌝ }
-    ensures { λ r. ⌜ Filed (now (keys .entry)) (now (marks .entry)) (now (order .entry)) n (headOf (now (feed .entry)) (spanIn (now (s .entry)) (t .route)) (maybe (viewDirection (t .direction))) ++ tailOf (spanIn (now (s .entry)) (t .date)) (spanIn (now (s .entry)) (t .time))) from to (now (keys .exit)) (now (marks .exit)) (now (order .exit)) r ⌝ }
+    ensures { λ r. ⌜ Filed (now (keys .entry)) (now (marks .entry)) (now (order .entry)) n
+        (headOf (now (feed .entry)) (spanIn (now (s .entry)) (t .route)) (maybe (viewDirection (t .direction)))
+        ++ tailOf (spanIn (now (s .entry)) (t .date)) (spanIn (now (s .entry)) (t .time))) from to
+        (now (keys .exit)) (now (marks .exit)) (now (order .exit)) r ⌝ }
 {
     let len = decode::write_incomplete(keys, n, feed, s, t);
     decode_slots::settle(keys, marks, order, n, len, from, to)
 }
 
 // Every key of an entity goes into the index with its place, the dated one before its base.
-pub fn file_trip(
+fn file_trip(
     keys: &mut [u8],
     marks: &mut [u32],
     order: &mut [u32],
@@ -104,10 +111,12 @@ pub fn file_trip(
     from: u32,
     to: u32,
 ) -> usize
-    requires { ⌜ SoundIndex (now keys) (now marks) (now order) n ⌝ }
-    requires { ⌜ (n ≤ 2048) × (length (now feed) ≤ 16) ⌝ }
+    requires { ⌜ Open (now keys) (now marks) (now order) n ⌝ }
+    requires { ⌜ length (now feed) ≤ mostFeed ⌝ }
     requires { ⌜ Short (now s) t ⌝ }
-    ensures { λ r. ⌜ Entered (now (feed .entry)) (now (s .entry)) t from to (now (keys .entry)) (now (marks .entry)) (now (order .entry)) n (now (keys .exit)) (now (marks .exit)) (now (order .exit)) r ⌝ }
+    ensures { λ r. ⌜ Entered (now (feed .entry)) (now (s .entry)) t from to
+        (now (keys .entry)) (now (marks .entry)) (now (order .entry)) n
+        (now (keys .exit)) (now (marks .exit)) (now (order .exit)) r ⌝ }
 {
     if t.id.len == 0 {
         if t.route.len == 0 {
@@ -119,7 +128,7 @@ pub fn file_trip(
         return file_base(keys, marks, order, n, s, t, from, to);
     }
     let m = file_dated(keys, marks, order, n, s, t, from, to);
-    if m > 2048 {
+    if m > MOST_TRIPS {
         return m;
     }
     file_base(keys, marks, order, m, s, t, from, to)
@@ -136,11 +145,13 @@ pub fn apply(
     start: usize,
     len: usize,
 ) -> usize
-    requires { ⌜ SoundIndex (now keys) (now marks) (now order) n ⌝ }
-    requires { ⌜ (n ≤ 2048) × (length (now feed) ≤ 16) ⌝ }
-    requires { ⌜ (start + len ≤ length (now s)) × (length (now s) ≤ 1048576) ⌝ }
+    requires { ⌜ Open (now keys) (now marks) (now order) n ⌝ }
+    requires { ⌜ length (now feed) ≤ mostFeed ⌝ }
+    requires { ⌜ (start + len ≤ length (now s)) × (length (now s) ≤ mostMessage) ⌝ }
     requires { ⌜ FineEntity (now s) start len ⌝ }
-    ensures { λ r. ⌜ Applies (now (feed .entry)) (now (s .entry)) start len (now (keys .entry)) (now (marks .entry)) (now (order .entry)) n (now (keys .exit)) (now (marks .exit)) (now (order .exit)) r ⌝ }
+    ensures { λ r. ⌜ Applies (now (feed .entry)) (now (s .entry)) start len
+        (now (keys .entry)) (now (marks .entry)) (now (order .entry)) n
+        (now (keys .exit)) (now (marks .exit)) (now (order .exit)) r ⌝ }
 {
     if realtime_views::is_deleted(s, start, len) {
         return n;

@@ -23,18 +23,21 @@ use Rattle.maps.specs.Map.{put}
 use Rattle.maps.specs.Order.{texts}
 use Rattle.maps.specs.laws.Map.{map-put, puts-append, put-all, put-one-more}
 use Rattle.decode_slots.specs.Index.{Place, index}
-use Rattle.decode_slots.specs.promises.Index.{SoundIndex}
+use Rattle.decode_slots.specs.promises.Index.{SoundIndex, Lent}
 use Rattle.decode_keys.specs.promises.Entity.{Filed}
 use Rattle.decode_slots.specs.laws.Slots.{index-length, sound-none}
 use Rattle.decode_keys.specs.laws.Lengths.{filed-length}
 use Rattle.decode.specs.Leaves.{Trips}
-use Rattle.decode_slots.specs.Places.{beyond, isNew, orNoTrip, recordAt, oldAt, heldAt, held}
-use Rattle.decode_old.specs.promises.Old.{Stands, Joined, Entry, Passes, Filled}
+use Rattle.decode.specs.Sizes.{beyond}
+use Rattle.decode_slots.specs.Places.{isNew, orNoTrip, recordAt, oldAt, heldAt, held}
+use Rattle.decode_old.specs.promises.Old.{Stands, OldRecord, Joined, Entry, Passes, Filled}
 
 -- the bytes of a value that stands somewhere are read as it, and nothing is left
-read-there : (f : Format) {o : List ℕ} {m e : ℕ} {v : Value f} → Here f o m e v → read f (take (e - m) (drop m o)) ≡ some (v, [])
+read-there : (f : Format) {o : List ℕ} {m e : ℕ} {v : Value f} → Here f o m e v
+    → read f (take (e - m) (drop m o)) ≡ some (v, [])
 read-there f {o} {m} {e} {v} h =
-    ap (read f) (slice-is m e o (h .forward) (h .within) ∙ h .written ∙ sym (append-nil (write f v))) ∙ law f .there v [] (h .fits)
+    ap (read f) (slice-is m e o (h .forward) (h .within) ∙ h .written ∙ sym (append-nil (write f v)))
+    ∙ law f .there v [] (h .fits)
 
 old-new : (m e : ℕ) → isNew (beyond + m, beyond + e) ≡ false
 old-new m e = le-ltb (beyond + m) beyond (omega arith)
@@ -48,8 +51,19 @@ module _ {o : List ℕ} {m e : ℕ} {t : Trip} (h : Here trip o m e t) where
       let j : beyond + e - beyond ≡ e = omega arith in
       ap orNoTrip (ap (read trip) (λ k. take (j k - i k) (drop (i k) o)) ∙ read-there trip h)
 
+  old-record : OldRecord o (beyond + m, beyond + e)
+  old-record = record { aged = old-new m e; forward = omega (arith, h .forward); here = there }
+    where
+      there : Here trip o (beyond + m - beyond) (beyond + e - beyond) (oldAt o (beyond + m, beyond + e))
+      there =
+          let i : beyond + m - beyond ≡ m = omega arith in
+          let j : beyond + e - beyond ≡ e = omega arith in
+          rw (i, j, old-read) h
+
   old-held : (s : List ℕ) → heldAt s o (beyond + m, beyond + e) ≡ t
-  old-held s = ap (λ b. cond b (recordAt s (beyond + m, beyond + e)) (oldAt o (beyond + m, beyond + e))) (old-new m e) ∙ old-read
+  old-held s =
+      ap (λ b. cond b (recordAt s (beyond + m, beyond + e)) (oldAt o (beyond + m, beyond + e))) (old-new m e)
+      ∙ old-read
 
 -- an entry that was read: its key from a to m, and its record from there to e
 module _ {o : List ℕ} {p a m e : ℕ} (T : ReadsText o p a m) (P : (t : Trip) (q : ℕ) → Here trip o m q t → e ≡ q) where
@@ -72,18 +86,21 @@ module _ {o : List ℕ} {p a m e : ℕ} (T : ReadsText o p a m) (P : (t : Trip) 
       (omega (arith, T .forward, T .within), omega (arith, E .short))
 
   pub passes : {from to n r : ℕ} {keys marks order keys′ marks′ order′ : List ℕ} → from ≡ beyond + m → to ≡ beyond + e
-      → Filed keys marks order n (take (m - a) (drop a o)) from to keys′ marks′ order′ r → Passes o p keys marks order n keys′ marks′ order′ r e
+      → Filed keys marks order n (take (m - a) (drop a o)) from to keys′ marks′ order′ r
+      → Passes o p keys marks order n keys′ marks′ order′ r e
   passes f t F = record {
     ends = entry-ends;
     filed = λ v h. (m, record-here v e h, rw (f, t, key-is v e h) at F);
   }
 
-pub filled-none : {o keys marks order : List ℕ} → length keys ≡ 280713 → length marks ≡ 6147 → length order ≡ 2049 → Filled o keys marks order 0 []
+pub filled-none : {o keys marks order : List ℕ} → Lent keys marks order → Filled o keys marks order 0 []
 unfolding held
-filled-none k m o = record { sound = sound-none k m o; few = omega arith; aged = tt; holds = λ s. refl }
+filled-none L = record { sound = sound-none L; few = omega arith; old = tt; holds = λ s. refl }
 
-pub filled-more : {o keys marks order keys′ marks′ order′ : List ℕ} {p n r e : ℕ} → Passes o p keys marks order n keys′ marks′ order′ r e
-    → (us : Trips) (v : Value tripEntry) → Filled o keys marks order n us → Here tripEntry o p e v → Filled o keys′ marks′ order′ r (us ++ (v ∷ []))
+pub filled-more : {o keys marks order keys′ marks′ order′ : List ℕ} {p n r e : ℕ}
+    → Passes o p keys marks order n keys′ marks′ order′ r e
+    → (us : Trips) (v : Value tripEntry) → Filled o keys marks order n us → Here tripEntry o p e v
+    → Filled o keys′ marks′ order′ r (us ++ (v ∷ []))
 unfolding held
 filled-more {o} {keys} {marks} {order} {n = n} {e = e} P us v D h =
     let x = P .filed v h in
@@ -92,15 +109,24 @@ filled-more {o} {keys} {marks} {order} {n = n} {e = e} P us v D h =
     let m = index keys marks order n in
     record {
       sound = F .sound;
-      few = omega (arith, filed-length F, put-one-more texts (v .0) at m, index-length keys marks order n (D .sound), D .few, length-append us (v ∷ []));
-      aged = rw (F .map) (put-all texts (λ e. isNew (e .1) ≡ false) (v .0) at m (old-new (x .0) e) (D .aged));
+      few = omega (
+        arith,
+        filed-length F,
+        put-one-more texts (v .0) at m,
+        index-length keys marks order n (D .sound),
+        D .few,
+        length-append us (v ∷ []),
+      );
+      old = rw (F .map) (put-all texts (λ e. OldRecord o (e .1)) (v .0) at m (old-record (x .1)) (D .old));
       holds = λ s.
-          ap (held s o) (F .map) ∙ map-put texts (heldAt s o) (v .0) at m ∙ (λ i. put texts (v .0) (old-held (x .1) s i) (D .holds s i))
+          ap (held s o) (F .map) ∙ map-put texts (heldAt s o) (v .0) at m
+          ∙ (λ i. put texts (v .0) (old-held (x .1) s i) (D .holds s i))
           ∙ sym (puts-append texts us (v ∷ []) []);
     }
 
 -- the walk over the entries, c in number from a on
-module _ {o : List ℕ} {at c a : ℕ} (S : Stands o at) (N : ReadsNumber o at c a) {keys marks order : List ℕ} {p left n : ℕ} (W : Walk tripEntry o a c p left (Filled o keys marks order n)) where
+module _ {o : List ℕ} {at c a : ℕ} (S : Stands o at) (N : ReadsNumber o at c a) {keys marks order : List ℕ}
+    {p left n : ℕ} (W : Walk tripEntry o a c p left (Filled o keys marks order n)) where
   now-at : At tripEntry o (S .end) (S .trips) p left (Filled o keys marks order n)
   now-at =
       let x = listed (S .here) .1 in
@@ -111,24 +137,36 @@ module _ {o : List ℕ} {at c a : ℕ} (S : Stands o at) (N : ReadsNumber o at c
   sound-now = now-at .so .sound
 
   pub few-now : 0 < left → n ≤ 2048
-  few-now z = let A = now-at in omega (arith, A .so .few, A .count, S .few, ap length (A .joined), length-append (A .behind) (A .ahead))
+  few-now z =
+      let A = now-at in omega (
+        arith,
+        A .so .few,
+        A .count,
+        S .few,
+        ap length (A .joined),
+        length-append (A .behind)
+            (A .ahead),
+      )
 
   short-back : (us ws : Trips) → All (λ e. length (e .0) ≤ 137) (us ++ ws) → All (λ e. length (e .0) ≤ 137) ws
   short-back [] ws h = h
   short-back (u ∷ us) ws h = short-back us ws (h .1)
 
-  first-entry : (ws : Trips) → length ws ≡ left → 0 < left → Many tripEntry o p (S .end) ws → All (λ e. length (e .0) ≤ 137) ws → Entry o p
+  first-entry : (ws : Trips) → length ws ≡ left → 0 < left → Many tripEntry o p (S .end) ws
+      → All (λ e. length (e .0) ≤ 137) ws → Entry o p
   first-entry [] l z m h = absurd (omega arith)
   first-entry (w ∷ ws) l z m h = record { entry = w; end = m .0; here = m .1; short = h .0; small = S .small }
 
   pub entry-now : 0 < left → Entry o p
-  entry-now z = let A = now-at in let j = A .joined in first-entry (A .ahead) (A .count) z (A .stand) (short-back (A .behind) (A .ahead) (rw j (S .short)))
+  entry-now z =
+      let A = now-at in let j = A .joined in first-entry (A .ahead) (A .count) z (A .stand)
+      (short-back (A .behind) (A .ahead) (rw j (S .short)))
 
   pub joins : left ≤ 0 → Joined o at keys marks order n
   joins z = record {
     sound = sound-now;
     few = omega (arith, all (S .trips) (S .end) (S .here) .few, S .few);
-    aged = all (S .trips) (S .end) (S .here) .aged;
+    old = all (S .trips) (S .end) (S .here) .old;
     of = λ v q h. all v q h .holds;
   }
     where

@@ -1,6 +1,8 @@
-// The old trips of a feed join the index before a message's entities: where the message says what has changed, and not all there is.
+// The old trips of a feed join the index before a message's entities: where the message says what has changed, and not
+// all there is.
 mod table;
 
+use decode::sizes::BEYOND;
 use formats_judge::Judge;
 use table::DEPTH;
 use table::LIST;
@@ -13,14 +15,14 @@ ghost use Rattle.formats.specs.Format.{list, Value};
 ghost use Rattle.formats_judge.specs.Judged.{judgeTo};
 ghost use Rattle.formats_read.specs.promises.Here.{Here};
 ghost use Rattle.decode.specs.Trip.{trip, tripEntry};
-ghost use Rattle.decode_slots.specs.promises.Index.{SoundIndex};
-ghost use Rattle.decode_slots.specs.Places.{beyond};
+ghost use Rattle.decode_slots.specs.promises.Index.{Open, Lent};
+ghost use Rattle.decode.specs.Sizes.{mostTrips, beyond, mostOld};
 ghost use Rattle.decode_old.specs.promises.Old.{Stands, Joined, Entry, Passes};
 
 // The judgement of the trips that stand at `at`: their form, and the first of the questions 5 to 7 that they fail.
 pub fn judge(old: &[u8], at: usize) -> Judge
     requires { ⌜ at ≤ length (now old) ⌝ }
-    ensures { λ r. ⌜ r ≡ judgeTo (list 2048 tripEntry) (now (old .entry)) at ⌝ }
+    ensures { λ r. ⌜ r ≡ judgeTo (list mostTrips tripEntry) (now (old .entry)) at ⌝ }
 {
     formats_judge::judge_value(&TRIPS, DEPTH, LIST, old, at)
 }
@@ -34,10 +36,10 @@ fn past_trip(old: &[u8], at: usize) -> usize
 
 // A place of the old overlay's bytes, above all those of a message.
 fn old_place(p: usize) -> u32
-    requires { ⌜ p ≤ 4000000000 ⌝ }
+    requires { ⌜ p ≤ mostOld ⌝ }
     ensures { λ r. ⌜ r ≡ beyond + p ⌝ }
 {
-    1048577 + p as u32
+    (BEYOND + p) as u32
 }
 
 // How many slots are in use, and the place past the entry.
@@ -55,10 +57,10 @@ fn file_entry(
     old: &[u8],
     at: usize,
 ) -> Passed
-    requires { ⌜ SoundIndex (now keys) (now marks) (now order) n ⌝ }
-    requires { ⌜ n ≤ 2048 ⌝ }
+    requires { ⌜ Open (now keys) (now marks) (now order) n ⌝ }
     requires { ⌜ Entry (now old) at ⌝ }
-    ensures { λ r. ⌜ Passes (now (old .entry)) at (now (keys .entry)) (now (marks .entry)) (now (order .entry)) n (now (keys .exit)) (now (marks .exit)) (now (order .exit)) (r .slots) (r .next) ⌝ }
+    ensures { λ r. ⌜ Passes (now (old .entry)) at (now (keys .entry)) (now (marks .entry)) (now (order .entry)) n
+        (now (keys .exit)) (now (marks .exit)) (now (order .exit)) (r .slots) (r .next) ⌝ }
 {
     let key = formats_read::text(old, at);
     let start = key.from;
@@ -72,7 +74,7 @@ fn file_entry(
 
 // The index of the old trips that stand at `at`: how many slots are in use.
 pub fn join(keys: &mut [u8], marks: &mut [u32], order: &mut [u32], old: &[u8], at: usize) -> usize
-    requires { ⌜ (length (now keys) ≡ 280713) × (length (now marks) ≡ 6147) × (length (now order) ≡ 2049) ⌝ }
+    requires { ⌜ Lent (now keys) (now marks) (now order) ⌝ }
     requires { ⌜ Stands (now old) at ⌝ }
     ensures { λ r. ⌜ Joined (now (old .entry)) at (now (keys .exit)) (now (marks .exit)) (now (order .exit)) r ⌝ }
 {

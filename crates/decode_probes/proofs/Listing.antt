@@ -17,26 +17,33 @@ use Rattle.decode_updates.specs.Line.{laid}
 use Rattle.decode_updates.specs.laws.Line.{laid-length}
 use Rattle.decode_updates.specs.Updates.{updatesAt}
 use Rattle.decode_updates.specs.promises.Updates.{ListedUpdates}
-use Rattle.decode_probes.specs.Answers.{isWhole, ofWhole}
+use Rattle.decode_probes.specs.Answers.{ofWhole}
+use Rattle.decode_probes.specs.promises.Answers.{isWhole}
 use Rattle.decode_probes.specs.Indexing.{IndexOutcome, refused, left, answered, limited, updatesOutcome}
 use Rattle.decode_probes.proofs.Reading.{of-whole, of-broken, all-of}
 
 module _ (n : ℕ) (e : List ℕ) where
   pub updates-unfit : (n ≡ 387 → ⊥) → refused 1 ≡ updatesOutcome (eqb n 387) e
-  updates-unfit h = ap (λ b. cond b (cond (leb (length e) 1048576) (ofWhole (refused 4) (λ m. limited (updatesIn m)) (tree feed feedEntity e)) (refused 3)) (refused 1)) (sym (ne-eqb n 387 h))
+  updates-unfit h =
+      ap (λ b. cond b (cond (leb (length e) 1048576)
+      (ofWhole (refused 4) (λ m. limited (updatesIn m)) (tree feed feedEntity e)) (refused 3)) (refused 1))
+      (sym (ne-eqb n 387 h))
 
   module _ (f : n ≡ 387) where
     pub updates-long : 1048576 < length e → refused 3 ≡ updatesOutcome (eqb n 387) e
     updates-long h = sym (rw (eq-eqb n 387 f, lt-leb (length e) 1048576 h) refl)
 
     module _ (l : length e ≤ 1048576) where
-      judged : {r : IndexOutcome (List (ℕ × StopUpdate))} → r ≡ ofWhole (refused 4) (λ m. limited (updatesIn m)) (tree feed feedEntity e) → r ≡ updatesOutcome (eqb n 387) e
+      judged : {r : IndexOutcome (List (ℕ × StopUpdate))}
+          → r ≡ ofWhole (refused 4) (λ m. limited (updatesIn m)) (tree feed feedEntity e)
+          → r ≡ updatesOutcome (eqb n 387) e
       judged h = h ∙ sym (rw (eq-eqb n 387 f, le-leb (length e) 1048576 l) refl)
 
       pub updates-broken : isWhole (tree feed feedEntity e) ≡ false → refused 4 ≡ updatesOutcome (eqb n 387) e
       updates-broken w = judged (of-broken (refused 4) (λ m. limited (updatesIn m)) feedEntity e w)
 
-      module _ {u : List ℕ} {r : ℕ} (w : isWhole (tree feed feedEntity e) ≡ true) (L : ListedUpdates e 0 (length e) u r) where
+      module _ {u : List ℕ} {r : ℕ} (w : isWhole (tree feed feedEntity e) ≡ true)
+          (L : ListedUpdates e 0 (length e) u r) where
         pub updates-many : 128 < r → refused 7 ≡ updatesOutcome (eqb n 387) e
         updates-many h =
             judged (of-whole (refused 4) (λ m. limited (updatesIn m)) feedEntity e w
@@ -48,6 +55,8 @@ module _ (n : ℕ) (e : List ℕ) where
             judged (of-whole (refused 4) (λ m. limited (updatesIn m)) feedEntity e w
             (λ m q.
             let k = L .of m (all-of feedEntity e q) .few h in
-            let c : length (updatesIn m) ≡ r = sym (ap length k) ∙ map-length (updateAt e) (laid r u) ∙ laid-length r u in
-            (λ j. cond (le-ltb (16 + r) 16 (omega arith) j) (refused (16 + r)) (left (updatesAt e (laid (i j) u)))) ∙ ap left k
+            let c : length (updatesIn m) ≡ r = sym (ap length k) ∙ map-length (updateAt e) (laid r u)
+            ∙ laid-length r u in
+            (λ j. cond (le-ltb (16 + r) 16 (omega arith) j) (refused (16 + r)) (left (updatesAt e (laid (i j) u))))
+            ∙ ap left k
             ∙ sym (rw (le-ltb 128 (length (updatesIn m)) (omega arith)) refl)))

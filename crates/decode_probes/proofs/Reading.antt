@@ -15,7 +15,8 @@ use Rattle.basics.specs.Texts.{same}
 use Rattle.realtime_views.specs.Views.{TripView}
 use Rattle.realtime_views.specs.promises.Views.{spanIn, viewTrip}
 use Rattle.realtime_views.specs.declared.Trip.{Trip}
-use Rattle.decode_probes.specs.Answers.{isWhole, ofWhole, textsAre}
+use Rattle.decode_probes.specs.Answers.{ofWhole, textsAre}
+use Rattle.decode_probes.specs.promises.Answers.{isWhole}
 
 abbrev pub unbroken : Verdict → Bool
 unbroken Verdict.Broken = false
@@ -45,7 +46,8 @@ module _ {A : Type 0} (d : A) (f : Tree → A) where
   pub of-broken : (t : ℕ) (s : List ℕ) → isWhole (tree feed t s) ≡ false → d ≡ ofWhole d f (tree feed t s)
   of-broken t s = none-broken (tree feed t s)
 
-  pub of-whole : (t : ℕ) (s : List ℕ) {r : A} → isWhole (tree feed t s) ≡ true → ((m : Tree) → tree feed t s ≡ some m → r ≡ f m) → r ≡ ofWhole d f (tree feed t s)
+  pub of-whole : (t : ℕ) (s : List ℕ) {r : A} → isWhole (tree feed t s) ≡ true
+      → ((m : Tree) → tree feed t s ≡ some m → r ≡ f m) → r ≡ ofWhole d f (tree feed t s)
   of-whole t s = some-whole (tree feed t s)
 
 -- a message in all of the bytes
@@ -54,5 +56,7 @@ all-of t s e = ap (tree feed t) (take-length s) ∙ e
 
 -- three texts of a trip compared
 module _ (s x y z : List ℕ) where
-  pub texts-read : (t : Trip) {v : TripView} {a b c : Bool} → a ≡ same (spanIn s (t .time)) x → b ≡ same (spanIn s (t .date)) y → c ≡ same (spanIn s (t .route)) z → viewTrip s t ≡ v → (a && b) && c ≡ textsAre v x y z
+  pub texts-read : (t : Trip) {v : TripView} {a b c : Bool} → a ≡ same (spanIn s (t .time)) x
+      → b ≡ same (spanIn s (t .date)) y → c ≡ same (spanIn s (t .route)) z → viewTrip s t ≡ v
+      → (a && b) && c ≡ textsAre v x y z
   texts-read t p q r h = (λ j. (p j && q j) && r j) ∙ ap (λ v. textsAre v x y z) h

@@ -1,6 +1,6 @@
 -- Believe: the probes' answers. What the probes answer, by the trees of the messages.
 use Prim.Native.Nat.{ℕ}
-use mathlib.Core.Bool.{Bool, true, false, _&&_}
+use mathlib.Core.Bool.{Bool, false, _&&_}
 use mathlib.Core.List.{List}
 use mathlib.Core.Option.{Option, none, some}
 use lib.IntN.{ℤ, pos}
@@ -13,6 +13,7 @@ use Rattle.decode_probes.specs.declared.HeaderNumbers.{HeaderNumbers}
 use Rattle.decode_probes.specs.declared.TripNumbers.{TripNumbers}
 use Rattle.decode_probes.specs.declared.EventNumbers.{EventNumbers}
 use Rattle.decode_probes.specs.declared.StopNumbers.{StopNumbers}
+use Rattle.basics.specs.Options.{isSome}
 
 -- the number of the question that has the answer no, else 0
 abbrev pub questionOf : Verdict → ℕ
@@ -20,13 +21,6 @@ questionOf Verdict.Fine = 0
 questionOf Verdict.Broken = 4
 questionOf Verdict.Text = 5
 questionOf Verdict.Time = 6
-
-abbrev pub isSome : {A : Type 0} → Option A → Bool
-isSome none = false
-isSome (some a) = true
-
-abbrev pub isWhole : Option Tree → Bool
-isWhole t = isSome t
 
 abbrev pub orNought : Option ℤ → ℤ
 orNought none = pos 0
@@ -38,13 +32,15 @@ ofWhole d f none = d
 ofWhole d f (some m) = f m
 
 abbrev pub headerNumbers : HeaderView → HeaderNumbers
-headerNumbers h = record { differential = h .differential; timed = isSome (h .timestamp); timestamp = orZero (h .timestamp) }
+headerNumbers h =
+    record { differential = h .differential; timed = isSome (h .timestamp); timestamp = orZero (h .timestamp) }
 
 abbrev pub noHeader : HeaderNumbers
 noHeader = record { differential = false; timed = false; timestamp = 0 }
 
 abbrev pub tripNumbers : Bool → Option ℕ → Option ℤ → TripNumbers
-tripNumbers c d l = record { cancelled = c; directed = isSome d; direction = orZero d; delayed = isSome l; delay = orNought l }
+tripNumbers c d l =
+    record { cancelled = c; directed = isSome d; direction = orZero d; delayed = isSome l; delay = orNought l }
 
 abbrev pub tripNumbersOf : TripView → TripNumbers
 tripNumbersOf t = tripNumbers (t .cancelled) (t .direction) (t .delay)
@@ -57,7 +53,14 @@ abbrev pub textsAre : TripView → List ℕ → List ℕ → List ℕ → Bool
 textsAre t x y z = (same (t .time) x && same (t .date) y) && same (t .route) z
 
 abbrev pub eventNumbers : EventView → EventNumbers
-eventNumbers e = record { delayed = isSome (e .delay); delay = orNought (e .delay); timed = isSome (e .time); time = orNought (e .time) }
+eventNumbers e =
+    record {
+      delayed = isSome (e .delay);
+      delay = orNought (e .delay);
+      timed = isSome (e .time);
+      time = orNought
+          (e .time);
+    }
 
 abbrev pub stopNumbers : ℕ → Bool → EventView → EventView → StopNumbers
 stopNumbers n s a d = record { sequence = n; skipped = s; arrival = eventNumbers a; departure = eventNumbers d }

@@ -6,6 +6,8 @@ use mathlib.Core.List.{List, []}
 use mathlib.Core.Option.{Option, none, some}
 use lib.Dec.{eqb, leb, ltb}
 use lib.ListN.{length}
+use Rattle.decode.specs.Sizes.{mostTrips, mostUpdates, mostFeed, mostMessage}
+use Rattle.decode.specs.Sizes.{keysLength, marksLength, orderLength, updatesLength, mostOld}
 use Rattle.formats.specs.Format.{list, read}
 use Rattle.formats_judge.specs.Judged.{judgeTo}
 use Rattle.formats_judge.specs.declared.Judge.{Judge}
@@ -24,7 +26,8 @@ use Rattle.decode_probes.specs.Answers.{questionOf, ofWhole}
 
 -- the lengths of the working slices
 abbrev pub sized : ℕ → ℕ → ℕ → ℕ → Bool
-sized keys marks order updates = ((eqb keys 280713 && eqb marks 6147) && eqb order 2049) && eqb updates 387
+sized keys marks order updates =
+    ((eqb keys keysLength && eqb marks marksLength) && eqb order orderLength) && eqb updates updatesLength
 
 abbrev pub unfailed : Judge → Bool
 unfailed Judge.Broken = false
@@ -36,18 +39,21 @@ tripsRead none = []
 tripsRead (some x) = x .0
 
 abbrev pub oldTrips : List ℕ → Trips
-oldTrips o = tripsRead (read (list 2048 tripEntry) o)
+oldTrips o = tripsRead (read (list mostTrips tripEntry) o)
 
 -- they are within questions 5 to 7
 abbrev pub areOld : List ℕ → Bool
-areOld o = leb (length o) 4000000000 && unfailed (judgeTo (list 2048 tripEntry) o 0)
+areOld o = leb (length o) mostOld && unfailed (judgeTo (list mostTrips tripEntry) o 0)
 
 -- question 5 asks for the feed's id, too
 abbrev pub judgedQuestion : Bool → ℕ → ℕ
 judgedQuestion short q = cond (eqb q 4) 4 (cond short q 5)
 
 abbrev pub messageQuestion : List ℕ → List ℕ → ℕ
-messageQuestion feed s = cond (leb (length s) 1048576) (judgedQuestion (leb (length feed) 16) (questionOf (asked rules feedMessage (tree schema.feed feedMessage s)))) 3
+messageQuestion feed s =
+    cond (leb (length s) mostMessage)
+    (judgedQuestion (leb (length feed) mostFeed)
+    (questionOf (asked rules feedMessage (tree schema.feed feedMessage s)))) 3
 
 abbrev pub question : Bool → List ℕ → List ℕ → List ℕ → ℕ
 question fit feed s old = cond fit (cond (areOld old) (messageQuestion feed s) 2) 1
@@ -67,7 +73,9 @@ unlessAsked zero x = x
 unlessAsked (suc n) x = refused (suc n)
 
 abbrev pub outcome : Bool → List ℕ → List ℕ → List ℕ → IndexOutcome Trips
-outcome fit feed s old = unlessAsked (question fit feed s old) (sevenOf (leaving (leaves feed (messageTree s) (puts texts (oldTrips old) []))))
+outcome fit feed s old =
+    unlessAsked (question fit feed s old)
+    (sevenOf (leaving (leaves feed (messageTree s) (puts texts (oldTrips old) []))))
 
 -- what the answer says, where n slots or lines hold t n
 abbrev pub answered : {A : Type 0} → (ℕ → A) → ℕ → IndexOutcome A
@@ -75,7 +83,9 @@ answered t r = cond (ltb r 16) (refused r) (left (t (r - 16)))
 
 -- The updates of an entity: more than 128 are refused
 abbrev pub limited : List (ℕ × StopUpdate) → IndexOutcome (List (ℕ × StopUpdate))
-limited l = cond (ltb 128 (length l)) (refused 7) (left l)
+limited l = cond (ltb mostUpdates (length l)) (refused 7) (left l)
 
 abbrev pub updatesOutcome : Bool → List ℕ → IndexOutcome (List (ℕ × StopUpdate))
-updatesOutcome fit e = cond fit (cond (leb (length e) 1048576) (ofWhole (refused 4) (λ m. limited (updatesIn m)) (tree schema.feed feedEntity e)) (refused 3)) (refused 1)
+updatesOutcome fit e =
+    cond fit (cond (leb (length e) mostMessage)
+    (ofWhole (refused 4) (λ m. limited (updatesIn m)) (tree schema.feed feedEntity e)) (refused 3)) (refused 1)

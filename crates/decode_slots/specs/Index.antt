@@ -4,13 +4,14 @@
 use Prim.Native.Nat.{ℕ, _+_, _*_}
 use mathlib.Core.List.{List, [], _∷_}
 use lib.ListN.{getD, take, drop}
+use Rattle.decode.specs.Sizes.{keyBytes}
 
 -- where a record comes from
 abbrev pub Place : Type 0
 Place = ℕ × ℕ
 
 abbrev pub slotKey : List ℕ → List ℕ → ℕ → List ℕ
-slotKey keys marks j = take (getD marks (3 * j) 0) (drop (137 * j) keys)
+slotKey keys marks j = take (getD marks (3 * j) 0) (drop (keyBytes * j) keys)
 
 abbrev pub slotPlace : List ℕ → ℕ → Place
 slotPlace marks j = (getD marks (3 * j + 1) 0, getD marks (3 * j + 2) 0)

@@ -10,6 +10,7 @@ use Rattle.formats.specs.Format.{read}
 use Rattle.realtime.specs.Tree.{Tree, end, tree}
 use Rattle.realtime.specs.Schema.{feedEntity, stopTimeUpdate}
 use Rattle.realtime.specs.Schema as schema
+use Rattle.decode.specs.Sizes.{mostUpdates, beyond}
 use Rattle.decode.specs.Trip.{StopUpdate, Trip, trip, updatesOf}
 use Rattle.maps.specs.Map.{mapValues}
 use Rattle.decode.specs.Record.{updateIn, tripIn}
@@ -30,10 +31,7 @@ recordAt s p = tripIn (orEnd (tree schema.feed feedEntity (bytesIn s p)))
 unfoldable pub updateAt : List ℕ → Place → StopUpdate
 updateAt s p = updateIn (orEnd (tree schema.feed stopTimeUpdate (bytesIn s p)))
 
--- a message has 1,048,576 bytes at most: the places above it are those of the old overlay's bytes
-abbrev pub beyond : ℕ
-beyond = 1048577
-
+-- a place of the message; the others are those of the old overlay's bytes
 abbrev pub isNew : Place → Bool
 isNew p = ltb (p .0) beyond
 
@@ -53,7 +51,7 @@ held s o m = mapValues (heldAt s o) m
 
 -- more than 128 updates in a record; in one of a feed's trips
 abbrev pub crowded : Trip → Bool
-crowded t = ltb 128 (length (updatesOf t))
+crowded t = ltb mostUpdates (length (updatesOf t))
 
 unfoldable pub anyCrowded : Trips → Bool
 anyCrowded [] = false

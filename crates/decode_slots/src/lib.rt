@@ -1,4 +1,5 @@
-// A sorted index in lent slices: keys of at most 137 bytes, each with a place, found by halving.
+// A sorted index in lent slices: keys, each with a place, found by halving.
+use decode::sizes::KEY_BYTES;
 use slices::Order;
 ghost use mathlib.Core.Path.{_≡_};
 ghost use Prim.Native.Nat.{_+_, _*_, _≤_, _<_};
@@ -6,8 +7,9 @@ ghost use mathlib.Core.Bool.{_&&_};
 ghost use lib.Dec.{ltb};
 ghost use lib.ListN.{length, getD, set};
 ghost use Rattle.slices.specs.Lists.{lexOf};
-ghost use Rattle.maps.specs.Map.{isSame, isMore};
+ghost use Rattle.maps.specs.promises.Order.{isSame, isMore};
 ghost use Rattle.maps.specs.Order.{texts};
+ghost use Rattle.decode.specs.Sizes.{mostTrips, keyBytes, marksLength, orderLength};
 ghost use Rattle.decode_slots.specs.Index.{slotKey, index};
 ghost use Rattle.decode_slots.specs.promises.Index.{keyIn, SoundIndex, Settled, rankOf, inserted, remarked};
 
@@ -59,23 +61,25 @@ fn is_same(o: Order) -> bool
 
 // The order of the key that stands in slot n, `len` long, and the key of a slot.
 fn key_order(keys: &[u8], marks: &[u32], n: usize, len: usize, slot: usize) -> Order
-    requires { ⌜ 137 * n + len ≤ length (now keys) ⌝ }
+    requires { ⌜ keyBytes * n + len ≤ length (now keys) ⌝ }
     requires { ⌜ 3 * slot < length (now marks) ⌝ }
-    requires { ⌜ 137 * slot + getD (now marks) (3 * slot) 0 ≤ length (now keys) ⌝ }
-    ensures { λ r. ⌜ r ≡ lexOf (keyIn (now (keys .entry)) n len) (slotKey (now (keys .entry)) (now (marks .entry)) slot) ⌝ }
+    requires { ⌜ keyBytes * slot + getD (now marks) (3 * slot) 0 ≤ length (now keys) ⌝ }
+    ensures { λ r. ⌜ r ≡
+        lexOf (keyIn (now (keys .entry)) n len) (slotKey (now (keys .entry)) (now (marks .entry)) slot) ⌝ }
 {
     let known = word(marks, 3 * slot);
     slices::compare(
-        wire::part(keys, 137 * n, len),
-        wire::part(keys, 137 * slot, known),
+        wire::part(keys, KEY_BYTES * n, len),
+        wire::part(keys, KEY_BYTES * slot, known),
     )
 }
 
 // How many keys stand before the key in slot n: found by halving.
 fn rank(keys: &[u8], marks: &[u32], order: &[u32], n: usize, len: usize) -> usize
     requires { ⌜ SoundIndex (now keys) (now marks) (now order) n ⌝ }
-    requires { ⌜ (n ≤ 2048) × (len ≤ 137) ⌝ }
-    ensures { λ r. ⌜ r ≡ rankOf texts (keyIn (now (keys .entry)) n len) (index (now (keys .entry)) (now (marks .entry)) (now (order .entry)) n) ⌝ }
+    requires { ⌜ (n ≤ mostTrips) × (len ≤ keyBytes) ⌝ }
+    ensures { λ r. ⌜ r ≡ rankOf texts (keyIn (now (keys .entry)) n len)
+        (index (now (keys .entry)) (now (marks .entry)) (now (order .entry)) n) ⌝ }
 {
     let mut lo: usize = 0;
     let mut hi = n;
@@ -94,8 +98,9 @@ fn rank(keys: &[u8], marks: &[u32], order: &[u32], n: usize, len: usize) -> usiz
 // Whether the key at rank r is the key in slot n.
 fn stands(keys: &[u8], marks: &[u32], order: &[u32], n: usize, len: usize, r: usize) -> bool
     requires { ⌜ SoundIndex (now keys) (now marks) (now order) n ⌝ }
-    requires { ⌜ (n ≤ 2048) × (len ≤ 137) ⌝ }
-    ensures { λ b. ⌜ b ≡ (ltb r n && isSame (lexOf (keyIn (now (keys .entry)) n len) (slotKey (now (keys .entry)) (now (marks .entry)) (getD (now (order .entry)) r 0)))) ⌝ }
+    requires { ⌜ (n ≤ mostTrips) × (len ≤ keyBytes) ⌝ }
+    ensures { λ b. ⌜ b ≡ (ltb r n && isSame (lexOf (keyIn (now (keys .entry)) n len)
+        (slotKey (now (keys .entry)) (now (marks .entry)) (getD (now (order .entry)) r 0)))) ⌝ }
 {
     if r >= n {
         return false;
@@ -114,8 +119,8 @@ pub fn mark(marks: &mut [u32], slot: usize, from: u32, to: u32)
 
 // Slot n is in use from now on, at rank r.
 fn enter(marks: &mut [u32], order: &mut [u32], n: usize, r: usize, len: usize, from: u32, to: u32)
-    requires { ⌜ (n ≤ 2048) × (r ≤ n) × (len ≤ 137) ⌝ }
-    requires { ⌜ (length (now marks) ≡ 6147) × (length (now order) ≡ 2049) ⌝ }
+    requires { ⌜ (n ≤ mostTrips) × (r ≤ n) × (len ≤ keyBytes) ⌝ }
+    requires { ⌜ (length (now marks) ≡ marksLength) × (length (now order) ≡ orderLength) ⌝ }
     ensures { λ _. ⌜ now (marks .exit) ≡ remarked (set (now (marks .entry)) (3 * n) len) n from to ⌝ }
     ensures { λ _. ⌜ now (order .exit) ≡ inserted (now (order .entry)) r n n ⌝ }
 {
@@ -135,8 +140,9 @@ pub fn settle(
     to: u32,
 ) -> usize
     requires { ⌜ SoundIndex (now keys) (now marks) (now order) n ⌝ }
-    requires { ⌜ (n ≤ 2048) × (len ≤ 137) ⌝ }
-    ensures { λ r. ⌜ Settled (now (keys .entry)) (now (marks .entry)) (now (order .entry)) n len from to (now (marks .exit)) (now (order .exit)) r ⌝ }
+    requires { ⌜ (n ≤ mostTrips) × (len ≤ keyBytes) ⌝ }
+    ensures { λ r. ⌜ Settled (now (keys .entry)) (now (marks .entry)) (now (order .entry)) n len from to
+        (now (marks .exit)) (now (order .exit)) r ⌝ }
 {
     let r = rank(keys, marks, order, n, len);
     if stands(keys, marks, order, n, len, r) {

@@ -23,7 +23,8 @@ pub record Counting (s : List ℕ) (start len n : ℕ) (w : Walk) : Type 0 where
   pub most : n ≤ 129
   pub walked : Walked s start len (λ e l. n + length l ≡ length (rep 2 (sub 3 e))) w
 
-pub counting : (s : List ℕ) (start len : ℕ) {w : Walk} → start + len ≤ length s → w ≡ atMerged start → Counting s start len 0 w
+pub counting : (s : List ℕ) (start len : ℕ) {w : Walk} → start + len ≤ length s → w ≡ atMerged start
+    → Counting s start len 0 w
 counting s start len i e = record { most = omega arith; walked = starts s start len i e (λ t. omega arith) }
 
 module _ {s : List ℕ} {start len n : ℕ} {w : Walk} (W : Counting s start len n w) where
@@ -42,5 +43,12 @@ module _ {s : List ℕ} {start len n : ℕ} {w : Walk} (W : Counting s start len
 pub crowded-counted : {s : List ℕ} {start len r : ℕ} → Counted s start len r → r ≤ 128 → CrowdedRead s start len false
 unfolding tripIn updatesIn
 crowded-counted C h = record {
-  of = λ e q. sym (le-ltb 128 (length (updatesIn e)) (omega (arith, C .of e q, puts-most numbers (map pair (rep 2 (sub 3 e))) [], length-map (rep 2 (sub 3 e)) pair)));
+  of = λ e q. sym (le-ltb 128 (length (updatesIn e))
+      (omega (
+        arith,
+        C .of e q,
+        puts-most numbers (map pair (rep 2 (sub 3 e))) [],
+        length-map (rep 2 (sub 3 e))
+            pair,
+      )));
 }

@@ -13,17 +13,21 @@ use Rattle.basics.specs.Lists.{All}
 use Rattle.maps.specs.laws.Map.{map-length}
 use Rattle.decode.specs.Record.{updatesIn, tripIn}
 use Rattle.decode_slots.specs.Index.{slotPlace}
+use Rattle.realtime.specs.Schema.{feedEntity}
 use Rattle.decode_slots.specs.Places.{recordAt, updateAt, orEnd, crowded}
 use Rattle.decode_slots.specs.promises.Places.{Readable}
 use Rattle.decode_updates.specs.Line.{laid}
 use Rattle.decode_updates.specs.laws.Line.{laid-length}
-use Rattle.decode_updates.specs.promises.Updates.{ListedUpdates, CrowdedRead, ReadableSlot, crowdedSlot, crowdedIn}
+use Rattle.decode_updates.specs.promises.Updates.{ListedUpdates, CrowdedRead, ReadableSlot, crowdedSlot}
+use Rattle.decode_updates.specs.promises.Updates.{crowdedIn}
 
 -- by the updates themselves
-pub crowded-listed : {s u : List ℕ} {start len r : ℕ} → ListedUpdates s start len u r → CrowdedRead s start len (ltb 128 r)
+pub crowded-listed : {s u : List ℕ} {start len r : ℕ} → ListedUpdates s start len u r
+    → CrowdedRead s start len (ltb 128 r)
 unfolding tripIn
 crowded-listed {s} {u} {start} {len} {r} L = record {
-  of = λ e q. go (ltb 128 r) refl (length (updatesIn e)) (L .of e q .many) (λ h. sym (ap length (L .of e q .few h)) ∙ map-length (updateAt s) (laid r u) ∙ laid-length r u);
+  of = λ e q. go (ltb 128 r) refl (length (updatesIn e)) (L .of e q .many)
+      (λ h. sym (ap length (L .of e q .few h)) ∙ map-length (updateAt s) (laid r u) ∙ laid-length r u);
 }
   where
     go : (b : Bool) → ltb 128 r ≡ b → (k : ℕ) → (128 < r → 128 < k) → (r ≤ 128 → k ≡ r) → b ≡ ltb 128 k
@@ -33,20 +37,24 @@ crowded-listed {s} {u} {start} {len} {r} L = record {
 module _ (s marks : List ℕ) (j : ℕ) where
   -- a record of the old overlay
   pub slot-old : {from : ℕ} → from ≡ getD marks (3 * j + 1) 0 → 1048577 ≤ from → false ≡ crowdedSlot s marks j
-  slot-old e h = sym (ap (λ b. b && crowded (recordAt s (slotPlace marks j))) (le-ltb (getD marks (3 * j + 1) 0) 1048577 (omega arith)))
+  slot-old e h =
+      sym (ap (λ b. b && crowded (recordAt s (slotPlace marks j)))
+      (le-ltb (getD marks (3 * j + 1) 0) 1048577 (omega arith)))
 
   module _ (R : ReadableSlot s marks j) {from : ℕ} (e : from ≡ getD marks (3 * j + 1) 0) (h : from < 1048577) where
-    pub slot-reads : Readable s (slotPlace marks j)
+    pub slot-reads : Readable feedEntity s (slotPlace marks j)
     slot-reads = R .1 (lt-ltb (getD marks (3 * j + 1) 0) 1048577 (omega arith))
 
     -- a record of the message
-    pub slot-new : {to : ℕ} {r : Bool} → to ≡ getD marks (3 * j + 2) 0 → CrowdedRead s from (to - from) r → r ≡ crowdedSlot s marks j
+    pub slot-new : {to : ℕ} {r : Bool} → to ≡ getD marks (3 * j + 2) 0 → CrowdedRead s from (to - from) r
+        → r ≡ crowdedSlot s marks j
     unfolding recordAt
     slot-new {to} {r} f C =
         let q = slot-reads .read in
-        let z : r ≡ crowded (tripIn (slot-reads .entity)) = (rw (e, f) at C) .of (slot-reads .entity) q in
+        let z : r ≡ crowded (tripIn (slot-reads .message)) = (rw (e, f) at C) .of (slot-reads .message) q in
         z ∙ sym (ap (λ o. crowded (tripIn (orEnd o))) q)
-        ∙ sym (ap (λ b. b && crowded (recordAt s (slotPlace marks j))) (lt-ltb (getD marks (3 * j + 1) 0) 1048577 (omega arith)))
+        ∙ sym (ap (λ b. b && crowded (recordAt s (slotPlace marks j)))
+        (lt-ltb (getD marks (3 * j + 1) 0) 1048577 (omega arith)))
 
 -- THE INVARIANT: the slots so far have none
 pub record Seeking (s marks order : List ℕ) (n i : ℕ) : Type 0 where
@@ -55,7 +63,8 @@ pub record Seeking (s marks order : List ℕ) (n i : ℕ) : Type 0 where
   pub readable : All (ReadableSlot s marks) (drop i (take n order))
   pub same : crowdedIn s marks (take n order) ≡ crowdedIn s marks (drop i (take n order))
 
-pub seeking : {s marks order : List ℕ} {n : ℕ} → n ≤ length order → All (ReadableSlot s marks) (take n order) → Seeking s marks order n 0
+pub seeking : {s marks order : List ℕ} {n : ℕ} → n ≤ length order → All (ReadableSlot s marks) (take n order)
+    → Seeking s marks order n 0
 seeking h R = record { most = omega arith; room = h; readable = R; same = refl }
 
 module _ {s marks order : List ℕ} {n i : ℕ} (K : Seeking s marks order n i) where
@@ -76,7 +85,9 @@ module _ {s marks order : List ℕ} {n i : ℕ} (K : Seeking s marks order n i) 
 
     pub seeks-found : {b : Bool} → b ≡ crowdedSlot s marks slot → b ≡ true → true ≡ crowdedIn s marks (take n order)
     unfolding crowdedIn
-    seeks-found f g = sym (K .same ∙ ap (crowdedIn s marks) next ∙ ap (λ x. x || crowdedIn s marks (drop (i + 1) (take n order))) (sym f ∙ g))
+    seeks-found f g =
+        sym (K .same ∙ ap (crowdedIn s marks) next
+        ∙ ap (λ x. x || crowdedIn s marks (drop (i + 1) (take n order))) (sym f ∙ g))
 
     pub seeks-on : {b : Bool} → b ≡ crowdedSlot s marks slot → b ≡ false → Seeking s marks order n (i + 1)
     unfolding crowdedIn
@@ -84,5 +95,6 @@ module _ {s marks order : List ℕ} {n i : ℕ} (K : Seeking s marks order n i) 
       most = omega arith;
       room = K .room;
       readable = (rw next at (K .readable)) .1;
-      same = K .same ∙ ap (crowdedIn s marks) next ∙ ap (λ x. x || crowdedIn s marks (drop (i + 1) (take n order))) (sym f ∙ g);
+      same = K .same ∙ ap (crowdedIn s marks) next
+          ∙ ap (λ x. x || crowdedIn s marks (drop (i + 1) (take n order))) (sym f ∙ g);
     }

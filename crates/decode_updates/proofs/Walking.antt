@@ -31,15 +31,22 @@ front-length : (s : List ℕ) (n : ℕ) → n ≤ length s → length (take n s)
 front-length s n h = omega (arith, length-take n s)
 
 -- all are left
-pub starts : (s : List ℕ) (start len : ℕ) {P : Tree → List Tree → Type 0} {w : Walk} → start + len ≤ length s → w ≡ atMerged start → ((e : Tree) → P e (rep 2 (sub 3 e)))
+pub starts : (s : List ℕ) (start len : ℕ) {P : Tree → List Tree → Type 0} {w : Walk} → start + len ≤ length s
+    → w ≡ atMerged start → ((e : Tree) → P e (rep 2 (sub 3 e)))
     → Walked s start len P w
 starts s start len i e p = record {
   inside = i;
   sound = merged-sound start (omega (arith, front-length s (start + len) i)) e;
-  of = λ t r. record { trees = rep 2 (sub 3 t); left = updates-left s start len i e ∙ ap (Option·map (λ e. rep 2 (sub 3 e))) r; holds = p t };
+  of = λ t r. record {
+    trees = rep 2 (sub 3 t);
+    left = updates-left s start len i e
+        ∙ ap (Option·map (λ e. rep 2 (sub 3 e))) r;
+    holds = p t;
+  };
 }
 
-module _ {s : List ℕ} {start len : ℕ} {P : Tree → List Tree → Type 0} {w : Walk} (W : Walked s start len P w) {x : List ℕ} (X : x ≡ take (start + len) s) where
+module _ {s : List ℕ} {start len : ℕ} {P : Tree → List Tree → Type 0} {w : Walk} (W : Walked s start len P w)
+    {x : List ℕ} (X : x ≡ take (start + len) s) where
   pub walks : SoundWalk x (w .outer) (w .end) (w .at)
   walks = rw X (W .sound)
 
@@ -62,13 +69,16 @@ module _ {s : List ℕ} {start len : ℕ} {P : Tree → List Tree → Type 0} {w
       less = found next a .less
 
       -- the first of those that are left is passed
-      pub walks-on : {Q : Tree → List Tree → Type 0} → ((e u : Tree) (k : List Tree) → tree feed stopTimeUpdate (take l (drop i s)) ≡ some u → P e (u ∷ k) → Q e k) → Walked s start len Q w′
+      pub walks-on : {Q : Tree → List Tree → Type 0}
+          → ((e u : Tree) (k : List Tree) → tree feed stopTimeUpdate (take l (drop i s)) ≡ some u → P e (u ∷ k) → Q e
+          k) → Walked s start len Q w′
       walks-on g = record {
         inside = W .inside;
         sound = found next a .sound;
         of = λ e q.
             let L = W .of e q in
             let (u, k, f, y, z) = yielded next a (L .trees) (L .left) in
-            let y′ : tree feed stopTimeUpdate (take l (drop i s)) ≡ some u = ap (tree feed stopTimeUpdate) (sym (front-part s (start + len) i l before (W .inside))) ∙ y in
+            let y′ : tree feed stopTimeUpdate (take l (drop i s)) ≡ some u = ap (tree feed stopTimeUpdate)
+            (sym (front-part s (start + len) i l before (W .inside))) ∙ y in
             record { trees = k; left = z; holds = g e u k y′ (subst (P e) f (L .holds)) };
       }

@@ -1,4 +1,6 @@
 // The updates of a trip record in ascending order of sequence, and whether a record of the index has too many.
+use decode::sizes::BEYOND;
+use decode::sizes::MOST_UPDATES;
 use realtime_views::Item;
 ghost use mathlib.Core.Path.{_≡_};
 ghost use Prim.Native.Nat.{_+_, _*_, _≤_};
@@ -7,16 +9,11 @@ ghost use lib.Dec.{ltb, eqb};
 ghost use lib.ListN.{length, take, getD};
 ghost use Rattle.basics.specs.Lists.{All};
 ghost use Rattle.maps.specs.Order.{numbers};
+ghost use Rattle.decode.specs.Sizes.{mostTrips, mostUpdates, mostMessage, marksLength, orderLength, updatesLength};
+ghost use Rattle.decode_updates.specs.promises.Line.{mostLines, three, Lined, Noted};
 ghost use Rattle.decode_slots.specs.promises.Index.{rankOf};
 ghost use Rattle.decode_updates.specs.Line.{laid};
-ghost use Rattle.decode_updates.specs.promises.Line.{three, Lined, Noted};
 ghost use Rattle.decode_updates.specs.promises.Updates.{ListedUpdates, Counted, CrowdedRead, ReadableSlot, crowdedSlot, crowdedIn};
-
-// The most updates that a trip may have.
-const LIMIT: usize = 128;
-
-// A message has 1,048,576 bytes at most: the places from here on are the old overlay's.
-const BEYOND: usize = 1048577;
 
 // How many updates stand before a sequence: sought from the end, since they arrive in order as a rule.
 fn place_of(updates: &[u32], n: usize, sequence: u32) -> usize
@@ -35,7 +32,7 @@ fn place_of(updates: &[u32], n: usize, sequence: u32) -> usize
 
 // Whether the update at rank r has the sequence.
 fn is_at(updates: &[u32], n: usize, r: usize, sequence: u32) -> bool
-    requires { ⌜ (n ≤ 129) × (length (now updates) ≡ 387) ⌝ }
+    requires { ⌜ (n ≤ mostLines) × (length (now updates) ≡ updatesLength) ⌝ }
     ensures { λ b. ⌜ b ≡ (ltb r n && eqb (getD (now (updates .entry)) (3 * r) 0) sequence) ⌝ }
 {
     if r >= n {
@@ -46,7 +43,7 @@ fn is_at(updates: &[u32], n: usize, r: usize, sequence: u32) -> bool
 
 // Three numbers go in at rank r.
 fn line(updates: &mut [u32], n: usize, r: usize, sequence: u32, from: u32, to: u32)
-    requires { ⌜ (r ≤ n) × (n ≤ 128) × (length (now updates) ≡ 387) ⌝ }
+    requires { ⌜ (r ≤ n) × (n ≤ mostUpdates) × (length (now updates) ≡ updatesLength) ⌝ }
     ensures { λ _. ⌜ now (updates .exit) ≡ three (now (updates .entry)) r n sequence from to ⌝ }
 {
     decode_slots::insert(updates, 3 * r, 3 * n, sequence);
@@ -57,7 +54,7 @@ fn line(updates: &mut [u32], n: usize, r: usize, sequence: u32, from: u32, to: u
 // An update goes in at its sequence, over an old one: how many are in use then.
 pub fn note(updates: &mut [u32], n: usize, sequence: u32, from: u32, to: u32) -> usize
     requires { ⌜ Lined (now updates) n ⌝ }
-    requires { ⌜ n ≤ 128 ⌝ }
+    requires { ⌜ n ≤ mostUpdates ⌝ }
     ensures { λ r. ⌜ Noted (now (updates .entry)) n sequence from to (now (updates .exit)) r ⌝ }
 {
     let r = place_of(updates, n, sequence);
@@ -69,10 +66,11 @@ pub fn note(updates: &mut [u32], n: usize, sequence: u32, from: u32, to: u32) ->
     n + 1
 }
 
-// The places of an entity's updates by their sequences, a later one over an earlier one: how many they are. The first above 128 is the last that is noted.
+// The places of an entity's updates by their sequences, a later one over an earlier one: how many they are. The first
+// above 128 is the last that is noted.
 pub fn updates_of(updates: &mut [u32], s: &[u8], start: usize, len: usize) -> usize
-    requires { ⌜ length (now updates) ≡ 387 ⌝ }
-    requires { ⌜ (start + len ≤ length (now s)) × (length (now s) ≤ 1048576) ⌝ }
+    requires { ⌜ length (now updates) ≡ updatesLength ⌝ }
+    requires { ⌜ (start + len ≤ length (now s)) × (length (now s) ≤ mostMessage) ⌝ }
     ensures { λ r. ⌜ ListedUpdates (now (s .entry)) start len (now (updates .exit)) r ⌝ }
 {
     let end = start + len;
@@ -88,7 +86,7 @@ pub fn updates_of(updates: &mut [u32], s: &[u8], start: usize, len: usize) -> us
             } => {
                 let sequence = realtime_views::sequence_at(s, at, size);
                 n = note(updates, n, sequence, at as u32, (at + size) as u32);
-                if n > LIMIT {
+                if n > MOST_UPDATES {
                     return n;
                 }
                 walk = rest;
@@ -105,7 +103,7 @@ fn count_updates(s: &[u8], start: usize, len: usize) -> usize
     let end = start + len;
     let mut walk = realtime_views::updates(start);
     let mut n: usize = 0;
-    while n <= LIMIT {
+    while n <= MOST_UPDATES {
         match realtime_views::next_update(wire::part(s, 0, end), walk) {
             Item::Done => return n,
             Item::At {
@@ -123,19 +121,20 @@ fn count_updates(s: &[u8], start: usize, len: usize) -> usize
 
 // Whether the record of an entity has more than 128. Few records do, and counting tells of nearly all others.
 fn is_crowded(updates: &mut [u32], s: &[u8], start: usize, len: usize) -> bool
-    requires { ⌜ length (now updates) ≡ 387 ⌝ }
-    requires { ⌜ (start + len ≤ length (now s)) × (length (now s) ≤ 1048576) ⌝ }
+    requires { ⌜ length (now updates) ≡ updatesLength ⌝ }
+    requires { ⌜ (start + len ≤ length (now s)) × (length (now s) ≤ mostMessage) ⌝ }
     ensures { λ r. ⌜ CrowdedRead (now (s .entry)) start len r ⌝ }
 {
-    if count_updates(s, start, len) <= LIMIT {
+    if count_updates(s, start, len) <= MOST_UPDATES {
         return false;
     }
-    updates_of(updates, s, start, len) > LIMIT
+    updates_of(updates, s, start, len) > MOST_UPDATES
 }
 
 // Whether a slot's record is of the message, and has more than 128.
 fn slot_crowded(updates: &mut [u32], marks: &[u32], slot: usize, s: &[u8]) -> bool
-    requires { ⌜ (length (now updates) ≡ 387) × (length (now marks) ≡ 6147) × (length (now s) ≤ 1048576) ⌝ }
+    requires { ⌜ (length (now updates) ≡ updatesLength) × (length (now marks) ≡ marksLength)
+        × (length (now s) ≤ mostMessage) ⌝ }
     requires { ⌜ ReadableSlot (now s) (now marks) slot ⌝ }
     ensures { λ r. ⌜ r ≡ crowdedSlot (now (s .entry)) (now (marks .entry)) slot ⌝ }
 {
@@ -149,8 +148,9 @@ fn slot_crowded(updates: &mut [u32], marks: &[u32], slot: usize, s: &[u8]) -> bo
 
 // Whether one of the first n slots has such a record: the first that is found ends the search.
 pub fn any_crowded(updates: &mut [u32], marks: &[u32], order: &[u32], n: usize, s: &[u8]) -> bool
-    requires { ⌜ (length (now updates) ≡ 387) × (length (now marks) ≡ 6147) × (length (now order) ≡ 2049) ⌝ }
-    requires { ⌜ (n ≤ 2048) × (length (now s) ≤ 1048576) ⌝ }
+    requires { ⌜ (length (now updates) ≡ updatesLength) × (length (now marks) ≡ marksLength)
+        × (length (now order) ≡ orderLength) ⌝ }
+    requires { ⌜ (n ≤ mostTrips) × (length (now s) ≤ mostMessage) ⌝ }
     requires { ⌜ All (ReadableSlot (now s) (now marks)) (take n (now order)) ⌝ }
     ensures { λ r. ⌜ r ≡ crowdedIn (now (s .entry)) (now (marks .entry)) (take n (now (order .entry))) ⌝ }
 {

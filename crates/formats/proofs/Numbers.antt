@@ -13,7 +13,8 @@ use lib.Dec.{eqb}
 use borrow.Author.Tests.{lt-ltb, le-ltb, eq-eqb, ne-eqb}
 use Rattle.formats.specs.Readers.{Reader, bind}
 use Rattle.formats.specs.laws.Law.{Law}
-use Rattle.formats.specs.Number.{groupsR, numberR, top, littleR}
+use Rattle.formats.specs.Number.{groupsR, numberR, littleR}
+use Rattle.formats.specs.promises.Number.{top}
 use Rattle.formats.specs.laws.Number.{groupsLaw, littleLaw}
 use Rattle.formats.specs.laws.Outcome.{suffix}
 use Rattle.formats.specs.promises.Outcome.{numbered}

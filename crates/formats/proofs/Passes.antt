@@ -3,25 +3,28 @@ use mathlib.Core.Path.{_≡_, refl, sym, ap, _∙_}
 use mathlib.Core.List.{List, _∷_}
 use mathlib.Core.Option.{Option, none, some}
 use mathlib.Core.Logic.{inl, inr}
-use mathlib.Core.Bool.{Bool, true, false}
 use Prim.Native.Nat.{ℕ, zero, suc, _+_, _-_, _*_, _≤_, _<_}
 use native.Mathlib.Omega.{arith}
-use lib.ListN.{length, drop, getD, length-append, length-drop, drop-of-length-le}
-use lib.Dec.{ltb}
-use borrow.Author.Tests.{lt-ltb, le-ltb, ltb-true, ltb-false, le-leb, lt-leb, eq-eqb, ne-eqb}
+use lib.ListN.{length, drop, getD, length-drop, drop-of-length-le}
+use borrow.Author.Tests.{lt-ltb, le-ltb, le-leb, lt-leb, eq-eqb, ne-eqb}
 use Rattle.formats.specs.Readers.{bind, bytesR, constR, manyR}
 use Rattle.formats.specs.Number.{numberR, littleR}
-use Rattle.formats.specs.laws.Number.{numberLaw, littleLaw}
-use Rattle.formats.specs.Format.{Format, choice, Value, write, read, element}
-use Rattle.formats.specs.laws.Format.{law, count-over}
+use Rattle.formats.specs.laws.Number.{littleLaw}
+use Rattle.formats.specs.Format.{Format, Value, read}
+use Rattle.formats.specs.promises.Outcome.{element, numbered, skipped, skipTo, skipMany, formatAt, leafFormat, tagAt}
+use Rattle.formats.specs.laws.Format.{law}
 use Rattle.formats.specs.laws.Outcome.{broken, at-place}
-use Rattle.formats.specs.promises.Outcome.{numbered, skipped, skipTo, skipMany, formatAt, leafFormat, tagAt}
 use Rattle.formats.specs.declared.Numeral.{Numeral}
 use Rattle.formats.specs.declared.Numeral.the-variants.{Got, Bad}
 use Rattle.formats.specs.declared.Skip.{Skip}
 use Rattle.formats.specs.declared.Skip.the-variants.{At, Broken}
-use Rattle.formats.proofs.Numbers.{place, opened, Found, got, bad-none}
-use Rattle.formats.proofs.Nodes.{node-leaf, node-list, node-choice, node-pair, node-never, node-none}
+use Rattle.formats.proofs.Numbers.{place, opened, Found, got}
+use Rattle.formats.proofs.Parts.{count, Numbered, no-value, no-float, no-number, too-large, no-element, no-bytes, an-element, the-one, the-other, no-depth, no-count, too-many, no-tag, no-first, no-kind}
+use Rattle.formats.proofs.Nodes.{node-leaf, node-list, node-choice, node-pair}
+
+-- nothing was read
+pub nothing : {A : Type 0} (s : List ℕ) {o : Option (A × List ℕ)} → o ≡ none → Broken ≡ skipped s o
+nothing s e = sym (ap (skipped s) e)
 
 -- n bytes
 pub raw-good : (s : List ℕ) (at n : ℕ) → at ≤ length s → n ≤ length s - at → At (at + n) ≡ skipped s (bytesR n (drop at s))
@@ -48,27 +51,17 @@ tag-end s at h = rw (le-ltb at (length s) h) refl
 pub tag-in : (s : List ℕ) (at b : ℕ) → b ≡ getD s at 0 → at < length s → b ≡ tagAt s at
 tag-in s at b e h = rw (lt-ltb at (length s) h) e
 
-pub tag-at : (s : List ℕ) (at c : ℕ) → c ≡ tagAt s at → c < 2 → (at < length s) × (c ≡ getD s at 0)
-tag-at s at c e l = go (ltb at (length s)) refl
-  where
-    go : (t : Bool) → ltb at (length s) ≡ t → (at < length s) × (c ≡ getD s at 0)
-    go true q = (ltb-true at (length s) q, rw (q, tagAt) at e)
-    go false q = let z : c ≡ 2 = rw (q, tagAt) at e in absurd (omega arith)
-
-pub tag-within : (s : List ℕ) (at c : ℕ) → c ≡ tagAt s at → c < 2 → at + 1 ≤ length s
-tag-within s at c e l = omega (arith, tag-at s at c e l .0)
-
 -- the kinds with no parts
 module _ (kind a : ℕ) (s : List ℕ) (at : ℕ) where
   pub leaf-0 : kind ≡ 0 → Broken ≡ skipTo (leafFormat kind a 0) s at
-  leaf-0 e = rw e refl
+  leaf-0 e = nothing s (no-value kind a 0 s at e)
 
   pub leaf-1 : kind ≡ 1 → at ≤ length s → At at ≡ skipTo (leafFormat kind a 0) s at
   leaf-1 e h = rw (e, place s at h) refl
 
   module _ (e : kind ≡ 6) (o : Numeral) (r : o ≡ numbered s (littleR 8 (drop at s))) where
     pub leaf-6-bad : o ≡ Bad → Broken ≡ skipTo (leafFormat kind a 0) s at
-    leaf-6-bad h = rw (e, bad-none s (littleR 8 (drop at s)) o r h) refl
+    leaf-6-bad h = nothing s (no-float kind a 0 s at e o r h)
 
     pub leaf-6 : (n p : ℕ) → o ≡ Got n p → At p ≡ skipTo (leafFormat kind a 0) s at
     leaf-6 n p h = let g = got (littleLaw 8) s at n p o r h in rw (e, g .reads, place s p (g .within)) refl
@@ -76,40 +69,16 @@ module _ (kind a : ℕ) (s : List ℕ) (at : ℕ) where
   pub leaf-7 : (r : Skip) → r ≡ skipped s (constR a (drop at s)) → kind ≡ 7 → r ≡ skipTo (leafFormat kind a 0) s at
   leaf-7 r h e = rw e h
 
--- a number was got
-pub count : (s : List ℕ) (at n p : ℕ) (o : Numeral) → o ≡ numbered s (numberR (drop at s)) → o ≡ Got n p → Found numberR s at n p
-count s at n p o r e = got numberLaw s at n p o r e
-
-pub count-within : (s : List ℕ) (at n p : ℕ) (o : Numeral) → o ≡ numbered s (numberR (drop at s)) → o ≡ Got n p → p ≤ length s
-count-within s at n p o r e = count s at n p o r e .within
-
--- one of the kinds 2 to 5, which begin with a number
-pub record Numbered (kind : ℕ) : Type 0 where
-  pub low : 2 ≤ kind
-  pub high : kind ≤ 5
-
-pub begins : (kind : ℕ) → kind < 8 → (kind ≡ 0 → ⊥) → (kind ≡ 1 → ⊥) → (kind ≡ 6 → ⊥) → (kind ≡ 7 → ⊥) → Numbered kind
-begins kind h z₀ z₁ z₆ z₇ = record { low = omega arith; high = omega arith }
-
 module _ (a : ℕ) (s : List ℕ) (at : ℕ) (o : Numeral) (r : o ≡ numbered s (numberR (drop at s))) where
-  bad-go : (kind : ℕ) → numberR (drop at s) ≡ none → 2 ≤ kind → kind ≤ 5 → Broken ≡ skipTo (leafFormat kind a 0) s at
-  bad-go zero e l h = absurd (omega arith)
-  bad-go (suc zero) e l h = absurd (omega arith)
-  bad-go (suc (suc zero)) e l h = rw e refl
-  bad-go (suc (suc (suc zero))) e l h = rw e refl
-  bad-go (suc (suc (suc (suc zero)))) e l h = rw e refl
-  bad-go (suc (suc (suc (suc (suc zero))))) e l h = rw e refl
-  bad-go (suc (suc (suc (suc (suc (suc k)))))) e l h = absurd (omega arith)
-
   pub leaf-bad : (kind : ℕ) → o ≡ Bad → Numbered kind → Broken ≡ skipTo (leafFormat kind a 0) s at
-  leaf-bad kind e k = bad-go kind (bad-none s (numberR (drop at s)) o r e) (k .low) (k .high)
+  leaf-bad kind e k = nothing s (no-number a 0 s at o r kind e k)
 
   module _ (n p : ℕ) (e : o ≡ Got n p) where
     read-it : Found numberR s at n p
     read-it = count s at n p o r e
 
     pub leaf-4-over : (kind : ℕ) → kind ≡ 4 → a < n → Broken ≡ skipTo (leafFormat kind a 0) s at
-    leaf-4-over kind k l = rw (k, read-it .reads, lt-leb n a l) refl
+    leaf-4-over kind k l = nothing s (too-large a 0 s at o r n p e kind k l)
 
     pub leaf-4 : (kind : ℕ) → kind ≡ 4 → n ≤ a → At p ≡ skipTo (leafFormat kind a 0) s at
     leaf-4 kind k l = rw (k, read-it .reads, le-leb n a l, place s p (read-it .within)) refl
@@ -143,39 +112,26 @@ passed-in f s at p r e h = at-in f s (read f (drop at s)) p (sym h ∙ e)
 pub many-none : (f : Format) (s : List ℕ) (n at : ℕ) (x : Skip) → skipMany f n s at ≡ x → n ≤ 0 → at ≤ length s → At at ≡ x
 many-none f s n at x i l h = let e : n ≡ 0 = omega arith in let j : At at ≡ skipMany f n s at = rw (e, place s at h) refl in j ∙ i
 
--- a value was passed: it takes the bytes up to the place past it
-pub took : (f : Format) (s : List ℕ) (at p : ℕ) (v : Value f) → at ≤ length s → p ≤ length s → read f (drop at s) ≡ some (v, drop p s) → length (write f v) ≡ p - at
-took f s at p v h k e =
-    let b = law f .back (drop at s) v (drop p s) e .0 in
-    let n : length s - at ≡ length (write f v) + (length s - p) = rw (length-drop, length-append, length-drop) at (ap length b) in
-    omega arith
-
 module _ (f : Format) (s : List ℕ) (n at : ℕ) (r : Skip) (e : r ≡ skipTo f s at) (l : 0 < n) (x : Skip) (i : skipMany f n s at ≡ x) where
-  many-is : manyR (element f) n (drop at s) ≡ bind (element f (drop at s)) (λ a t. bind (manyR (element f) (n - 1) t) (λ v u. some (a ∷ v, u)))
-  many-is = let i : n ≡ suc (n - 1) = omega arith in ap (λ n. manyR (element f) n (drop at s)) i
-
   pub many-bad : r ≡ Broken → Broken ≡ x
-  many-bad h = let j : Broken ≡ skipMany f n s at = rw (many-is, broken s (read f (drop at s)) (sym e ∙ h)) refl in j ∙ i
+  many-bad h = nothing s (no-element f s n at l (broken s (read f (drop at s)) (sym e ∙ h))) ∙ i
 
   module _ (p : ℕ) (h : r ≡ At p) (k : at ≤ length s) where
     pub many-flat : p ≤ at → Broken ≡ x
     many-flat j =
         let y = at-place (law f) s at p (sym e ∙ h) in
-        let q = took f s at p (y .0) k (passed-in f s at p r e h) (y .1) in
-        let m : Broken ≡ skipMany f n s at = rw (many-is, y .1, le-ltb 0 (length (write f (y .0))) (omega arith)) refl in m ∙ i
+        nothing s (no-bytes f s n at l p (y .0) k (passed-in f s at p r e h) (y .1) j) ∙ i
 
     pub many-more : at < p → skipMany f (n - 1) s p ≡ x
     many-more j =
         let y = at-place (law f) s at p (sym e ∙ h) in
-        let q = took f s at p (y .0) k (passed-in f s at p r e h) (y .1) in
-        let m : skipMany f (n - 1) s p ≡ skipMany f n s at =
-        rw (many-is, y .1, lt-ltb 0 (length (write f (y .0))) (omega arith)) (moved s (λ v. y .0 ∷ v) (manyR (element f) (n - 1) (drop p s))) in
-        m ∙ i
+        moved s (λ v. y .0 ∷ v) (manyR (element f) (n - 1) (drop p s))
+        ∙ sym (ap (skipped s) (an-element f s n at l p (y .0) k (passed-in f s at p r e h) (y .1) j)) ∙ i
 
 -- the node at n of the table t
 module _ (depth : ℕ) (t : List ℕ) (n : ℕ) (s : List ℕ) (at : ℕ) where
   pub pass-none : depth ≡ 0 → Broken ≡ skipTo (formatAt depth t n) s at
-  pass-none z = rw (node-none depth t n z) refl
+  pass-none z = nothing s (no-depth depth t n s at z)
 
   module _ (z : depth ≡ 0 → ⊥) (kind a b : ℕ) (ek : kind ≡ getD t (4 * n + 0) 0) (ea : a ≡ getD t (4 * n + 1) 0) (eb : b ≡ getD t (4 * n + 2) 0) where
     leaf-any : (kind a b : ℕ) → kind < 8 → skipTo (leafFormat kind a 0) s at ≡ skipTo (leafFormat kind a b) s at
@@ -195,16 +151,11 @@ module _ (depth : ℕ) (t : List ℕ) (n : ℕ) (s : List ℕ) (at : ℕ) where
     -- a list
     module _ (k : kind ≡ 8) (o : Numeral) (r : o ≡ numbered s (numberR (drop at s))) where
       pub list-bad : o ≡ Bad → Broken ≡ skipTo (formatAt depth t n) s at
-      list-bad e = rw (node-list depth t n z kind a b ek ea eb k, bad-none s (numberR (drop at s)) o r e) refl
+      list-bad e = nothing s (no-count depth t n s at z kind a b ek ea eb k o r e)
 
       module _ (m p : ℕ) (e : o ≡ Got m p) where
         pub list-over : length s - p < m → Broken ≡ skipTo (formatAt depth t n) s at
-        list-over l =
-            rw (
-              node-list depth t n z kind a b ek ea eb k,
-              count s at m p o r e .reads,
-              count-over (formatAt (depth - 1) t b) m (drop p s) (rw length-drop l),
-            ) refl
+        list-over l = nothing s (too-many depth t n s at z kind a b ek ea eb k o r m p e l)
 
         pub list-good : (x : Skip) → x ≡ skipMany (formatAt (depth - 1) t b) m s p → x ≡ skipTo (formatAt depth t n) s at
         list-good x f = rw (node-list depth t n z kind a b ek ea eb k, count s at m p o r e .reads) f
@@ -213,25 +164,27 @@ module _ (depth : ℕ) (t : List ℕ) (n : ℕ) (s : List ℕ) (at : ℕ) where
     module _ (k : kind ≡ 9) (c : ℕ) (e : c ≡ tagAt s at) where
       pub choice-0 : c ≡ 0 → (x : Skip) → x ≡ skipTo (formatAt (depth - 1) t a) s (at + 1) → x ≡ skipTo (formatAt depth t n) s at
       choice-0 i x f =
-          let h = tag-at s at c e (omega arith) in
-          rw (node-choice depth t n z kind a b ek ea eb k, opened s at c (h .0) (h .1), i) (f ∙ moved s inl (read (formatAt (depth - 1) t a) (drop (at + 1) s)))
+          let A = formatAt (depth - 1) t a in
+          let B = formatAt (depth - 1) t b in
+          rw (node-choice depth t n z kind a b ek ea eb k, the-one A B s at c e i)
+          (f ∙ moved s inl (read A (drop (at + 1) s)))
 
       pub choice-1 : c ≡ 1 → (x : Skip) → x ≡ skipTo (formatAt (depth - 1) t b) s (at + 1) → x ≡ skipTo (formatAt depth t n) s at
       choice-1 i x f =
-          let h = tag-at s at c e (omega arith) in
-          rw (node-choice depth t n z kind a b ek ea eb k, opened s at c (h .0) (h .1), i) (f ∙ moved s inr (read (formatAt (depth - 1) t b) (drop (at + 1) s)))
+          let A = formatAt (depth - 1) t a in
+          let B = formatAt (depth - 1) t b in
+          rw (node-choice depth t n z kind a b ek ea eb k, the-other A B s at c e i)
+          (f ∙ moved s inr (read B (drop (at + 1) s)))
 
       pub choice-2 : (c ≡ 0 → ⊥) → (c ≡ 1 → ⊥) → Broken ≡ skipTo (formatAt depth t n) s at
-      choice-2 i j = rw (node-choice depth t n z kind a b ek ea eb k) (go (ltb at (length s)) refl)
-        where
-          go : (q : Bool) → ltb at (length s) ≡ q → Broken ≡ skipTo (choice (formatAt (depth - 1) t a) (formatAt (depth - 1) t b)) s at
-          go true q = rw (opened s at c (ltb-true at (length s) q) (rw (q, tagAt) at e), ne-eqb c 0 i, ne-eqb c 1 j) refl
-          go false q = rw (drop-of-length-le s (ltb-false at (length s) q)) refl
+      choice-2 i j = nothing s (no-tag depth t n s at z kind a b ek ea eb k c e i j)
 
     -- one after the other
     module _ (k : kind ≡ 10) (r : Skip) (e : r ≡ skipTo (formatAt (depth - 1) t a) s at) where
       pub pair-bad : r ≡ Broken → Broken ≡ skipTo (formatAt depth t n) s at
-      pair-bad h = rw (node-pair depth t n z kind a b ek ea eb k, broken s (read (formatAt (depth - 1) t a) (drop at s)) (sym e ∙ h)) refl
+      pair-bad h =
+          let none-read = broken s (read (formatAt (depth - 1) t a) (drop at s)) (sym e ∙ h) in
+          nothing s (no-first depth t n s at z kind a b ek ea eb k none-read)
 
       pub pair-good : (p : ℕ) → r ≡ At p → (x : Skip) → x ≡ skipTo (formatAt (depth - 1) t b) s p → x ≡ skipTo (formatAt depth t n) s at
       pair-good p h x f =
@@ -239,4 +192,4 @@ module _ (depth : ℕ) (t : List ℕ) (n : ℕ) (s : List ℕ) (at : ℕ) where
           rw (node-pair depth t n z kind a b ek ea eb k, y .1) (f ∙ moved s (λ v. (y .0, v)) (read (formatAt (depth - 1) t b) (drop p s)))
 
     pub pass-never : 8 ≤ kind → (kind ≡ 8 → ⊥) → (kind ≡ 9 → ⊥) → (kind ≡ 10 → ⊥) → Broken ≡ skipTo (formatAt depth t n) s at
-    pass-never l z₈ z₉ z₁₀ = rw (node-never depth t n z kind a b ek ea eb l z₈ z₉ z₁₀) refl
+    pass-never l z₈ z₉ z₁₀ = nothing s (no-kind depth t n s at z kind a b ek ea eb l z₈ z₉ z₁₀)

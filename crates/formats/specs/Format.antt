@@ -87,7 +87,3 @@ Fits (constant c) = λ v. Unit {0}
 Fits (list l f) = λ v. (length v < 2 ^ 64) × All (λ x. Fits f x × (takes f x ≡ true)) v
 Fits (choice a b) = choiceOk (Fits a) (Fits b)
 Fits (a & b) = λ v. Fits a (v .0) × Fits b (v .1)
-
--- an element of a list
-abbrev pub element : (f : Format) → Reader (Value f)
-element f = onlyR (takes f) (read f)

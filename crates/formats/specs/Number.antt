@@ -9,11 +9,6 @@ use lib.IntN.{ℤ, pos, negsuc}
 use lib.Dec.{ltb, eqb}
 use Rattle.formats.specs.Readers.{Reader, bind}
 
--- what k groups more can hold beside a first one: the bound below which the number is, top 9 = 2^64
-abbrev pub top : ℕ → ℕ
-top zero = 2
-top (suc k) = 128 * top k
-
 abbrev pub groupsW : ℕ → ℕ → List ℕ
 groupsW zero n = n ∷ []
 groupsW (suc k) n = cond (ltb n 128) (n ∷ []) ((128 + n % 128) ∷ groupsW k (n / 128))

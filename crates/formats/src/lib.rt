@@ -6,6 +6,42 @@ ghost use Rattle.formats.specs.Readers.{bytesR, constR};
 ghost use Rattle.formats.specs.Number.{groupsR, numberR, littleR};
 ghost use Rattle.formats.specs.promises.Outcome.{numbered, skipped, skipTo, skipMany, formatAt, leafFormat, tagAt};
 
+// The kinds of nodes in a table.
+pub mod kinds {
+    pub const NEVER: u64 = 0;
+
+    pub const EMPTY: u64 = 1;
+
+    // bounds
+    pub const NUMBER: u64 = 2;
+
+    // bounds, as they are written
+    pub const SIGNED: u64 = 3;
+
+    // the largest
+    pub const SMALL: u64 = 4;
+
+    // limit, class
+    pub const TEXT: u64 = 5;
+
+    pub const FLOAT: u64 = 6;
+
+    // the byte
+    pub const CONSTANT: u64 = 7;
+
+    // limit, node
+    pub const LIST: u64 = 8;
+
+    // node, node
+    pub const CHOICE: u64 = 9;
+
+    // node, node
+    pub const PAIR: u64 = 10;
+
+    // Kinds below this one have no parts.
+    pub const PARTS: u64 = LIST;
+}
+
 // What reading a number finds: the number and the place past it.
 pub enum Numeral {
     Got(u64, usize),
@@ -155,31 +191,31 @@ fn leaf(kind: u64, a: u64, s: &[u8], at: usize) -> Skip
     requires { ⌜ (kind < 8) × (at ≤ length (now s)) ⌝ }
     ensures { λ r. ⌜ r ≡ skipTo (leafFormat kind a 0) (now (s .entry)) at ⌝ }
 {
-    if kind == 0 {
+    if kind == kinds::NEVER {
         return Skip::Broken;
     }
-    if kind == 1 {
+    if kind == kinds::EMPTY {
         return Skip::At(at);
     }
-    if kind == 6 {
+    if kind == kinds::FLOAT {
         let Numeral::Got(_, p) = float(s, at) else {
             return Skip::Broken;
         };
         return Skip::At(p);
     }
-    if kind == 7 {
+    if kind == kinds::CONSTANT {
         return given(s, at, a);
     }
     let Numeral::Got(n, p) = number(s, at) else {
         return Skip::Broken;
     };
-    if kind == 4 {
+    if kind == kinds::SMALL {
         if a < n {
             return Skip::Broken;
         }
         return Skip::At(p);
     }
-    if kind == 5 {
+    if kind == kinds::TEXT {
         return raw(s, p, n);
     }
     Skip::At(p)
@@ -197,10 +233,10 @@ pub fn pass(t: &[u64], depth: u32, node: u64, s: &[u8], at: usize) -> Skip
     let kind = word(t, node, 0);
     let a = word(t, node, 1);
     let b = word(t, node, 2);
-    if kind < 8 {
+    if kind < kinds::PARTS {
         return leaf(kind, a, s, at);
     }
-    if kind == 8 {
+    if kind == kinds::LIST {
         let Numeral::Got(n, p) = number(s, at) else {
             return Skip::Broken;
         };
@@ -209,7 +245,7 @@ pub fn pass(t: &[u64], depth: u32, node: u64, s: &[u8], at: usize) -> Skip
         }
         return pass_many(t, d, b, n, s, p);
     }
-    if kind == 9 {
+    if kind == kinds::CHOICE {
         let c = tag(s, at);
         if c == 0 {
             return pass(t, d, a, s, at + 1);
@@ -219,7 +255,7 @@ pub fn pass(t: &[u64], depth: u32, node: u64, s: &[u8], at: usize) -> Skip
         }
         return Skip::Broken;
     }
-    if kind == 10 {
+    if kind == kinds::PAIR {
         let Skip::At(p) = pass(t, d, a, s, at) else {
             return Skip::Broken;
         };

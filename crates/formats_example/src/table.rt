@@ -1,90 +1,114 @@
 // The format of a ticket as the table that the interpreter goes by: four words to a node, parts before the whole.
+use formats::kinds;
+
 pub const TICKET: [u64; 88] = [
-    7,
+    // 0: version
+    kinds::CONSTANT,
     1,
     0,
     0,
-    2,
+    // 1: number of the ticket
+    kinds::NUMBER,
     0,
     999999,
     0,
-    5,
+    // 2: passenger: printable
+    kinds::TEXT,
     64,
     1,
     0,
-    4,
+    // 3: kind
+    kinds::SMALL,
     2,
     0,
     0,
-    5,
+    // 4: a seat by name: printable
+    kinds::TEXT,
     16,
     1,
     0,
-    2,
+    // 5: a seat by number
+    kinds::NUMBER,
     1,
     200,
     0,
-    9,
+    // 6: seat
+    kinds::CHOICE,
     4,
     5,
     0,
-    5,
+    // 7: station: printable
+    kinds::TEXT,
     32,
     1,
     0,
-    2,
+    // 8: zone
+    kinds::NUMBER,
     0,
     40,
     0,
-    10,
+    // 9: ride: station, zone
+    kinds::PAIR,
     7,
     8,
     0,
-    8,
+    // 10: rides
+    kinds::LIST,
     4,
     9,
     0,
-    1,
+    // 11: no fare
+    kinds::EMPTY,
     0,
     0,
     0,
-    6,
+    // 12: a fare
+    kinds::FLOAT,
     0,
     0,
     0,
-    9,
+    // 13: fare, optional
+    kinds::CHOICE,
     11,
     12,
     0,
-    3,
+    // 14: valid from: minute -1440 to 1440 of the day
+    kinds::SIGNED,
     2879,
     2880,
     0,
-    10,
+    // 15: fare and on
+    kinds::PAIR,
     13,
     14,
     0,
-    10,
+    // 16: rides and on
+    kinds::PAIR,
     10,
     15,
     0,
-    10,
+    // 17: seat and on
+    kinds::PAIR,
     6,
     16,
     0,
-    10,
+    // 18: kind and on
+    kinds::PAIR,
     3,
     17,
     0,
-    10,
+    // 19: passenger and on
+    kinds::PAIR,
     2,
     18,
     0,
-    10,
+    // 20: number and on
+    kinds::PAIR,
     1,
     19,
     0,
-    10,
+    // 21: ticket
+    kinds::PAIR,
     0,
     20,
     0,

@@ -3,30 +3,28 @@ use mathlib.Core.Path.{_≡_, refl, sym, ap, _∙_}
 use mathlib.Core.List.{List, _∷_}
 use mathlib.Core.Option.{Option, none, some}
 use mathlib.Core.Logic.{inl, inr}
-use mathlib.Core.Bool.{Bool, true, false}
-use Prim.Native.Nat.{ℕ, suc, _+_, _-_, _*_, _≤_, _<_}
+use Prim.Native.Nat.{ℕ, _+_, _-_, _*_, _≤_, _<_}
 use native.Mathlib.Omega.{arith}
-use lib.ListN.{length, drop, getD, length-drop, drop-of-length-le}
-use lib.Dec.{leb, ltb}
-use borrow.Author.Tests.{lt-ltb, le-ltb, ltb-true, ltb-false, ne-eqb}
+use lib.ListN.{length, drop, getD}
+use lib.Dec.{leb}
 use Rattle.formats.specs.Readers.{Reader, bind, manyR}
 use Rattle.formats.specs.laws.Law.{Law, manyLaw}
 use Rattle.formats.specs.Number.{numberR}
-use Rattle.formats.specs.Format.{Format, list, choice, _&_, Value, read, write, element}
-use Rattle.formats.specs.laws.Format.{law, elementLaw, count-over}
+use Rattle.formats.specs.Format.{Format, list, choice, _&_, Value, read}
+use Rattle.formats.specs.promises.Outcome.{element, numbered, tagAt, formatAt, leafFormat}
+use Rattle.formats.specs.laws.Format.{law, elementLaw}
 use Rattle.formats.specs.laws.Outcome.{suffix}
-use Rattle.formats.specs.promises.Outcome.{numbered, tagAt, formatAt, leafFormat}
 use Rattle.formats.specs.declared.Numeral.{Numeral}
 use Rattle.formats.specs.declared.Numeral.the-variants.{Got, Bad}
-use Rattle.formats.proofs.Numbers.{place, opened, bad-none}
-use Rattle.formats.proofs.Nodes.{node-none, node-leaf, node-list, node-choice, node-pair, node-never}
-use Rattle.formats.proofs.Passes.{count, tag-at, took}
+use Rattle.formats.proofs.Numbers.{place}
+use Rattle.formats.proofs.Nodes.{node-leaf, node-list, node-choice, node-pair}
+use Rattle.formats.proofs.Parts.{count, no-element, no-bytes, an-element, the-one, the-other, no-depth, no-count, too-many, no-tag, no-first, no-kind}
 use Rattle.formats_judge.specs.Judged.{answer, verdict, judged, judgeTo}
 use Rattle.formats_judge.specs.promises.Judged.{verdicts, sooner, judgeMany, judgedAfter}
 use Rattle.formats_judge.specs.laws.Joins.{sooner-assoc, verdict-pair, verdict-more, verdict-list}
 use Rattle.formats_judge.specs.declared.Judge.{Judge}
 use Rattle.formats_judge.specs.declared.Judge.the-variants.{At, Broken}
-use Rattle.formats_judge.proofs.Rules.{sooner-none}
+use Rattle.formats_judge.proofs.Rules.{nothing, sooner-none}
 
 -- an answer taken apart
 broken-at : {C : Type 0} {q x : ℕ} → Broken ≡ At q x → C
@@ -85,30 +83,26 @@ many-none f s n at g y i l h =
     ap (At at) (sooner-none g 0 refl) ∙ j ∙ i
 
 module _ (f : Format) (s : List ℕ) (n at g : ℕ) (r : Judge) (e : r ≡ judgeTo f s at) (l : 0 < n) (y : Judge) (i : judgedAfter g (judgeMany f n s at) ≡ y) where
-  many-is : manyR (element f) n (drop at s) ≡ bind (element f (drop at s)) (λ a t. bind (manyR (element f) (n - 1) t) (λ v u. some (a ∷ v, u)))
-  many-is = let i : n ≡ suc (n - 1) = omega arith in ap (λ n. manyR (element f) n (drop at s)) i
-
   pub many-bad : r ≡ Broken → Broken ≡ y
-  many-bad h = let j : Broken ≡ judgedAfter g (judgeMany f n s at) = rw (many-is, judged-none (verdict f) s (read f (drop at s)) r e h) refl in j ∙ i
+  many-bad h =
+      let none-read = judged-none (verdict f) s (read f (drop at s)) r e h in
+      ap (judgedAfter g) (nothing (verdicts f) s (no-element f s n at l none-read)) ∙ i
 
   module _ (p x : ℕ) (h : r ≡ At p x) (k : at ≤ length s) where
     one : Found (read f) (verdict f) s at p x
     one = found (law f) (verdict f) s at r p x e h
 
-    bytes : length (write f (one .value)) ≡ p - at
-    bytes = took f s at p (one .value) k (one .within) (one .reads)
-
     pub many-flat : p ≤ at → Broken ≡ y
     many-flat j =
-        let m : Broken ≡ judgedAfter g (judgeMany f n s at) = rw (many-is, one .reads, le-ltb 0 (length (write f (one .value))) (omega (arith, bytes))) refl in
-        m ∙ i
+        let none-read = no-bytes f s n at l p (one .value) k (one .within) (one .reads) j in
+        ap (judgedAfter g) (nothing (verdicts f) s none-read) ∙ i
 
     pub many-more : at < p → (z : ℕ) → z ≡ sooner g x → judgedAfter z (judgeMany f (n - 1) s p) ≡ y
     many-more j z c =
         let m : judgedAfter x (judgeMany f (n - 1) s p) ≡ judgeMany f n s at =
-        rw (many-is, one .reads, lt-ltb 0 (length (write f (one .value))) (omega (arith, bytes)))
-        (joined (λ v. one .value ∷ v) (verdicts f) (verdicts f) x s (manyR (element f) (n - 1) (drop p s))
-        (λ v. ap (λ t. sooner t (verdicts f v)) (one .rules) ∙ verdict-more f (one .value) v)) in
+        joined (λ v. one .value ∷ v) (verdicts f) (verdicts f) x s (manyR (element f) (n - 1) (drop p s))
+        (λ v. ap (λ t. sooner t (verdicts f v)) (one .rules) ∙ verdict-more f (one .value) v)
+        ∙ sym (ap (judged (verdicts f) s) (an-element f s n at l p (one .value) k (one .within) (one .reads) j)) in
         ap (λ t. judgedAfter t (judgeMany f (n - 1) s p)) c ∙ sym (after-after g x (judgeMany f (n - 1) s p)) ∙ ap (judgedAfter g) m ∙ i
 
 -- the count of a list, and then its values
@@ -122,7 +116,7 @@ list-go l f s t n (some y) e =
 -- the node at n of the table t
 module _ (depth : ℕ) (t : List ℕ) (n : ℕ) (s : List ℕ) (at : ℕ) where
   pub value-none : depth ≡ 0 → Broken ≡ judgeTo (formatAt depth t n) s at
-  value-none z = rw (node-none depth t n z) refl
+  value-none z = nothing (verdict (formatAt depth t n)) s (no-depth depth t n s at z)
 
   module _ (z : depth ≡ 0 → ⊥) (kind a b : ℕ) (ek : kind ≡ getD t (4 * n + 0) 0) (ea : a ≡ getD t (4 * n + 1) 0) (eb : b ≡ getD t (4 * n + 2) 0) where
     pub value-leaf : (r : Judge) → r ≡ judgeTo (leafFormat kind a b) s at → kind < 8 → r ≡ judgeTo (formatAt depth t n) s at
@@ -130,16 +124,13 @@ module _ (depth : ℕ) (t : List ℕ) (n : ℕ) (s : List ℕ) (at : ℕ) where
 
     module _ (k : kind ≡ 8) (o : Numeral) (r : o ≡ numbered s (numberR (drop at s))) where
       pub list-bad : o ≡ Bad → Broken ≡ judgeTo (formatAt depth t n) s at
-      list-bad e = rw (node-list depth t n z kind a b ek ea eb k, bad-none s (numberR (drop at s)) o r e) refl
+      list-bad e =
+          nothing (verdict (formatAt depth t n)) s (no-count depth t n s at z kind a b ek ea eb k o r e)
 
       module _ (m p : ℕ) (e : o ≡ Got m p) where
         pub list-over : length s - p < m → Broken ≡ judgeTo (formatAt depth t n) s at
         list-over l =
-            rw (
-              node-list depth t n z kind a b ek ea eb k,
-              count s at m p o r e .reads,
-              count-over (formatAt (depth - 1) t b) m (drop p s) (rw length-drop l),
-            ) refl
+            nothing (verdict (formatAt depth t n)) s (too-many depth t n s at z kind a b ek ea eb k o r m p e l)
 
         pub list-good : (x : ℕ) → x ≡ answer 7 (leb m a) → (y : Judge) → y ≡ judgedAfter x (judgeMany (formatAt (depth - 1) t b) m s p) → y ≡ judgeTo (formatAt depth t n) s at
         list-good x c y f =
@@ -150,32 +141,28 @@ module _ (depth : ℕ) (t : List ℕ) (n : ℕ) (s : List ℕ) (at : ℕ) where
     module _ (k : kind ≡ 9) (c : ℕ) (e : c ≡ tagAt s at) where
       pub choice-0 : c ≡ 0 → (x : Judge) → x ≡ judgeTo (formatAt (depth - 1) t a) s (at + 1) → x ≡ judgeTo (formatAt depth t n) s at
       choice-0 i x f =
-          let h = tag-at s at c e (omega arith) in
           let A = formatAt (depth - 1) t a in
           let B = formatAt (depth - 1) t b in
-          rw (node-choice depth t n z kind a b ek ea eb k, opened s at c (h .0) (h .1), i)
+          rw (node-choice depth t n z kind a b ek ea eb k, the-one A B s at c e i)
           (f ∙ same inl (verdict A) (verdict (choice A B)) s (read A (drop (at + 1) s)) (λ v. refl))
 
       pub choice-1 : c ≡ 1 → (x : Judge) → x ≡ judgeTo (formatAt (depth - 1) t b) s (at + 1) → x ≡ judgeTo (formatAt depth t n) s at
       choice-1 i x f =
-          let h = tag-at s at c e (omega arith) in
           let A = formatAt (depth - 1) t a in
           let B = formatAt (depth - 1) t b in
-          rw (node-choice depth t n z kind a b ek ea eb k, opened s at c (h .0) (h .1), i)
+          rw (node-choice depth t n z kind a b ek ea eb k, the-other A B s at c e i)
           (f ∙ same inr (verdict B) (verdict (choice A B)) s (read B (drop (at + 1) s)) (λ v. refl))
 
       pub choice-2 : (c ≡ 0 → ⊥) → (c ≡ 1 → ⊥) → Broken ≡ judgeTo (formatAt depth t n) s at
-      choice-2 i j = rw (node-choice depth t n z kind a b ek ea eb k) (go (ltb at (length s)) refl)
-        where
-          go : (q : Bool) → ltb at (length s) ≡ q → Broken ≡ judgeTo (choice (formatAt (depth - 1) t a) (formatAt (depth - 1) t b)) s at
-          go true q = rw (opened s at c (ltb-true at (length s) q) (rw (q, tagAt) at e), ne-eqb c 0 i, ne-eqb c 1 j) refl
-          go false q = rw (drop-of-length-le s (ltb-false at (length s) q)) refl
+      choice-2 i j =
+          nothing (verdict (formatAt depth t n)) s (no-tag depth t n s at z kind a b ek ea eb k c e i j)
 
     module _ (k : kind ≡ 10) (r : Judge) (e : r ≡ judgeTo (formatAt (depth - 1) t a) s at) where
       pub pair-bad : r ≡ Broken → Broken ≡ judgeTo (formatAt depth t n) s at
       pair-bad h =
           let A = formatAt (depth - 1) t a in
-          rw (node-pair depth t n z kind a b ek ea eb k, judged-none (verdict A) s (read A (drop at s)) r e h) refl
+          let none-read = judged-none (verdict A) s (read A (drop at s)) r e h in
+          nothing (verdict (formatAt depth t n)) s (no-first depth t n s at z kind a b ek ea eb k none-read)
 
       module _ (p x : ℕ) (h : r ≡ At p x) (y : Judge) (f : y ≡ judgeTo (formatAt (depth - 1) t b) s p) where
         halves : judgedAfter x y ≡ judgeTo (formatAt depth t n) s at
@@ -194,4 +181,5 @@ module _ (depth : ℕ) (t : List ℕ) (n : ℕ) (s : List ℕ) (at : ℕ) where
         pair-good q u w g c = ap (At q) c ∙ sym (ap (judgedAfter x) g) ∙ halves
 
     pub value-never : 8 ≤ kind → (kind ≡ 8 → ⊥) → (kind ≡ 9 → ⊥) → (kind ≡ 10 → ⊥) → Broken ≡ judgeTo (formatAt depth t n) s at
-    value-never l z₈ z₉ z₁₀ = rw (node-never depth t n z kind a b ek ea eb l z₈ z₉ z₁₀) refl
+    value-never l z₈ z₉ z₁₀ =
+        nothing (verdict (formatAt depth t n)) s (no-kind depth t n s at z kind a b ek ea eb l z₈ z₉ z₁₀)

@@ -3,7 +3,7 @@ use mathlib.Core.Path.{_≡_, refl, sym, ap, _∙_}
 use mathlib.Core.List.{List}
 use mathlib.Core.Option.{Option, none, some}
 use mathlib.Core.Bool.{_&&_}
-use Prim.Native.Nat.{ℕ, zero, suc, _+_, _-_, _≤_, _<_}
+use Prim.Native.Nat.{ℕ, _+_, _-_, _≤_, _<_}
 use native.Mathlib.Omega.{arith}
 use lib.ListN.{length, take, drop, length-drop}
 use lib.Dec.{leb}
@@ -17,8 +17,9 @@ use Rattle.formats.specs.declared.Numeral.{Numeral}
 use Rattle.formats.specs.declared.Numeral.the-variants.{Got, Bad}
 use Rattle.formats.specs.declared.Skip.{Skip}
 use Rattle.formats.specs.declared.Skip.the-variants as skip
-use Rattle.formats.proofs.Numbers.{place, Found, got, bad-none}
-use Rattle.formats.proofs.Passes.{Numbered}
+use Rattle.formats.proofs.Numbers.{place, Found, got}
+use Rattle.formats.proofs.Parts.{Numbered, no-value, no-float, no-number, too-large}
+use Rattle.formats_judge.proofs.Rules.{nothing}
 use Rattle.formats_judge.specs.Judged.{atMost, answer, verdict, judged, judgeTo}
 use Rattle.formats_judge.specs.promises.Judged.{textAnswer}
 use Rattle.formats_judge.specs.laws.Joins.{text-limit}
@@ -39,14 +40,14 @@ judged-good s (some x) r q e h = let i : q ≡ length s - length (x .1) = cc in 
 
 module _ (kind a b : ℕ) (s : List ℕ) (at : ℕ) where
   pub leaf-0 : kind ≡ 0 → Broken ≡ judgeTo (leafFormat kind a b) s at
-  leaf-0 e = rw e refl
+  leaf-0 e = nothing (verdict (leafFormat kind a b)) s (no-value kind a b s at e)
 
   pub leaf-1 : kind ≡ 1 → at ≤ length s → At at 0 ≡ judgeTo (leafFormat kind a b) s at
   leaf-1 e h = rw (e, place s at h) refl
 
   module _ (e : kind ≡ 6) (o : Numeral) (r : o ≡ numbered s (littleR 8 (drop at s))) where
     pub leaf-6-bad : o ≡ Bad → Broken ≡ judgeTo (leafFormat kind a b) s at
-    leaf-6-bad h = rw (e, bad-none s (littleR 8 (drop at s)) o r h) refl
+    leaf-6-bad h = nothing (verdict (leafFormat kind a b)) s (no-float kind a b s at e o r h)
 
     pub leaf-6 : (n p : ℕ) → o ≡ Got n p → At p 0 ≡ judgeTo (leafFormat kind a b) s at
     leaf-6 n p h = let g = got (littleLaw 8) s at n p o r h in rw (e, g .reads, place s p (g .within)) refl
@@ -59,17 +60,8 @@ module _ (kind a b : ℕ) (s : List ℕ) (at : ℕ) where
     leaf-7 q k = rw e (judged-good s (constR a (drop at s)) r q h k)
 
 module _ (a b : ℕ) (s : List ℕ) (at : ℕ) (o : Numeral) (r : o ≡ numbered s (numberR (drop at s))) where
-  bad-go : (kind : ℕ) → numberR (drop at s) ≡ none → 2 ≤ kind → kind ≤ 5 → Broken ≡ judgeTo (leafFormat kind a b) s at
-  bad-go zero e l h = absurd (omega arith)
-  bad-go (suc zero) e l h = absurd (omega arith)
-  bad-go (suc (suc zero)) e l h = rw e refl
-  bad-go (suc (suc (suc zero))) e l h = rw e refl
-  bad-go (suc (suc (suc (suc zero)))) e l h = rw e refl
-  bad-go (suc (suc (suc (suc (suc zero))))) e l h = rw e refl
-  bad-go (suc (suc (suc (suc (suc (suc k)))))) e l h = absurd (omega arith)
-
   pub leaf-bad : (kind : ℕ) → o ≡ Bad → Numbered kind → Broken ≡ judgeTo (leafFormat kind a b) s at
-  leaf-bad kind e k = bad-go kind (bad-none s (numberR (drop at s)) o r e) (k .low) (k .high)
+  leaf-bad kind e k = nothing (verdict (leafFormat kind a b)) s (no-number a b s at o r kind e k)
 
   module _ (n p : ℕ) (e : o ≡ Got n p) (kind : ℕ) where
     number : Found numberR s at n p
@@ -82,7 +74,7 @@ module _ (a b : ℕ) (s : List ℕ) (at : ℕ) (o : Numeral) (r : o ≡ numbered
     leaf-3 y f k = rw (k, number .reads, place s p (number .within)) (ap (At p) f)
 
     pub leaf-4-over : kind ≡ 4 → a < n → Broken ≡ judgeTo (leafFormat kind a b) s at
-    leaf-4-over k l = rw (k, number .reads, lt-leb n a l) refl
+    leaf-4-over k l = nothing (verdict (leafFormat kind a b)) s (too-large a b s at o r n p e kind k l)
 
     pub leaf-4 : kind ≡ 4 → n ≤ a → At p 0 ≡ judgeTo (leafFormat kind a b) s at
     leaf-4 k l = rw (k, number .reads, le-leb n a l, place s p (number .within)) refl

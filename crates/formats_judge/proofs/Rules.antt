@@ -1,14 +1,20 @@
 -- The questions on numbers, counts and texts, by the tests that the code makes.
-use mathlib.Core.Path.{_≡_, refl, sym, _∙_}
+use mathlib.Core.Path.{_≡_, refl, sym, ap, _∙_}
 use mathlib.Core.List.{List}
+use mathlib.Core.Option.{Option, none}
 use mathlib.Core.Bool.{Bool, true, false, cond, _&&_}
 use Prim.Native.Nat.{ℕ, zero, suc, _/_, _%_, _≤_, _<_}
 use lib.ListN.{length}
 use lib.Dec.{leb}
 use borrow.Author.Tests.{le-leb, lt-leb, eq-eqb, ne-eqb}
 use Rattle.formats.specs.Number.{zag}
-use Rattle.formats_judge.specs.Judged.{atMost, answer}
+use Rattle.formats_judge.specs.Judged.{atMost, answer, judged}
+use Rattle.formats_judge.specs.declared.Judge.the-variants.{Broken}
 use Rattle.formats_judge.specs.promises.Judged.{sooner}
+
+-- nothing was read
+pub nothing : {A : Type 0} (g : A → ℕ) (s : List ℕ) {o : Option (A × List ℕ)} → o ≡ none → Broken ≡ judged g s o
+nothing g s e = sym (ap (judged g s) e)
 
 pub sooner-none : (x y : ℕ) → y ≡ 0 → x ≡ sooner x y
 sooner-none zero y e = sym e

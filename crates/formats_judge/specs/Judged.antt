@@ -47,12 +47,12 @@ abbrev pub answer : ℕ → Bool → ℕ
 answer q x = cond x 0 q
 
 -- 0 where all hold, else the number of the first that does not
-abbrev pub firstNo : Bool → Bool → Bool → ℕ
-firstNo five six seven = cond five (cond six (answer 7 seven) 6) 5
+abbrev pub firstFailing : Bool → Bool → Bool → ℕ
+firstFailing five six seven = cond five (cond six (answer 7 seven) 6) 5
 
 -- each question is put to the whole value before the next is put to any part
 abbrev pub verdict : (f : Format) → Value f → ℕ
-verdict f v = firstNo (ok 5 f v) (ok 6 f v) (ok 7 f v)
+verdict f v = firstFailing (ok 5 f v) (ok 6 f v) (ok 7 f v)
 
 -- what the judge answers: the place past the value, and its verdict
 abbrev pub judged : {A : Type 0} → (A → ℕ) → List ℕ → Option (A × List ℕ) → Judge

@@ -1,6 +1,7 @@
 // Document 01's questions 5, 6 and 7, put to a value of the format that a table holds, in one pass over it.
 use formats::Numeral;
 use formats::Skip;
+use formats::kinds;
 ghost use mathlib.Core.Path.{_≡_};
 ghost use mathlib.Core.Bool.{_&&_};
 ghost use Prim.Native.Nat.{_<_, _≤_};
@@ -106,19 +107,19 @@ fn leaf(kind: u64, a: u64, b: u64, s: &[u8], at: usize) -> Judge
     requires { ⌜ (kind < 8) × (at ≤ length (now s)) ⌝ }
     ensures { λ r. ⌜ r ≡ judgeTo (leafFormat kind a b) (now (s .entry)) at ⌝ }
 {
-    if kind == 0 {
+    if kind == kinds::NEVER {
         return Judge::Broken;
     }
-    if kind == 1 {
+    if kind == kinds::EMPTY {
         return Judge::At(at, 0);
     }
-    if kind == 6 {
+    if kind == kinds::FLOAT {
         let Numeral::Got(_, q) = formats::float(s, at) else {
             return Judge::Broken;
         };
         return Judge::At(q, 0);
     }
-    if kind == 7 {
+    if kind == kinds::CONSTANT {
         let Skip::At(q) = formats::given(s, at, a) else {
             return Judge::Broken;
         };
@@ -127,13 +128,13 @@ fn leaf(kind: u64, a: u64, b: u64, s: &[u8], at: usize) -> Judge
     let Numeral::Got(n, p) = formats::number(s, at) else {
         return Judge::Broken;
     };
-    if kind == 2 {
+    if kind == kinds::NUMBER {
         return Judge::At(p, range(a, b, n));
     }
-    if kind == 3 {
+    if kind == kinds::SIGNED {
         return Judge::At(p, signed_range(a, b, n));
     }
-    if kind == 4 {
+    if kind == kinds::SMALL {
         if a < n {
             return Judge::Broken;
         }
@@ -154,10 +155,10 @@ pub fn judge_value(t: &[u64], depth: u32, node: u64, s: &[u8], at: usize) -> Jud
     let kind = formats::word(t, node, 0);
     let a = formats::word(t, node, 1);
     let b = formats::word(t, node, 2);
-    if kind < 8 {
+    if kind < kinds::PARTS {
         return leaf(kind, a, b, s, at);
     }
-    if kind == 8 {
+    if kind == kinds::LIST {
         let Numeral::Got(n, p) = formats::number(s, at) else {
             return Judge::Broken;
         };
@@ -166,7 +167,7 @@ pub fn judge_value(t: &[u64], depth: u32, node: u64, s: &[u8], at: usize) -> Jud
         }
         return judge_many(t, d, b, n, s, p, count(a, n));
     }
-    if kind == 9 {
+    if kind == kinds::CHOICE {
         let c = formats::tag(s, at);
         if c == 0 {
             return judge_value(t, d, a, s, at + 1);
@@ -176,7 +177,7 @@ pub fn judge_value(t: &[u64], depth: u32, node: u64, s: &[u8], at: usize) -> Jud
         }
         return Judge::Broken;
     }
-    if kind == 10 {
+    if kind == kinds::PAIR {
         let Judge::At(p, x) = judge_value(t, d, a, s, at) else {
             return Judge::Broken;
         };

@@ -1,6 +1,7 @@
 // Reads at a place of a lent slice, by the format of the value that stands there. They are total: where no such value stands, they answer something.
 use formats::Numeral;
 use formats::Skip;
+use formats::kinds;
 use formats_write::OptionalNumber;
 use formats_write::OptionalSigned;
 use formats_write::OptionalText;
@@ -34,7 +35,7 @@ pub fn locate(t: &[u64], depth: u32, node: u64, k: u32, s: &[u8], at: usize) -> 
         let kind = formats::word(t, n, 0);
         let a = formats::word(t, n, 1);
         let b = formats::word(t, n, 2);
-        if kind != 10 {
+        if kind != kinds::PAIR {
             return Skip::Broken;
         }
         let Skip::At(q) = formats::pass(t, d - 1, a, s, p) else {

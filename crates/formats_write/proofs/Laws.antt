@@ -8,7 +8,8 @@ use lib.ListN.{length, take, drop, set}
 use lib.Seq.{length-sets, sets-eq, slice, length-slice}
 use borrow.Author.Tests.{lt-ltb, le-ltb}
 use Rattle.slices.specs.Lists.{pasted}
-use Rattle.formats.specs.Number.{groupsW, numberW, top, littleW}
+use Rattle.formats.specs.Number.{groupsW, numberW, littleW}
+use Rattle.formats.specs.promises.Number.{top}
 use Rattle.formats_write.specs.laws.Adds.{none, then, same}
 use Rattle.formats_write.specs.promises.Adds.{Adds}
 use Rattle.formats_write.specs.laws.Slices.{slice-is}

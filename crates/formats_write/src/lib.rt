@@ -5,9 +5,9 @@ ghost use mathlib.Core.List.{[], _∷_};
 ghost use Prim.Native.Nat.{_<_, _≤_};
 ghost use lib.ListN.{length};
 ghost use lib.Seq.{slice};
-ghost use Rattle.formats.specs.Number.{groupsW, numberW, top, littleW};
+ghost use Rattle.formats.specs.Number.{groupsW, numberW, littleW, zig};
+ghost use Rattle.formats.specs.promises.Number.{top};
 ghost use Rattle.formats.specs.Format.{number, signed, float};
-ghost use Rattle.formats.specs.Number.{zig};
 ghost use Rattle.formats_write.specs.promises.Adds.{Adds};
 ghost use Rattle.formats_write.specs.promises.Given.{optionalW, givenNumber, givenSigned, givenText, textW, Inside};
 

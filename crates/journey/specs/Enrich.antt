@@ -58,7 +58,8 @@ isZero (negsuc n) = false
 unfoldable pub late : Feeds → Transit → Bool
 late B t = live B t && not (isZero (departs B t .delay) && isZero (arrives B t .delay))
 
--- the alerts of the trip's feed that are candidates and apply. A candidate is one that the index gives (`search-is-index` of `alerts`)
+-- the alerts of the trip's feed that are candidates and apply. The Rust asks the alerts at the numbers that the index
+-- gives: status and headers are the same (laws/ByIndex)
 abbrev pub alertsIn : Option Records → List Alert
 alertsIn none = []
 alertsIn (some R) = R .alerts

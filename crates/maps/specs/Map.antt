@@ -14,16 +14,6 @@ isLess Less = true
 isLess Same = false
 isLess More = false
 
-abbrev pub isSame : Order → Bool
-isSame Less = false
-isSame Same = true
-isSame More = false
-
-abbrev pub isMore : Order → Bool
-isMore Less = false
-isMore Same = false
-isMore More = true
-
 -- by an order: one of three
 abbrev pub byOrder : {A : Type 0} → Order → A → A → A → A
 byOrder Less a b c = a

@@ -9,6 +9,7 @@ use Rattle.formats.specs.Class.{token}
 use Rattle.formats.specs.Format.{Format, number, signed, text, float, constant, list, optional, _&_, Value}
 use Rattle.decode.specs.Trip.{id, instant, tripEntry}
 use Rattle.basics.specs.Options.{Maybe}
+use Rattle.decode.specs.Sizes.{mostTrips, mostFeed}
 use Rattle.decode.specs.Leaves.{Trips}
 use Rattle.alerts.specs.Alert.{Alert, alert}
 
@@ -29,11 +30,11 @@ timestamp = signed (negsuc 9223372036854775807) (pos 9223372036854775807)
 
 -- header timestamp; `trip_update_count`; trips; vehicles; alerts
 abbrev pub feed : Format
-feed = optional timestamp & number 0 2048 & list 2048 tripEntry & list 1024 vehicleEntry & list 256 alert
+feed = optional timestamp & number 0 2048 & list mostTrips tripEntry & list 1024 vehicleEntry & list 256 alert
 
 -- feeds by id
 abbrev pub feedEntry : Format
-feedEntry = text 16 token & feed
+feedEntry = text mostFeed token & feed
 
 -- version; feeds
 abbrev pub overlay : Format

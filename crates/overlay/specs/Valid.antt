@@ -1,12 +1,13 @@
--- Believe: 01, Questions before work. Which states are an overlay's: questions 5 to 7 hold, keys ascend, each trip
--- key is one that `insert_trip` gives for its record, the count is one of the two.
+-- Believe: 01, Questions before work. Which states are an overlay's (`Held`): they have a writing; questions 5 to 7
+-- hold, keys ascend, each trip key is one that `insert_trip` gives for its record, the count is one of the two.
 use Prim.Native.Nat.{ℕ}
-use mathlib.Core.Bool.{Bool, _&&_, _||_}
+use mathlib.Core.Path.{_≡_}
+use mathlib.Core.Bool.{Bool, true, _&&_, _||_}
 use mathlib.Core.List.{List}
 use lib.Dec.{eqb}
 use lib.ListN.{length}
 use Rattle.basics.specs.Lists.{all}
-use Rattle.formats.specs.Format.{Format, Value}
+use Rattle.formats.specs.Format.{Format, Value, Fits}
 use Rattle.formats_judge.specs.Judged.{ok}
 use Rattle.decode.specs.Trip.{Trip, updatesOf}
 use Rattle.maps.specs.Map.{ascending}
@@ -32,3 +33,8 @@ within f v = ok 5 f v && (ok 6 f v && ok 7 f v)
 
 unfoldable pub valid : State → Bool
 valid s = within overlay s && (ascending texts (feedsOf s) && all feedValid (feedsOf s))
+
+-- A STATE THAT A BUFFER HOLDS. `valid` doesn't ask of a flag whether it is 0 or 1: what has a writing at all is `Fits`
+pub record Held (s : State) : Type 0 where
+  pub fits : Fits overlay s
+  pub valid : valid s ≡ true

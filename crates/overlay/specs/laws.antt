@@ -1,5 +1,9 @@
 pub mod Buffer
 pub mod Shown
+pub mod WorkedLookup
+pub mod Worked
+pub mod Keys
+pub mod Counts
 pub mod Within
 pub mod EveryEntry
 pub mod StaysValid

@@ -88,7 +88,8 @@ fn departure(s: &[u8], at: usize) -> Skip
 }
 
 fn arrival(s: &[u8], at: usize) -> Skip
-    ensures { λ r. ⌜ Fine (optional delay & optional instant & optional delay & optional instant & small 1) (now (s .entry)) at r ⌝ }
+    ensures { λ r. ⌜ Fine (optional delay & optional instant & optional delay & optional instant & small 1)
+        (now (s .entry)) at r ⌝ }
 {
     let Skip::At(p) = optional_delay(s, at) else {
         return Skip::Broken;
@@ -138,7 +139,8 @@ fn updates_from(n: u64, s: &[u8], at: usize) -> Skip
 
 // The updates of a trip: at most 128, each good, ascending by sequence.
 fn updates(s: &[u8], at: usize) -> Skip
-    ensures { λ r. ⌜ Checked (list 128 (number32 & stopUpdate)) (ascend 128 4294967295 stopUpdate) (now (s .entry)) at r ⌝ }
+    ensures { λ r. ⌜ Checked (list 128 (number32 & stopUpdate)) (ascend 128 4294967295 stopUpdate)
+        (now (s .entry)) at r ⌝ }
 {
     let Numeral::Got(n, p) = number_long(s, at) else {
         return Skip::Broken;
@@ -188,7 +190,8 @@ fn from_time(s: &[u8], at: usize) -> Skip
 }
 
 fn from_route(s: &[u8], at: usize) -> Skip
-    ensures { λ r. ⌜ Tested (id & optional number32 & time & list 128 (number32 & stopUpdate)) routeGood (now (s .entry)) at r ⌝ }
+    ensures { λ r. ⌜ Tested (id & optional number32 & time & list 128 (number32 & stopUpdate)) routeGood
+        (now (s .entry)) at r ⌝ }
 {
     let Skip::At(p) = printable(64, s, at) else {
         return Skip::Broken;

@@ -13,6 +13,7 @@ use Rattle.formats_judge.specs.Judged.{ok}
 use Rattle.realtime.specs.Tree.{Tree, tree}
 use Rattle.realtime.specs.Schema.{feedMessage, feed}
 use Rattle.realtime.specs.Judge.{rules, textsFine, numbersFine}
+use Rattle.decode.specs.Sizes.{mostFeed}
 use Rattle.decode.specs.Trip.{instant}
 use Rattle.maps.specs.Map.{ascending}
 use Rattle.maps.specs.Order.{texts}
@@ -58,7 +59,7 @@ unfoldable pub whole : (f : Format) → List ℕ → Option (Value f)
 whole f s = endedOnly (read f s)
 
 abbrev pub feedOk : List ℕ → Bool
-feedOk f = ok 5 (text 16 token) f
+feedOk f = ok 5 (text mostFeed token) f
 
 -- question 1: the old overlay's, the output's and the working buffers' lengths
 abbrev pub lengthsOk : Lengths → List ℕ → ℕ → ℕ → List ℕ → List ℕ → Bool
@@ -68,12 +69,20 @@ lengthsOk L old out due work workDue = eqb (length old) (L .overlay) && (eqb out
 abbrev pub opened : Lengths → List ℕ → ℕ → ℕ → List ℕ → List ℕ → (State → Outcome) → Outcome
 opened L old out due work workDue k = need (lengthsOk L old out due work workDue) 1 (needSome (stateOf old) 2 k)
 
--- question 7 of a changed state, which has to have room in n bytes. At the published length there always is room (`kept-room`)
+-- question 7 of a changed state, which has to have room in n bytes. At the published length there always is room
+-- (`kept-room`)
+abbrev pub countsFit : ℕ → State → Bool
+countsFit n s = ok 7 overlay s && room n s
+
 abbrev pub changedState : ℕ → State → Outcome
-changedState n s = need (ok 7 overlay s && room n s) 7 (accepted (write overlay s))
+changedState n s = need (countsFit n s) 7 (accepted (write overlay s))
+
+-- a fresh call meets question 1 only: its buffer is as long as published, and the state without feeds has room there
+abbrev pub freshFits : Lengths → ℕ → Bool
+freshFits L new = eqb new (L .overlay) && room new noState
 
 unfoldable pub freshOf : Lengths → ℕ → Outcome
-freshOf L new = need (eqb new (L .overlay)) 1 (accepted (write overlay noState))
+freshOf L new = need (freshFits L new) 1 (accepted (write overlay noState))
 
 unfoldable pub treeOutcome : Lengths → List ℕ → State → Tree → Outcome
 treeOutcome L f s t = need (feedOk f && textsFine rules feedMessage t) 5 (need (numbersFine rules feedMessage t) 6 (changedState (L .overlay) (afterMessage f t s)))
@@ -96,6 +105,9 @@ abbrev pub keysAscend : Option (Value vehicleSheet) → Option (Value vehicleShe
 keysAscend none = none
 keysAscend (some v) = cond (ascending texts (v .1)) (some v) none
 
+abbrev pub vehiclesIn : List ℕ → Option (Value vehicleSheet)
+vehiclesIn sheet = keysAscend (whole vehicleSheet sheet)
+
 unfoldable pub vehiclesOutcome : Lengths → List ℕ → ℤ → State → Value vehicleSheet → Outcome
 vehiclesOutcome L f clock s v =
     need (feedOk f && ok 5 vehicleSheet v) 5
@@ -104,7 +116,7 @@ vehiclesOutcome L f clock s v =
 unfoldable pub vehicleSheetOf : Lengths → List ℕ → List ℕ → List ℕ → ℤ → ℕ → List ℕ → Outcome
 vehicleSheetOf L old f sheet clock new work =
     opened L old new (L .overlay) work (L .vehicleWork) (λ s.
-    need (leb (length sheet) 1048576) 3 (needSome (keysAscend (whole vehicleSheet sheet)) 4 (vehiclesOutcome L f clock s)))
+    need (leb (length sheet) 1048576) 3 (needSome (vehiclesIn sheet) 4 (vehiclesOutcome L f clock s)))
 
 -- the finished card of an arriving one, by what the state shows
 unfoldable pub finished : State → Value card → Value card

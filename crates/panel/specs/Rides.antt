@@ -1,5 +1,5 @@
--- Believe: 01, Ride checks. The ride checks of document 01 that are marked P: the table.
-use Prim.Native.Nat.{ℕ}
+-- Believe: 01, Ride checks. The ride checks of document 01 that are marked P: the table, and what they say besides.
+use Prim.Native.Nat.{ℕ, zero, suc, _+_, _/_, _%_, _≤_}
 use mathlib.Core.Path.{_≡_}
 use mathlib.Core.Bool.{Bool, true, false}
 use mathlib.Core.List.{List, [], _∷_, _++_, map}
@@ -14,27 +14,17 @@ use Rattle.decode.specs.Leaves as leaves
 use Rattle.alerts.specs.Text.{text}
 use Rattle.alerts.specs.Alert.{Alert}
 use Rattle.alerts.specs.Applies.{product-code-token}
-use Rattle.overlay.specs.State.{overlay, feedWith, stateWith}
+use Rattle.overlay.specs.State.{State, overlay, feedWith, stateWith}
+use Rattle.overlay.specs.Image.{filled}
+use Rattle.overlay.specs.Valid.{valid}
 use Rattle.overlay.specs.Records.{Feeds}
 use Rattle.overlay.specs.Lookup as lookup
 use Rattle.journey.specs.Card.{Transit, Card, transitValue}
 use Rattle.journey.specs.Times as times
 use Rattle.journey.specs.Enrich as enrich
 use Rattle.panel.specs.Questions.{Lengths}
-use Rattle.panel.specs.Calls.{Call, message, card, Gave, freshOverlay, run, numbersGiven}
-
--- a row: what is computed, and what document 01 says
-pub record Row : Type 1 where
-  pub of : Type 0
-  pub got : of
-  pub due : of
-
-abbrev pub row : {A : Type 0} → A → A → Row
-row {A} got due = record { of = A; got = got; due = due }
-
-abbrev pub AllHold : List Row → Type 0
-AllHold [] = Unit {0}
-AllHold (r ∷ l) = (r .got ≡ r .due) × AllHold l
+use Rattle.panel.specs.Calls.{Call, message, card, Gave, gives, freshOverlay, run, numbersGiven}
+use Rattle.basics.specs.Rows.{row, Row, Holds}
 
 -- ---- what the rows speak of
 
@@ -113,9 +103,21 @@ arriving = record {
 abbrev pub groups : ℕ → Call
 groups n = message (text "f") (replicate n 0x7b ++ replicate n 0x7c) 64 []
 
--- the answer to question 7 of a state whose one feed has n keys
+-- the trips k, k + 1 and so on, n of them: each at its own key of four digits, ascending
+abbrev pub fourDigits : ℕ → List ℕ
+fourDigits k = (48 + k / 1000) ∷ (48 + k / 100 % 10) ∷ (48 + k / 10 % 10) ∷ (48 + k % 10) ∷ []
+
+unfoldable pub tripsFrom : ℕ → ℕ → leaves.Trips
+tripsFrom k zero = []
+tripsFrom k (suc n) = (fourDigits k, arrivesAt 0) ∷ tripsFrom (suc k) n
+
+-- the state whose one feed has the n keys from 0000 on
+abbrev pub keyed : ℕ → State
+keyed n = stateWith 0 ((text "f", feedWith (inl tt) n (tripsFrom 0 n) [] []) ∷ [])
+
+-- its answer to question 7
 abbrev pub keysFit : ℕ → Bool
-keysFit n = ok 7 overlay (stateWith 0 ((text "f", feedWith (inl tt) n (replicate n (text "1", arrivesAt 0)) [] []) ∷ []))
+keysFit n = ok 7 overlay (keyed n)
 
 -- ---- the table
 
@@ -126,9 +128,18 @@ table =
     ∷ row (map parisDigits (1767308399 ∷ 1767308400 ∷ [])) (text "20260101" ∷ text "20260102" ∷ [])
     ∷ row (map parisDigits (1782943199 ∷ 1782943200 ∷ [])) (text "20260701" ∷ text "20260702" ∷ [])
     ∷ row (map isToken (text "C017" ∷ text "c0174" ∷ text "C0174212" ∷ text "C01742123" ∷ [])) (false ∷ true ∷ true ∷ false ∷ [])
-    ∷ row (lookup.get-trip (text "f") (text "f:1@20260101") trips) (lookup.trip-at (text "f") (text "f:1") trips)
+    ∷ row (lookup.get-trip (text "f") (text "f:1@20260101") trips) (some (arrivesAt 0))
     ∷ row (enrich.enrich-with-realtime alerted arriving .headers) []
     ∷ row (enrich.enrich-with-realtime alerted arriving .status) 2
     ∷ row (numbersGiven (run small (freshOverlay small) (groups 16 ∷ groups 17 ∷ []))) (0 ∷ 4 ∷ [])
     ∷ row (map keysFit (2048 ∷ 2049 ∷ [])) (true ∷ false ∷ [])
     ∷ []
+
+-- THE RIDE CHECKS
+pub record Rides : Type 0 where
+  pub rows : Holds table
+  -- the first row at every length that has room for an overlay and for the card
+  pub same : (L : Lengths) → 3 ≤ L .overlay → 15 ≤ L .card
+      → gives L (freshOverlay L) (card emptyCard (L .card) (L .cardWork)) .out ≡ filled (L .card) emptyCard
+  -- the last row speaks of a state that is valid
+  pub keys : valid (keyed 2048) ≡ true

@@ -1,7 +1,13 @@
 pub mod Gained
+pub mod AddedFields
 pub mod Accepts
-pub mod Asked
+pub mod Answers
+pub mod Sizes
+pub mod Left
 pub mod Seven
 pub mod History
+pub mod Demand3
 pub mod Rides
 pub mod Again
+pub mod RoundTrips
+pub mod Headers

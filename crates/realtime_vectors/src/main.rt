@@ -20,7 +20,6 @@ use realtime_views::Trip;
 ghost use Prim.Native.Nat.{_+_, _≤_, _<_};
 ghost use lib.ListN.{length};
 ghost use Rattle.io.specs.Counts.{Counts};
-ghost use Rattle.realtime_vectors.specs.promises.Line.{Past};
 
 const OUT: i32 = 1;
 
@@ -217,25 +216,6 @@ fn write_message(s: &[u8]) {
     write(b"\n");
 }
 
-// The value of a hexadecimal digit, or 16.
-fn digit(b: u8) -> u8
-    ensures { λ r. ⌜ r ≤ 16 ⌝ }
-{
-    if b < 48 {
-        return 16;
-    }
-    if b < 58 {
-        return b - 48;
-    }
-    if b < 97 {
-        return 16;
-    }
-    if b < 103 {
-        return b - 87;
-    }
-    16
-}
-
 // The bytes of a line, two digits each, and how many they are.
 fn bytes_of(line: &[u8], out: &mut [u8]) -> usize
     ensures { λ r. ⌜ Counts r (now (out .exit)) ⌝ }
@@ -244,7 +224,7 @@ fn bytes_of(line: &[u8], out: &mut [u8]) -> usize
     let mut high: u8 = 16;
     let mut i = 0;
     while i < line.len() {
-        let d = digit(line[i]);
+        let d = vector_lines::digit(line[i]);
         i += 1;
         if d < 16 {
             if high == 16 {
@@ -273,26 +253,10 @@ fn answer(line: &[u8]) {
     write_message(&bytes[..n]);
 }
 
-// Past the end of the line at `from`.
-fn line_end(s: &[u8], from: usize) -> usize
-    requires { ⌜ from < length (now s) ⌝ }
-    ensures { λ r. ⌜ Past from r (now (s .entry)) ⌝ }
-{
-    let mut i = from;
-    while i < s.len() {
-        let b = s[i];
-        i += 1;
-        if b == b'\n' {
-            return i;
-        }
-    }
-    i
-}
-
 fn answers(s: &[u8]) {
     let mut at = 0;
     while at < s.len() {
-        let end = line_end(s, at);
+        let end = vector_lines::line_end(s, at);
         answer(&s[at..end]);
         at = end;
     }

@@ -13,7 +13,8 @@ use Rattle.realtime.specs.promises.Steps.{Lies, Stepped}
 use Rattle.realtime.specs.declared.Step.{Step}
 use Rattle.realtime_views.specs.promises.Fold.{inside}
 use Rattle.realtime_views.specs.promises.Reading.{Lens, Reads}
-use Rattle.realtime_views.specs.promises.Numbers.{Single, taking, plain, spans, sequence, stop, relationship, delay, time, valueOf, noNumber, noNumbers, noSpan, fromStop, EventReads, EventsRead, StopReads}
+use Rattle.realtime_views.specs.promises.Last.{Single, taking}
+use Rattle.realtime_views.specs.promises.Numbers.{plain, spans, sequence, stop, relationship, delay, time, valueOf, noNumber, noNumbers, noSpan, fromStop, EventReads, EventsRead, StopReads}
 use Rattle.realtime_views.specs.declared.Span.{Span}
 use Rattle.realtime_views.specs.declared.Number.{Number}
 use Rattle.realtime_views.specs.declared.EventNumbers.{EventNumbers}

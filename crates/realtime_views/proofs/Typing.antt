@@ -16,8 +16,9 @@ use Rattle.realtime_views.specs.laws.Reading.{front-rest}
 use Rattle.realtime_views.specs.promises.Reading.{Lens, Reads}
 use Rattle.realtime_views.specs.laws.Scalars.{Lasting}
 use Rattle.realtime_views.specs.promises.Scalars.{one, two, three, four, five, six, said, Lying}
-use Rattle.realtime_views.specs.laws.Numbers.{leaf, taking-last}
-use Rattle.realtime_views.specs.promises.Numbers.{orZeroAt, singleText, singleNumber, taking, plain, spans, valueOf, noNumber, noSpan, fromEvent, EventsRead, NumberReady, NumberReads, StopReads}
+use Rattle.realtime_views.specs.laws.Last.{leaf, taking-last}
+use Rattle.realtime_views.specs.promises.Last.{taking}
+use Rattle.realtime_views.specs.promises.Numbers.{orZeroAt, singleText, singleNumber, plain, spans, valueOf, noNumber, noSpan, fromEvent, EventsRead, NumberReady, NumberReads, StopReads}
 use Rattle.realtime_views.specs.Typed.{uint32, int32, int64, bool, enum, numberIn, textIn, orZero}
 use Rattle.basics.specs.Options.{someAnd}
 use Rattle.realtime_views.specs.promises.Narrow.{toSpan, toTimestamp, toDirection, toDelay, isValue, toHeader, toTrip}

@@ -1,7 +1,7 @@
 pub mod Fold
 pub mod Reading
+pub mod Last
 pub mod Scalars
-pub mod Numbers
 pub mod Walks
 pub mod Starts
 pub mod Examples

@@ -1,5 +1,6 @@
 pub mod Fold
 pub mod Reading
+pub mod Last
 pub mod Scalars
 pub mod Narrow
 pub mod Numbers

@@ -5,6 +5,11 @@ use realtime::STOP_TIME_EVENT;
 use realtime::STOP_TIME_UPDATE;
 use realtime::Step;
 use realtime::TRIP_UPDATE;
+use realtime::fields::feed_entity;
+use realtime::fields::feed_message;
+use realtime::fields::stop_time_event;
+use realtime::fields::stop_time_update;
+use realtime::fields::trip_update;
 use realtime::next;
 ghost use mathlib.Core.Path.{_≡_};
 ghost use mathlib.Core.List.{[], _∷_};
@@ -28,6 +33,9 @@ const DIFFERENTIAL: u64 = 1;
 const CANCELED: u64 = 3;
 
 const SKIPPED: u64 = 1;
+
+// No field has this number.
+const NO_FIELD: u64 = 0;
 
 // The last value of a field: of a text, where it stands.
 pub enum Scalar {
@@ -167,7 +175,7 @@ fn over_update(s: &[u8], from: usize, before: TripScalars) -> TripScalars
                 at = after;
             }
             Step::Message(field, inner, start, _, after) => {
-                if field == 1 {
+                if field == trip_update::TRIP {
                     trip = over_message(wire::part(s, 0, after), start, inner, trip);
                 }
                 at = after;
@@ -197,7 +205,7 @@ fn over_updates(s: &[u8], from: usize) -> TripScalars
                 at = after;
             }
             Step::Message(field, _, start, _, after) => {
-                if field == 3 {
+                if field == feed_entity::TRIP_UPDATE {
                     d = over_update(wire::part(s, 0, after), start, d);
                 }
                 at = after;
@@ -404,9 +412,9 @@ fn over_event(s: &[u8], from: usize, before: EventNumbers) -> EventNumbers
             Step::Broken => return EventNumbers { delay, time },
             Step::End => return EventNumbers { delay, time },
             Step::Number(field, value, after) => {
-                if field == 1 {
+                if field == stop_time_event::DELAY {
                     delay = Number { given: 1, value };
-                } else if field == 2 {
+                } else if field == stop_time_event::TIME {
                     time = Number { given: 1, value };
                 }
                 at = after;
@@ -484,23 +492,23 @@ fn over_stop(s: &[u8], from: usize) -> StopUpdate
             Step::Broken => return stop_from(sequence, stop, relationship, arrival, departure),
             Step::End => return stop_from(sequence, stop, relationship, arrival, departure),
             Step::Number(field, value, after) => {
-                if field == 1 {
+                if field == stop_time_update::STOP_SEQUENCE {
                     sequence = value;
-                } else if field == 5 {
+                } else if field == stop_time_update::SCHEDULE_RELATIONSHIP {
                     relationship = value;
                 }
                 at = after;
             }
             Step::Text(field, start, len, after) => {
-                if field == 4 {
+                if field == stop_time_update::STOP_ID {
                     stop = Span { start, len };
                 }
                 at = after;
             }
             Step::Message(field, _, start, _, after) => {
-                if field == 2 {
+                if field == stop_time_update::ARRIVAL {
                     arrival = over_event(wire::part(s, 0, after), start, arrival);
-                } else if field == 3 {
+                } else if field == stop_time_update::DEPARTURE {
                     departure = over_event(wire::part(s, 0, after), start, departure);
                 }
                 at = after;
@@ -540,7 +548,7 @@ fn last_number(s: &[u8], from: usize, message: u64, k: u64) -> u64
 pub fn header_of(s: &[u8]) -> Header
     ensures { λ r. ⌜ HeaderRead feed (now (s .entry)) r ⌝ }
 {
-    header_from(over_field(s, 0, FEED_MESSAGE, 1, nothing()))
+    header_from(over_field(s, 0, FEED_MESSAGE, feed_message::HEADER, nothing()))
 }
 
 // Of an entity in `len` bytes at `start`: whether it is deleted.
@@ -548,7 +556,8 @@ pub fn is_deleted(s: &[u8], start: usize, len: usize) -> bool
     requires { ⌜ start + len ≤ length (now s) ⌝ }
     ensures { λ r. ⌜ DeletedRead feed (now (s .entry)) start len r ⌝ }
 {
-    last_number(wire::part(s, 0, start + len), start, FEED_ENTITY, 2) != 0
+    let entity = wire::part(s, 0, start + len);
+    last_number(entity, start, FEED_ENTITY, feed_entity::IS_DELETED) != 0
 }
 
 // And its trip, merged from all its trip_updates.
@@ -575,7 +584,9 @@ pub fn sequence_at(s: &[u8], start: usize, len: usize) -> u32
     requires { ⌜ start + len ≤ length (now s) ⌝ }
     ensures { λ r. ⌜ SequenceRead feed (now (s .entry)) start len r ⌝ }
 {
-    uint32(last_number(wire::part(s, 0, start + len), start, STOP_TIME_UPDATE, 1))
+    let update = wire::part(s, 0, start + len);
+    let sequence = stop_time_update::STOP_SEQUENCE;
+    uint32(last_number(update, start, STOP_TIME_UPDATE, sequence))
 }
 
 // A walk over the messages at a repeated field, of all the messages at another field merged: the next place outside, and what is left of the message that is open.
@@ -672,7 +683,14 @@ pub fn next_entity(s: &[u8], walk: Walk) -> Item
     requires { ⌜ SoundWalk (now s) (walk .outer) (walk .end) (walk .at) ⌝ }
     ensures { λ r. ⌜ NextEntity (now (s .entry)) walk r ⌝ }
 {
-    next_item(s, FEED_MESSAGE, 0, FEED_MESSAGE, 2, walk)
+    next_item(
+        s,
+        FEED_MESSAGE,
+        NO_FIELD,
+        FEED_MESSAGE,
+        feed_message::ENTITY,
+        walk,
+    )
 }
 
 // The stop_time_updates of an entity that starts at `start` and ends with `s`, one after the other.
@@ -690,5 +708,12 @@ pub fn next_update(s: &[u8], walk: Walk) -> Item
     requires { ⌜ SoundWalk (now s) (walk .outer) (walk .end) (walk .at) ⌝ }
     ensures { λ r. ⌜ NextUpdate (now (s .entry)) walk r ⌝ }
 {
-    next_item(s, FEED_ENTITY, 3, TRIP_UPDATE, 2, walk)
+    next_item(
+        s,
+        FEED_ENTITY,
+        feed_entity::TRIP_UPDATE,
+        TRIP_UPDATE,
+        trip_update::STOP_TIME_UPDATE,
+        walk,
+    )
 }

@@ -84,15 +84,10 @@ fn read(kind: u8, s: &[u8]) -> Answer {
     }
 }
 
-// The value of a hexadecimal digit; 16 for any other byte.
 fn digit(c: u8) -> u64
     ensures { λ r. ⌜ r ≤ 16 ⌝ }
 {
-    match c {
-        b'0'..=b'9' => (c - 48) as u64,
-        b'a'..=b'f' => (c - 87) as u64,
-        _ => 16,
-    }
+    vector_lines::digit(c) as u64
 }
 
 // A number, and where the next word starts.
@@ -184,7 +179,7 @@ fn run_line(line: &[u8], number: u64) -> u64 {
         return 0;
     }
     let kind = line[0];
-    if kind == b'#' {
+    if (kind == b'#') | (kind == b'\n') {
         return 0;
     }
     let mut s = [0u8; 64];
@@ -197,34 +192,16 @@ fn run_line(line: &[u8], number: u64) -> u64 {
     0
 }
 
-// Where the line that starts at `from` ends.
-fn line_end(s: &[u8], from: usize) -> usize
-    requires { ⌜ from ≤ length (now s) ⌝ }
-    ensures { λ r. ⌜ (from ≤ r) × (r ≤ length (now (s .entry))) ⌝ }
-{
-    let mut i = from;
-    while i < s.len() {
-        if s[i] == b'\n' {
-            return i;
-        }
-        i += 1;
-    }
-    i
-}
-
 // How many vectors of s agree.
 fn run(s: &[u8]) -> u64 {
     let mut start = 0;
     let mut number: u64 = 1;
     let mut agree: u64 = 0;
     while start < s.len() {
-        let e = line_end(s, start);
-        agree = std::num::wrapping_add_u64(agree, run_line(&s[start..e], number));
-        if s.len() <= e {
-            return agree;
-        }
+        let end = vector_lines::line_end(s, start);
+        agree = std::num::wrapping_add_u64(agree, run_line(&s[start..end], number));
         number = std::num::wrapping_add_u64(number, 1);
-        start = e + 1;
+        start = end;
     }
     agree
 }

@@ -27,7 +27,7 @@ distinct-step j i seen l t e ih ih′ = go (eqb j i) refl t e
     go false eu true et = rw (ih, eu) refl
     go false eu false et = rw (ih′, eu) refl
 
-member-distinct : (j : ℕ) (seen l : List ℕ) → member j (distinct seen l) ≡ not (member j seen) && member j l
+pub member-distinct : (j : ℕ) (seen l : List ℕ) → member j (distinct seen l) ≡ not (member j seen) && member j l
 member-distinct j seen [] = sym (and-no (not (member j seen)))
 member-distinct j seen (i ∷ l) =
     distinct-step j i seen l (member i seen) refl (member-distinct j seen l) (member-distinct j (i ∷ seen) l)

@@ -7,7 +7,7 @@ use Prim.Native.Nat.{ℕ, zero, suc}
 use lib.Dec.{eqb}
 use lib.ListN.{length}
 use borrow.Author.Tests.{eqb-true}
-use Rattle.wire.specs.Wire.{Value, number, eight, string, group, four, Field, fields}
+use Rattle.wire.specs.Wire.{Value, VARINT, I64, LEN, GROUP, I32, Field, fields}
 use Rattle.basics.specs.Lists.{All}
 use Rattle.basics.specs.laws.Options.{none-some}
 use Rattle.basics.specs.laws.Booleans.{both-true}
@@ -41,29 +41,29 @@ bind-some (some a) q b e = (a, refl, e)
 module _ (σ : Schema) where
   module _ (inner : ℕ → List ℕ → Option Tree) (typed : (u : ℕ) (s : List ℕ) (m : Tree) → inner u s ≡ some m → Typed σ u m) (t : ℕ) where
     put-number : (f : ℕ) (v : Value) (o : Option Tree) (m : Tree) → ((r : Tree) → o ≡ some r → Typed σ t r) → addNumber f v o ≡ some m → Typed σ t m
-    put-number f (number n) o m h e = let (r, a, b) = map-some (num f n) o m e in rw (← b) (h r a)
-    put-number f (eight x) o m h e = none-some e
-    put-number f (string x) o m h e = none-some e
-    put-number f group o m h e = none-some e
-    put-number f (four x) o m h e = none-some e
+    put-number f (VARINT n) o m h e = let (r, a, b) = map-some (num f n) o m e in rw (← b) (h r a)
+    put-number f (I64 x) o m h e = none-some e
+    put-number f (LEN x) o m h e = none-some e
+    put-number f GROUP o m h e = none-some e
+    put-number f (I32 x) o m h e = none-some e
 
     put-text : (f : ℕ) (v : Value) (o : Option Tree) (m : Tree) → ((r : Tree) → o ≡ some r → Typed σ t r) → addText f v o ≡ some m → Typed σ t m
-    put-text f (number n) o m h e = none-some e
-    put-text f (eight x) o m h e = none-some e
-    put-text f (string x) o m h e = let (r, a, b) = map-some (txt f x) o m e in rw (← b) (h r a)
-    put-text f group o m h e = none-some e
-    put-text f (four x) o m h e = none-some e
+    put-text f (VARINT n) o m h e = none-some e
+    put-text f (I64 x) o m h e = none-some e
+    put-text f (LEN x) o m h e = let (r, a, b) = map-some (txt f x) o m e in rw (← b) (h r a)
+    put-text f GROUP o m h e = none-some e
+    put-text f (I32 x) o m h e = none-some e
 
     put-message : (f u : ℕ) (v : Value) (o : Option Tree) (m : Tree) → σ t f ≡ some (aMessage u) → ((r : Tree) → o ≡ some r → Typed σ t r)
         → addMessage (inner u) f u v o ≡ some m → Typed σ t m
-    put-message f u (number n) o m k h e = none-some e
-    put-message f u (eight x) o m k h e = none-some e
-    put-message f u (string x) o m k h e =
+    put-message f u (VARINT n) o m k h e = none-some e
+    put-message f u (I64 x) o m k h e = none-some e
+    put-message f u (LEN x) o m k h e =
         let (i, a, b) = bind-some (inner u x) _ m e in
         let (r, c, d) = map-some (msg f u i) o m b in
         rw (← d) (k, typed u x i a, h r c)
-    put-message f u group o m k h e = none-some e
-    put-message f u (four x) o m k h e = none-some e
+    put-message f u GROUP o m k h e = none-some e
+    put-message f u (I32 x) o m k h e = none-some e
 
     built : (l : List Field) (m : Tree) → build inner (σ t) l ≡ some m → Typed σ t m
     built [] m e = let z : end ≡ m = cc in rw (← z) tt

@@ -4,23 +4,24 @@ use mathlib.Core.Path.{_≡_}
 use mathlib.Core.List.{List}
 use lib.ListN.{length, take, drop}
 use Rattle.realtime_views.specs.promises.Views.{SpanInside}
+use Rattle.decode.specs.Sizes.{mostTrips, keyBytes, mostId, mostDate, mostTime, keysLength}
 use Rattle.realtime_views.specs.declared.Trip.{Trip}
 
 -- the texts of an entity lie in the bytes, and are as long as question 5 lets them be
 pub record Short (s : List ℕ) (t : Trip) : Type 0 where
-  pub id : SpanInside (length s) (t .id) × (t .id .len ≤ 64)
-  pub date : SpanInside (length s) (t .date) × (t .date .len ≤ 16)
-  pub time : SpanInside (length s) (t .time) × (t .time .len ≤ 16)
-  pub route : SpanInside (length s) (t .route) × (t .route .len ≤ 64)
+  pub id : SpanInside (length s) (t .id) × (t .id .len ≤ mostId)
+  pub date : SpanInside (length s) (t .date) × (t .date .len ≤ mostDate)
+  pub time : SpanInside (length s) (t .time) × (t .time .len ≤ mostTime)
+  pub route : SpanInside (length s) (t .route) × (t .route .len ≤ mostId)
 
 -- slot n is there
 pub record Room (keys : List ℕ) (n : ℕ) : Type 0 where
-  pub counted : n ≤ 2048
-  pub keyed : length keys ≡ 280713
+  pub counted : n ≤ mostTrips
+  pub keyed : length keys ≡ keysLength
 
 -- key k stands in slot n, and the slots before it are as they were
 pub record Keyed (keys : List ℕ) (n : ℕ) (k keys′ : List ℕ) (r : ℕ) : Type 0 where
-  pub key : take r (drop (137 * n) keys′) ≡ k
-  pub before : take (137 * n) keys′ ≡ take (137 * n) keys
+  pub key : take r (drop (keyBytes * n) keys′) ≡ k
+  pub before : take (keyBytes * n) keys′ ≡ take (keyBytes * n) keys
   pub long : length keys′ ≡ length keys
-  pub short : r ≤ 137
+  pub short : r ≤ keyBytes

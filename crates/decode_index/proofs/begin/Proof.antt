@@ -5,6 +5,24 @@ use Rattle.decode_index.proofs.Leaves.{begun-none, begun-old}
 use Rattle.decode_index.proofs.begin.Statement.{statement}
 use Rattle.decode_index.proofs.begin.Tie as tie
 
+-- the places that the needs go back to
+abbrev to-then1 : tie.After-join → tie.Then1
+to-then1 c = c .before .before .before .before
+
+abbrev to-start-from-else1 : tie.Else1 → tie.Start
+to-start-from-else1 c = c .before .before .before .before .before
+
+returns : tie.Need-returns
+returns c =
+    let at-join = c .before .before .before .before .before .before in
+    let then1 = to-then1 at-join in
+    begun-old (at-join .join .ensures) (then1 .if1 .taken)
+
+returns-2 : tie.Need-returns-2
+returns-2 c =
+    let start = to-start-from-else1 c in
+    begun-none (sound-none (start .pre .0)) (c .if1 .left)
+
 pub begin-spec : {M : Type 1} → statement M
 begin-spec =
     tie.close
@@ -13,5 +31,5 @@ begin-spec =
     (λ c. search needs)
     (λ c. search needs)
     (λ c. search needs)
-    (λ c. begun-old (c .before .before .before .before .before .before .join .ensures) (c .before .before .before .before .before .before .before .before .before .before .if1 .taken))
-    (λ c. let P = c .before .before .before .before .before .pre .0 in begun-none (sound-none (P .0) (P .1) (P .2)) (c .if1 .left)))
+    returns
+    returns-2)

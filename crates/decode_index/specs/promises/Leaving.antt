@@ -4,6 +4,7 @@ use Prim.Native.Nat.{ℕ, _≤_}
 use mathlib.Core.Path.{_≡_}
 use mathlib.Core.Bool.{Bool, false, cond}
 use mathlib.Core.List.{List, []}
+use Rattle.decode.specs.Sizes.{mostTrips}
 use Rattle.basics.specs.Lists.{All}
 use Rattle.formats.specs.Format.{list}
 use Rattle.formats_read.specs.promises.Here.{Here}
@@ -13,8 +14,8 @@ use Rattle.maps.specs.Order.{texts}
 use Rattle.decode_slots.specs.Index.{index}
 use Rattle.decode_slots.specs.promises.Index.{SoundIndex}
 use Rattle.decode.specs.Leaves.{Trips, leaves}
-use Rattle.decode_slots.specs.Places.{held, isNew, crowded}
-use Rattle.decode_old.specs.promises.Old.{Stands}
+use Rattle.decode_slots.specs.Places.{held, crowded, anyCrowded}
+use Rattle.decode_old.specs.promises.Old.{Stands, OldRecord}
 use Rattle.decode_index.specs.Message.{messageTree}
 use Rattle.decode_index.specs.promises.Message.{AllFit}
 use Rattle.decode_index.specs.declared.Left.{Left}
@@ -34,13 +35,17 @@ pub record Old (o : List ℕ) (at : ℕ) : Type 0 where
 -- the index before the entities: the old trips that stand at `at`, or none
 pub record Begun (o : List ℕ) (at : ℕ) (differential : Bool) (keys marks order : List ℕ) (r : ℕ) : Type 0 where
   pub sound : SoundIndex keys marks order r
-  pub few : r ≤ 2048
-  pub aged : All (λ e. isNew (e .1) ≡ false) (index keys marks order r)
-  pub of : (v : Trips) (q : ℕ) → Here (list 2048 tripEntry) o at q v → (s : List ℕ) → held s o (index keys marks order r) ≡ cond differential (puts texts v []) []
+  pub few : r ≤ mostTrips
+  pub old : All (λ e. OldRecord o (e .1)) (index keys marks order r)
+  pub of : (v : Trips) (q : ℕ) → Here (list mostTrips tripEntry) o at q v
+      → (s : List ℕ) → held s o (index keys marks order r) ≡ cond differential (puts texts v []) []
 
--- THE INDEX IS WHAT THE MESSAGE LEAVES, in order, and every place of it can be read. The old trips of a state ascend, and then `puts texts v []` is v
--- (`puts-itself`)
+-- THE INDEX IS WHAT THE MESSAGE LEAVES, in order. Every place of it lies forward and inside, and can be read: in the
+-- message an entity, in the old overlay the record that is left; none has more than 128 updates. The old trips of a
+-- state ascend, and then `puts texts v []` is v (`puts-itself`)
 pub record Leaves (feed s o : List ℕ) (at : ℕ) (keys marks order : List ℕ) (r : Left) : Type 0 where
   pub sound : (n : ℕ) → r ≡ Left.Trips n → SoundIndex keys marks order n
   pub fit : (n : ℕ) → r ≡ Left.Trips n → AllFit s o (index keys marks order n)
-  pub of : (v : Trips) (q : ℕ) → Here (list 2048 tripEntry) o at q v → viewLeft (λ n. held s o (index keys marks order n)) r ≡ leaving (leaves feed (messageTree s) (puts texts v []))
+  pub calm : (n : ℕ) → r ≡ Left.Trips n → anyCrowded (held s o (index keys marks order n)) ≡ false
+  pub of : (v : Trips) (q : ℕ) → Here (list mostTrips tripEntry) o at q v
+      → viewLeft (λ n. held s o (index keys marks order n)) r ≡ leaving (leaves feed (messageTree s) (puts texts v []))

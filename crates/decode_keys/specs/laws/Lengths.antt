@@ -9,6 +9,8 @@ use Rattle.decode_slots.specs.Index.{index}
 use Rattle.decode_slots.specs.laws.Slots.{index-length}
 use Rattle.decode_keys.specs.promises.Entity.{Filed}
 
-pub filed-length : {keys marks order k keys′ marks′ order′ : List ℕ} {n from to r : ℕ} → Filed keys marks order n k from to keys′ marks′ order′ r
+pub filed-length : {keys marks order k keys′ marks′ order′ : List ℕ} {n from to r : ℕ}
+    → Filed keys marks order n k from to keys′ marks′ order′ r
     → length (put texts k (from, to) (index keys marks order n)) ≡ r
-filed-length {keys′ = keys′} {marks′ = marks′} {order′ = order′} {r = r} F = sym (ap length (F .map)) ∙ index-length keys′ marks′ order′ r (F .sound)
+filed-length {keys′ = keys′} {marks′ = marks′} {order′ = order′} {r = r} F =
+    sym (ap length (F .map)) ∙ index-length keys′ marks′ order′ r (F .sound)

@@ -22,7 +22,22 @@ bytes =
 trips : Trips
 trips =
     (97 ∷ [], (inr (pos 60), (0, ([], ([], (inl tt, ([], [])))))))
-    ∷ (98 ∷ [], (inl tt, (1, ([], ([], (inl tt, ([], (5, (83 ∷ [], (inl tt, (inl tt, (inl tt, (inl tt, 1)))))) ∷ [])))))))
+    ∷ (
+      98 ∷ [],
+      (
+        inl tt,
+        (
+          1,
+          (
+            [],
+            (
+              [],
+              (inl tt, ([], (5, (83 ∷ [], (inl tt, (inl tt, (inl tt, (inl tt, 1)))))) ∷ [])),
+            ),
+          ),
+        ),
+      ),
+    )
     ∷ []
 
 stand : Stands bytes 0

@@ -6,6 +6,14 @@ use Rattle.decode_probes.proofs.Asking.{old-long, old-judged}
 use Rattle.decode_probes.proofs.are_old.Statement.{statement}
 use Rattle.decode_probes.proofs.are_old.Tie as tie
 
+returns-2 : tie.Need-returns-2
+returns-2 c =
+    let at-judge = c .before in
+    let else1 = at-judge .before in
+    let start = else1 .before .before in
+    old-judged (start .args .old .now) (else1 .if1 .left)
+    (c .is-unfailed .ensures ∙ ap unfailed (at-judge .judge .ensures))
+
 pub are-old-spec : {M : Type 1} → statement M
 are-old-spec =
     tie.close
@@ -13,4 +21,4 @@ are-old-spec =
     (λ c. old-long (c .before .before .args .old .now) (c .if1 .taken))
     (λ c κs. search needs)
     (λ c κs. search needs)
-    (λ c. old-judged (c .before .before .before .before .args .old .now) (c .before .before .if1 .left) (c .is-unfailed .ensures ∙ ap unfailed (c .before .judge .ensures))))
+    returns-2)

@@ -9,11 +9,17 @@ use Rattle.decode_probes.specs.Answers.{orNought}
 use Rattle.decode_probes.proofs.delay_or_zero.Statement.{statement}
 use Rattle.decode_probes.proofs.delay_or_zero.Tie as tie
 
+returns : tie.Need-returns
+returns c =
+    let at-d = c .before in
+    let f : SFits w32 (at-d .d .given .0 .0) = search needs in
+    toZ-ofZ f ∙ ap (λ x. orNought (viewDelay x)) (sym (at-d .d .given .1))
+
 pub delay-or-zero-spec : {M : Type 1} → statement M
 delay-or-zero-spec =
     tie.close
     (tie.spec
     (λ c. search needs)
     (λ c. search needs)
-    (λ c. let f : SFits w32 (c .before .d .given .0 .0) = search needs in toZ-ofZ f ∙ ap (λ x. orNought (viewDelay x)) (sym (c .before .d .given .1)))
+    returns
     (λ c. ap (λ x. orNought (viewDelay x)) (sym (c .enum-told .given .1))))

@@ -16,7 +16,8 @@ event-numbers-spec =
     (λ c κs. search needs)
     (λ c j. record {
       delayed = c .before .before .before .has-delay .ensures j;
-      delay = (toZ-ofZ {w = w32} (record { sfits = c .before .before .delay-or-zero .ok }) ∙ c .before .before .delay-or-zero .ensures) j;
+      delay = (toZ-ofZ {w = w32} (record { sfits = c .before .before .delay-or-zero .ok })
+          ∙ c .before .before .delay-or-zero .ensures) j;
       timed = c .before .has-time .ensures j;
       time = (toZ-ofZ {w = w64} (record { sfits = c .time-or-zero .ok }) ∙ c .time-or-zero .ensures) j;
     }))

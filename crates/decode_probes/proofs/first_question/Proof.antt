@@ -14,8 +14,14 @@ first-question-spec =
     (λ c κs. search needs)
     (λ c κs. search needs)
     (λ c. let a = c .before .before .before .before .before .before .before .before .args in
-    c .message-question .ensures ∙ (λ j. cond ((sym (c .before .before .before .if1 .taken) ∙ c .before .before .before .before .is-sized .ensures) j) (cond ((sym (c .before .if2 .taken) ∙ c .before .before .are-old .ensures) j) (messageQuestion (a .feed .now) (a .s .now)) 2) 1))
+    c .message-question .ensures ∙ (λ j. cond
+    ((sym (c .before .before .before .if1 .taken) ∙ c .before .before .before .before .is-sized .ensures) j)
+    (cond ((sym (c .before .if2 .taken) ∙ c .before .before .are-old .ensures) j)
+    (messageQuestion (a .feed .now) (a .s .now)) 2) 1))
     (λ c j. let a = c .before .before .before .before .before .before .before .args in
-    cond ((sym (c .before .before .if1 .taken) ∙ c .before .before .before .is-sized .ensures) j) (cond ((sym (c .if2 .left) ∙ c .before .are-old .ensures) j) (messageQuestion (a .feed .now) (a .s .now)) 2) 1)
+    cond ((sym (c .before .before .if1 .taken) ∙ c .before .before .before .is-sized .ensures) j)
+    (cond ((sym (c .if2 .left) ∙ c .before .are-old .ensures) j) (messageQuestion (a .feed .now) (a .s .now)) 2)
+    1)
     (λ c j. let a = c .before .before .before .before .before .args in
-    cond ((sym (c .if1 .left) ∙ c .before .is-sized .ensures) j) (cond (areOld (a .old .now)) (messageQuestion (a .feed .now) (a .s .now)) 2) 1))
+    cond ((sym (c .if1 .left) ∙ c .before .is-sized .ensures) j)
+    (cond (areOld (a .old .now)) (messageQuestion (a .feed .now) (a .s .now)) 2) 1))

@@ -9,4 +9,9 @@ header-numbers-spec =
     (tie.spec
     (λ c κs. search needs)
     (λ c κs. search needs)
-    (λ c j. record { differential = c .before .before .args .h .differential; timed = c .before .has-timestamp .ensures j; timestamp = c .timestamp-or-zero .ensures j }))
+    (λ c j. record {
+      differential = c .before .before .args .h .differential;
+      timed =
+          c .before .has-timestamp .ensures j;
+      timestamp = c .timestamp-or-zero .ensures j;
+    }))

@@ -8,6 +8,23 @@ use Rattle.decode_probes.proofs.Reading.{of-whole, of-broken}
 use Rattle.decode_probes.proofs.trips_header.Statement.{statement}
 use Rattle.decode_probes.proofs.trips_header.Tie as tie
 
+returns : tie.Need-returns
+returns c =
+    let at-header-of = c .before in
+    let then1 = at-header-of .before in
+    let at-is-whole = then1 .before in
+    let start = at-is-whole .before .before in
+    of-whole noHeader (λ m. headerNumbers (header m)) feedMessage (start .args .s .now)
+    (sym (at-is-whole .is-whole .ensures) ∙ then1 .if1 .taken)
+    (λ m e. c .header-numbers .ensures ∙ ap headerNumbers (at-header-of .header-of .ensures .of m e))
+
+returns-2 : tie.Need-returns-2
+returns-2 c =
+    let at-is-whole = c .before in
+    let start = at-is-whole .before .before in
+    of-broken noHeader (λ m. headerNumbers (header m)) feedMessage (start .args .s .now)
+    (sym (at-is-whole .is-whole .ensures) ∙ c .if1 .left)
+
 pub trips-header-spec : {M : Type 1} → statement M
 trips-header-spec =
     tie.close
@@ -15,5 +32,5 @@ trips-header-spec =
     (λ c κs. search needs)
     (λ c κs. search needs)
     (λ c κs. search needs)
-    (λ c. of-whole noHeader (λ m. headerNumbers (header m)) feedMessage (c .before .before .before .before .before .args .s .now) (sym (c .before .before .before .is-whole .ensures) ∙ c .before .before .if1 .taken) (λ m e. c .header-numbers .ensures ∙ ap headerNumbers (c .before .header-of .ensures .of m e)))
-    (λ c. of-broken noHeader (λ m. headerNumbers (header m)) feedMessage (c .before .before .before .args .s .now) (sym (c .before .is-whole .ensures) ∙ c .if1 .left)))
+    returns
+    returns-2)

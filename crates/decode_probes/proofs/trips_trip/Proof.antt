@@ -8,6 +8,24 @@ use Rattle.decode_probes.proofs.Reading.{of-whole, of-broken, all-of}
 use Rattle.decode_probes.proofs.trips_trip.Statement.{statement}
 use Rattle.decode_probes.proofs.trips_trip.Tie as tie
 
+returns : tie.Need-returns
+returns c =
+    let at-trip-of = c .before in
+    let then1 = at-trip-of .before in
+    let at-is-whole = then1 .before in
+    let start = at-is-whole .before .before in
+    of-whole noTrip (λ m. tripNumbersOf (trip m)) feedEntity (start .args .e .now)
+    (sym (at-is-whole .is-whole .ensures) ∙ then1 .if1 .taken)
+    (λ m e. c .trip-numbers .ensures ∙ ap tripNumbersOf
+    (at-trip-of .trip-of .ensures .of m (all-of feedEntity (start .args .e .now) e)))
+
+returns-2 : tie.Need-returns-2
+returns-2 c =
+    let at-is-whole = c .before in
+    let start = at-is-whole .before .before in
+    of-broken noTrip (λ m. tripNumbersOf (trip m)) feedEntity (start .args .e .now)
+    (sym (at-is-whole .is-whole .ensures) ∙ c .if1 .left)
+
 pub trips-trip-spec : {M : Type 1} → statement M
 trips-trip-spec =
     tie.close
@@ -15,5 +33,5 @@ trips-trip-spec =
     (λ c κs. search needs)
     (λ c κs. search needs)
     (λ c κs. search needs)
-    (λ c. of-whole noTrip (λ m. tripNumbersOf (trip m)) feedEntity (c .before .before .before .before .before .args .e .now) (sym (c .before .before .before .is-whole .ensures) ∙ c .before .before .if1 .taken) (λ m e. c .trip-numbers .ensures ∙ ap tripNumbersOf (c .before .trip-of .ensures .of m (all-of feedEntity (c .before .before .before .before .before .args .e .now) e))))
-    (λ c. of-broken noTrip (λ m. tripNumbersOf (trip m)) feedEntity (c .before .before .before .args .e .now) (sym (c .before .is-whole .ensures) ∙ c .if1 .left)))
+    returns
+    returns-2)

@@ -6,22 +6,24 @@ use native.Mathlib.Omega.{arith}
 use lib.ListN.{length, take}
 use lib.Seq.{length-take-le}
 use Rattle.decode_slots.specs.Index.{slotted, index}
-use Rattle.decode_slots.specs.promises.Index.{SoundIndex}
+use Rattle.decode_slots.specs.promises.Index.{SoundIndex, Lent}
 
 pub slotted-length : (keys marks l : List ℕ) → length (slotted keys marks l) ≡ length l
 slotted-length keys marks [] = refl
 slotted-length keys marks (j ∷ l) = ap suc (slotted-length keys marks l)
 
-pub index-length : (keys marks order : List ℕ) (n : ℕ) → SoundIndex keys marks order n → length (index keys marks order n) ≡ n
-index-length keys marks order n S = slotted-length keys marks (take n order) ∙ length-take-le n order (omega (arith, S .ordered, S .counted))
+pub index-length : (keys marks order : List ℕ) (n : ℕ) → SoundIndex keys marks order n
+    → length (index keys marks order n) ≡ n
+index-length keys marks order n S =
+    slotted-length keys marks (take n order) ∙ length-take-le n order (omega (arith, S .ordered, S .counted))
 
 -- NO SLOT IS IN USE: the lengths are all that is asked
-pub sound-none : {keys marks order : List ℕ} → length keys ≡ 280713 → length marks ≡ 6147 → length order ≡ 2049 → SoundIndex keys marks order 0
-sound-none k m o = record {
+pub sound-none : {keys marks order : List ℕ} → Lent keys marks order → SoundIndex keys marks order 0
+sound-none L = record {
   counted = omega arith;
-  ordered = o;
-  marked = m;
-  keyed = k;
+  ordered = L .ordered;
+  marked = L .marked;
+  keyed = L .keyed;
   slots = tt;
   lengths = λ j h. absurd (omega arith);
   ascends = refl;

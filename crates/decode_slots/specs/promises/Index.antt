@@ -5,6 +5,7 @@ use mathlib.Core.Path.{_≡_}
 use mathlib.Core.Bool.{true}
 use mathlib.Core.List.{List, [], _∷_, _++_}
 use lib.ListN.{length, getD, take, drop, set}
+use Rattle.decode.specs.Sizes.{mostTrips, keyBytes, keysLength, marksLength, orderLength}
 use Rattle.basics.specs.Lists.{All}
 use Rattle.maps.specs.Map.{Ordered, byOrder, put, ascending}
 use Rattle.maps.specs.Order.{texts}
@@ -12,17 +13,28 @@ use Rattle.decode_slots.specs.Index.{index}
 
 -- the slices have their lengths, with room for one key more than a feed may have, and the first n slots are in use
 pub record SoundIndex (keys marks order : List ℕ) (n : ℕ) : Type 0 where
-  pub counted : n ≤ 2049
-  pub ordered : length order ≡ 2049
-  pub marked : length marks ≡ 6147
-  pub keyed : length keys ≡ 280713
+  pub counted : n ≤ orderLength
+  pub ordered : length order ≡ orderLength
+  pub marked : length marks ≡ marksLength
+  pub keyed : length keys ≡ keysLength
   pub slots : All (λ j. j < n) (take n order)
-  pub lengths : (j : ℕ) → j < n → getD marks (3 * j) 0 ≤ 137
+  pub lengths : (j : ℕ) → j < n → getD marks (3 * j) 0 ≤ keyBytes
   pub ascends : ascending texts (index keys marks order n) ≡ true
+
+-- an index with a slot left for one more key
+pub record Open (keys marks order : List ℕ) (n : ℕ) : Type 0 where
+  pub sound : SoundIndex keys marks order n
+  pub few : n ≤ mostTrips
+
+-- the slices are lent with their lengths, whatever they hold
+pub record Lent (keys marks order : List ℕ) : Type 0 where
+  pub keyed : length keys ≡ keysLength
+  pub marked : length marks ≡ marksLength
+  pub ordered : length order ≡ orderLength
 
 -- the key that stands in slot n, `len` long
 abbrev pub keyIn : List ℕ → ℕ → ℕ → List ℕ
-keyIn keys n len = take len (drop (137 * n) keys)
+keyIn keys n len = take len (drop (keyBytes * n) keys)
 
 -- how many keys stand before k
 module _ {K : Type 0} (O : Ordered K) {A : Type 0} where

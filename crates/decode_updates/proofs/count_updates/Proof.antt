@@ -15,6 +15,39 @@ Inv-loop s start len end walk₀ n₀ walk n = Counting s start len n walk
 abbrev μ-loop : tie.MeasureT-loop
 μ-loop s start len end walk₀ n₀ walk n = ahead (take (start + len) s) walk
 
+loop-holds : tie.Need-loop-holds Inv-loop μ-loop
+loop-holds c =
+    let start = c .before .before in
+    counting (start .args .s .now) (start .args .start) (start .args .len) (start .pre) (c .updates .ensures)
+
+returns : tie.Need-returns Inv-loop μ-loop
+returns c =
+    let at-next-update = c .before .before in
+    let at-part = at-next-update .before in
+    let at-loop-test = at-part .before in
+    let turn = at-loop-test .before in
+    counted (turn .loop .inv) (at-part .part .ensures) (at-next-update .next-update .ensures)
+    (c .enum-told .given .1) (at-loop-test .loop-test .taken)
+
+loop-less : tie.Need-loop-less Inv-loop μ-loop
+loop-less c =
+    let at-rest = c .before in
+    let at-next-update = at-rest .before .before in
+    let at-part = at-next-update .before in
+    let turn = at-part .before .before in
+    less (turn .loop .inv .walked) (at-part .part .ensures) (at-next-update .next-update .ensures)
+    (at-rest .rest .given .1)
+
+loop-again : tie.Need-loop-again Inv-loop μ-loop
+loop-again c =
+    let at-rest = c .before in
+    let at-next-update = at-rest .before .before in
+    let at-part = at-next-update .before in
+    let at-loop-test = at-part .before in
+    let turn = at-loop-test .before in
+    counts-on (turn .loop .inv) (at-part .part .ensures) (at-next-update .next-update .ensures)
+    (at-rest .rest .given .1) (at-loop-test .loop-test .taken)
+
 pub count-updates-spec : {M : Type 1} → statement M
 count-updates-spec =
     tie.close
@@ -23,13 +56,13 @@ count-updates-spec =
     μ-loop
     (λ c. search needs)
     (λ c κs. search needs)
-    (λ c. counting (c .before .before .args .s .now) (c .before .before .args .start) (c .before .before .args .len) (c .before .before .pre) (c .updates .ensures))
+    loop-holds
     (λ c κs. omega (arith, c .before .before .before .before .pre))
     (λ c κs. walks (c .before .before .loop .inv .walked) (c .part .ensures))
     (λ c. search needs)
-    (λ c. counted (c .before .before .before .before .before .loop .inv) (c .before .before .before .part .ensures) (c .before .before .next-update .ensures) (c .enum-told .given .1) (c .before .before .before .before .loop-test .taken))
+    returns
     (λ c. search needs)
     (λ c. omega arith)
-    (λ c. less (c .before .before .before .before .before .before .loop .inv .walked) (c .before .before .before .before .part .ensures) (c .before .before .before .next-update .ensures) (c .before .rest .given .1))
-    (λ c. counts-on (c .before .before .before .before .before .before .loop .inv) (c .before .before .before .before .part .ensures) (c .before .before .before .next-update .ensures) (c .before .rest .given .1) (c .before .before .before .before .before .loop-test .taken))
+    loop-less
+    loop-again
     (λ c. counts-many (c .before .loop .inv) (c .loop-test .left)))

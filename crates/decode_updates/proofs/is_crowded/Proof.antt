@@ -1,4 +1,5 @@
--- `decode_updates::is_crowded`: no more than 128 are no more at their sequences; of others the updates themselves tell. Assumes nothing.
+-- `decode_updates::is_crowded`: no more than 128 are no more at their sequences; of others the updates themselves tell.
+-- Assumes nothing.
 use borrow.Author.Needs.{needs}
 use Rattle.decode_updates.proofs.Counting.{crowded-counted}
 use Rattle.decode_updates.proofs.Crowding.{crowded-listed}

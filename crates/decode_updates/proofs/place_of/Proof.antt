@@ -14,6 +14,29 @@ Inv-loop updates n sequence r₀ r = (rankOf numbers sequence (laid n updates) �
 abbrev μ-loop : tie.MeasureT-loop
 μ-loop updates n sequence r₀ r = r
 
+-- the places that the needs go back to
+abbrev to-turn : tie.Then1 Inv-loop μ-loop → tie.At-loop Inv-loop μ-loop
+to-turn c = c .before .before .before
+
+abbrev to-turn-from-else1 : tie.Else1 Inv-loop μ-loop → tie.At-loop Inv-loop μ-loop
+to-turn-from-else1 c = c .before .before .before
+
+returns : tie.Need-returns Inv-loop μ-loop
+returns c =
+    let turn = to-turn c in
+    let start = turn .before in
+    let h = rank-up (start .args .updates .now) (start .args .n) (start .pre) (start .args .sequence)
+    (turn .loop .r - 1) (omega arith) (c .if1 .taken) in
+    omega arith
+
+loop-again : tie.Need-loop-again Inv-loop μ-loop
+loop-again c =
+    let turn = to-turn-from-else1 c in
+    let start = turn .before in
+    let h = rank-down (start .args .updates .now) (start .args .n) (start .pre) (start .args .sequence)
+    (turn .loop .r - 1) (omega arith) (c .if1 .left) in
+    (omega arith, omega arith)
+
 pub place-of-spec : {M : Type 1} → statement M
 place-of-spec =
     tie.close
@@ -25,8 +48,8 @@ place-of-spec =
     (λ c. omega (arith, c .before .before .pre .counted))
     (λ c. omega arith)
     (λ c. omega (arith, c .before .before .before .pre .counted, c .before .before .before .pre .long))
-    (λ c. let h = rank-up (c .before .before .before .before .args .updates .now) (c .before .before .before .before .args .n) (c .before .before .before .before .pre) (c .before .before .before .before .args .sequence) (c .before .before .before .loop .r - 1) (omega arith) (c .if1 .taken) in omega arith)
+    returns
     (λ c. omega arith)
     (λ c. omega arith)
-    (λ c. let h = rank-down (c .before .before .before .before .args .updates .now) (c .before .before .before .before .args .n) (c .before .before .before .before .pre) (c .before .before .before .before .args .sequence) (c .before .before .before .loop .r - 1) (omega arith) (c .if1 .left) in (omega arith, omega arith))
+    loop-again
     (λ c. omega arith))

@@ -9,14 +9,17 @@ use Rattle.decode_slots.specs.Places.{recordAt, oldAt, isNew, held, crowded, an
 use Rattle.decode_updates.specs.promises.Updates.{crowdedIn}
 
 module _ (s o keys marks : List ℕ) where
-  pub crowded-held : (slots : List ℕ) → All (λ j. isNew (slotPlace marks j) ≡ false → crowded (oldAt o (slotPlace marks j)) ≡ false) slots
+  pub crowded-held : (slots : List ℕ)
+      → All (λ j. isNew (slotPlace marks j) ≡ false → crowded (oldAt o (slotPlace marks j)) ≡ false) slots
       → crowdedIn s marks slots ≡ anyCrowded (held s o (slotted keys marks slots))
   unfolding crowdedIn anyCrowded held
   crowded-held [] h = refl
   crowded-held (j ∷ l) h = go (isNew (slotPlace marks j)) refl (crowded-held l (h .1))
     where
-      go : (b : Bool) → isNew (slotPlace marks j) ≡ b → crowdedIn s marks l ≡ anyCrowded (held s o (slotted keys marks l))
+      go : (b : Bool) → isNew (slotPlace marks j) ≡ b
+          → crowdedIn s marks l ≡ anyCrowded (held s o (slotted keys marks l))
           → (b && crowded (recordAt s (slotPlace marks j))) || crowdedIn s marks l
-          ≡ crowded (cond b (recordAt s (slotPlace marks j)) (oldAt o (slotPlace marks j))) || anyCrowded (held s o (slotted keys marks l))
+          ≡ crowded (cond b (recordAt s (slotPlace marks j)) (oldAt o (slotPlace marks j))) || anyCrowded
+          (held s o (slotted keys marks l))
       go true e i = ap (λ y. crowded (recordAt s (slotPlace marks j)) || y) i
       go false e i = i ∙ sym (ap (λ y. y || anyCrowded (held s o (slotted keys marks l))) (h .0 e))

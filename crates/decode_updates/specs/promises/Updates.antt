@@ -6,21 +6,25 @@ use mathlib.Core.Bool.{Bool, true, false, _&&_, _||_}
 use mathlib.Core.List.{List, [], _∷_}
 use mathlib.Core.Option.{some}
 use lib.ListN.{length, take, drop}
+use Rattle.decode.specs.Sizes.{mostUpdates, orderLength}
+use Rattle.decode_updates.specs.promises.Line.{mostLines, Lined}
+use Rattle.basics.specs.Lists.{All}
 use Rattle.realtime.specs.Tree.{Tree, tree, sub, rep}
-use Rattle.realtime.specs.Schema.{feedEntity}
+use Rattle.realtime.specs.Schema.{feedEntity, stopTimeUpdate}
 use Rattle.realtime.specs.Schema as schema
 use Rattle.decode.specs.Record.{updatesIn, tripIn}
 use Rattle.decode_slots.specs.Index.{slotPlace}
 use Rattle.decode_updates.specs.Line.{laid}
-use Rattle.decode_updates.specs.promises.Line.{Lined}
 use Rattle.decode_slots.specs.Places.{recordAt, isNew, crowded}
 use Rattle.decode_slots.specs.promises.Places.{Readable}
 use Rattle.decode_updates.specs.Updates.{updatesAt}
 
--- the first r places of u are those of the updates of entity e; above 128 are too many, whatever follows
+-- the first r places of u are those of the updates of entity e, and each can be read; above 128 are too many, whatever
+-- follows
 pub record HoldsUpdates (s u : List ℕ) (r : ℕ) (e : Tree) : Type 0 where
-  pub few : r ≤ 128 → updatesAt s (laid r u) ≡ updatesIn e
-  pub many : 128 < r → 128 < length (updatesIn e)
+  pub few : r ≤ mostUpdates → updatesAt s (laid r u) ≡ updatesIn e
+  pub many : mostUpdates < r → mostUpdates < length (updatesIn e)
+  pub readable : All (λ x. Readable stopTimeUpdate s (x .1)) (laid r u)
 
 -- THE UPDATES of the entity in `len` bytes at `start`
 pub record ListedUpdates (s : List ℕ) (start len : ℕ) (u : List ℕ) (r : ℕ) : Type 0 where
@@ -29,7 +33,8 @@ pub record ListedUpdates (s : List ℕ) (start len : ℕ) (u : List ℕ) (r : �
 
 -- THE ANSWER r of how many there are, before a later one at a sequence is over an earlier one; above 128 it is 129
 pub record Counted (s : List ℕ) (start len : ℕ) (r : ℕ) : Type 0 where
-  pub of : (e : Tree) → tree schema.feed feedEntity (take len (drop start s)) ≡ some e → r ≡ min 129 (length (rep 2 (sub 3 e)))
+  pub of : (e : Tree) → tree schema.feed feedEntity (take len (drop start s)) ≡ some e
+      → r ≡ min mostLines (length (rep 2 (sub 3 e)))
 
 -- THE ANSWER r of whether its record has more than 128
 pub record CrowdedRead (s : List ℕ) (start len : ℕ) (r : Bool) : Type 0 where
@@ -37,7 +42,8 @@ pub record CrowdedRead (s : List ℕ) (start len : ℕ) (r : Bool) : Type 0 wher
 
 -- a slot of the index whose record, where it is of the message, is not broken
 abbrev pub ReadableSlot : List ℕ → List ℕ → ℕ → Type 0
-ReadableSlot s marks j = (j < 2049) × (isNew (slotPlace marks j) ≡ true → Readable s (slotPlace marks j))
+ReadableSlot s marks j =
+    (j < orderLength) × (isNew (slotPlace marks j) ≡ true → Readable feedEntity s (slotPlace marks j))
 
 -- whether a slot's record is of the message, and has more than 128 updates
 abbrev pub crowdedSlot : List ℕ → List ℕ → ℕ → Bool

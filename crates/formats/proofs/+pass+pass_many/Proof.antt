@@ -6,7 +6,10 @@ use borrow.Author.Needs.{needs}
 use borrow.Fn.Kinds.{In}
 use borrow.Fn.PlainCycle.{Measures, is, falls, and}
 use Rattle.formats.specs.promises.Outcome.{skipMany, formatAt}
-use Rattle.formats.proofs.Passes.{pass-none, pass-leaf, list-bad, list-over, list-good, choice-0, choice-1, choice-2, pair-bad, pair-good, pass-never, count-within, tag-within, passed-in, many-none, many-bad, many-flat, many-more}
+use Rattle.formats.proofs.Passes.{pass-none, pass-leaf, list-bad, list-over, list-good, choice-0, choice-1}
+use Rattle.formats.proofs.Passes.{choice-2, pair-bad, pair-good, pass-never, passed-in, many-none, many-bad}
+use Rattle.formats.proofs.Passes.{many-flat, many-more}
+use Rattle.formats.proofs.Parts.{count-within, tag-within}
 use Rattle.formats.proofs.pass.Reads as pass
 use Rattle.formats.proofs.pass.Kinds as pass-kinds
 use Rattle.formats.proofs.+pass+pass_many.Lts-pass as pass-lts

@@ -1,5 +1,7 @@
 use borrow.Author.Needs.{needs}
-use Rattle.formats.proofs.Passes.{leaf-0, leaf-1, leaf-6, leaf-6-bad, leaf-7, begins, leaf-bad, count-within, leaf-4, leaf-4-over, leaf-5, leaf-23}
+use Rattle.formats.proofs.Parts.{begins, count-within}
+use Rattle.formats.proofs.Passes.{leaf-0, leaf-1, leaf-6, leaf-6-bad, leaf-7, leaf-bad, leaf-4, leaf-4-over}
+use Rattle.formats.proofs.Passes.{leaf-5, leaf-23}
 use Rattle.formats.proofs.leaf.Statement.{statement}
 use Rattle.formats.proofs.leaf.Tie as tie
 

@@ -15,7 +15,8 @@ use Rattle.formats.specs.laws.Law.{Law, emptyLaw, pairLaw, mapLaw, onlyL
 use Rattle.basics.specs.laws.Options.{none-some}
 use Rattle.formats.specs.Number.{zig, zag}
 use Rattle.formats.specs.laws.Number.{numberLaw, number-some, zag-zig, zig-zag, littleLaw}
-use Rattle.formats.specs.Format.{Format, never, empty, number, signed, small, text, float, constant, list, choice, _&_, Value, write, takes, read, Fits, element}
+use Rattle.formats.specs.Format.{Format, never, empty, number, signed, small, text, float, constant, list, choice, _&_, Value, write, takes, read, Fits}
+use Rattle.formats.specs.promises.Outcome.{element}
 
 -- the bytes of a text: one fact over their number
 textLaw : (n : ℕ) → Law (λ v. v) (bytesR n) (λ v. (length v ≡ n) × Unit {0})

@@ -14,7 +14,8 @@ use borrow.Author.Tests.{lt-ltb, le-ltb, ltb-true, ltb-false, eqb-true, eqb-fals
 use Rattle.formats.specs.laws.Law.{Law, bind-some, cond-some, found}
 use Rattle.basics.specs.laws.Options.{none-some}
 use Rattle.basics.specs.laws.Lists.{headed}
-use Rattle.formats.specs.Number.{top, groupsW, groupsR, numberW, numberR, zig, zag, littleW, littleR}
+use Rattle.formats.specs.Number.{groupsW, groupsR, numberW, numberR, zig, zag, littleW, littleR}
+use Rattle.formats.specs.promises.Number.{top}
 
 top-pos : (k : ℕ) → 0 < top k
 top-pos zero = omega arith

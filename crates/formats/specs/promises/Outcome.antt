@@ -5,10 +5,10 @@ use mathlib.Core.Option.{Option, none, some}
 use Prim.Native.Nat.{ℕ, zero, suc, _+_, _-_, _*_}
 use lib.ListN.{length, drop, getD}
 use lib.Dec.{ltb}
-use Rattle.formats.specs.Readers.{manyR}
+use Rattle.formats.specs.Readers.{manyR, Reader, onlyR}
 use Rattle.formats.specs.Number.{zag}
 use Rattle.formats.specs.Class.{Class, any, printable, token, utf8}
-use Rattle.formats.specs.Format.{Format, never, empty, number, signed, small, text, float, constant, list, choice, _&_, read, element}
+use Rattle.formats.specs.Format.{Format, never, empty, number, signed, small, text, float, constant, list, choice, _&_, read, Value, takes}
 use Rattle.formats.specs.declared.Numeral.{Numeral}
 use Rattle.formats.specs.declared.Numeral.the-variants.{Got, Bad}
 use Rattle.formats.specs.declared.Skip.{Skip}
@@ -21,6 +21,10 @@ numbered s (some p) = Got (p .0) (length s - length (p .1))
 abbrev pub skipped : {A : Type 0} → List ℕ → Option (A × List ℕ) → Skip
 skipped s none = Broken
 skipped s (some p) = At (length s - length (p .1))
+
+-- an element of a list
+abbrev pub element : (f : Format) → Reader (Value f)
+element f = onlyR (takes f) (read f)
 
 -- past a value of a format, and past n values of it
 abbrev pub skipTo : Format → List ℕ → ℕ → Skip

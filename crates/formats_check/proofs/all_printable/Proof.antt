@@ -2,7 +2,8 @@ use borrow.Author.Needs.{needs}
 use Prim.Native.Nat.{_-_, _≤_}
 use lib.ListN.{length}
 use native.Mathlib.Omega.{arith}
-use Rattle.formats_check.specs.laws.Printable.{Onward, onward-start, onward-end, onward-eight, onward-no, onward-low, onward-high, onward-one}
+use Rattle.formats_check.specs.laws.Printable.{Onward, onward-start, onward-end, onward-eight, onward-no}
+use Rattle.formats_check.specs.laws.Printable.{onward-low, onward-high, onward-one}
 use Rattle.formats_check.proofs.all_printable.Statement.{statement}
 use Rattle.formats_check.proofs.all_printable.Tie as tie
 

@@ -19,7 +19,8 @@ use Rattle.formats.specs.declared.Skip.{Skip}
 use Rattle.formats.specs.declared.Skip.the-variants.{At, Broken}
 use Rattle.formats.proofs.Numbers.{place, opened}
 use Rattle.formats_judge.specs.Judged.{either}
-use Rattle.formats_check.specs.promises.Checked.{Checked, fine, Fine, Test, own, behind, under, both, also, holds, Tested}
+use Rattle.formats_check.specs.promises.Checked.{Checked, fine, Fine, Test, own, behind, under, both, also, holds}
+use Rattle.formats_check.specs.promises.Checked.{Tested}
 
 abbrev pub Out : Type 0 → Type 0
 Out A = Option (A × List ℕ)

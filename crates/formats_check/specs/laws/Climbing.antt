@@ -28,8 +28,10 @@ use Rattle.formats_check.specs.declared.Span.{Span}
 use Rattle.formats_check.specs.declared.Span.the-variants.{At, No}
 use Rattle.formats_check.specs.declared.Entry.{Entry}
 use Rattle.formats_check.specs.declared.Entry.the-variants as entry
-use Rattle.formats_check.specs.promises.Checked.{Number, Checked, fine, Fine, Walk, runs, Walked, Ahead, Test, own, behind, under, holds, Tested}
-use Rattle.formats_check.specs.laws.Checked.{Missed, absent, refused, Good, good, missed, behind-no, behind-so, under-no, under-so}
+use Rattle.formats_check.specs.promises.Checked.{Number, Checked, fine, Fine, Walk, runs, Walked, Ahead, Test}
+use Rattle.formats_check.specs.promises.Checked.{own, behind, under, holds, Tested}
+use Rattle.formats_check.specs.laws.Checked.{Missed, absent, refused, Good, good, missed, behind-no, behind-so}
+use Rattle.formats_check.specs.laws.Checked.{under-no, under-so}
 use Rattle.formats_check.specs.laws.Elements.{text-so, text-read}
 use Rattle.formats_check.specs.laws.Walks.{walk-end, walk-bad, walk-no, walk-on, list-no, list-over, list-so}
 

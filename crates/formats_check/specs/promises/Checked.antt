@@ -9,7 +9,8 @@ use Rattle.formats.specs.Readers.{Reader, onlyR, manyR}
 use Rattle.formats.specs.Number.{groupsR}
 use Rattle.formats.specs.Class.{inClass}
 use Rattle.basics.specs.Lists.{all}
-use Rattle.formats.specs.Format.{Format, never, empty, number, signed, small, text, float, constant, list, choice, _&_, Value, read}
+use Rattle.formats.specs.Format.{Format, never, empty, number, signed, small, text, float, constant, list, choice, _&_}
+use Rattle.formats.specs.Format.{Value, read}
 use Rattle.formats.specs.promises.Outcome.{numbered, skipped}
 use Rattle.formats.specs.declared.Numeral.{Numeral}
 use Rattle.formats.specs.declared.Skip.{Skip}

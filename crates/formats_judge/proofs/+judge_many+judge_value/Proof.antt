@@ -6,7 +6,7 @@ use borrow.Author.Needs.{needs}
 use borrow.Fn.Kinds.{In}
 use borrow.Fn.PlainCycle.{Measures, is, falls, and}
 use Rattle.formats.specs.promises.Outcome.{formatAt}
-use Rattle.formats.proofs.Passes.{count-within, tag-within}
+use Rattle.formats.proofs.Parts.{count-within, tag-within}
 use Rattle.formats_judge.specs.promises.Judged.{judgeMany, judgedAfter}
 use Rattle.formats_judge.proofs.Judging.{value-none, value-leaf, list-bad, list-over, list-good, choice-0, choice-1, choice-2, pair-bad, pair-bad-2, pair-good, value-never, judged-in, many-none, many-bad, many-flat, many-more}
 use Rattle.formats_judge.proofs.judge_many.Reads as judge-many

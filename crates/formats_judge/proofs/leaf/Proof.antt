@@ -1,5 +1,5 @@
 use borrow.Author.Needs.{needs}
-use Rattle.formats.proofs.Passes.{begins, count-within}
+use Rattle.formats.proofs.Parts.{begins, count-within}
 use Rattle.formats_judge.proofs.Leaves.{leaf-0, leaf-1, leaf-6, leaf-6-bad, leaf-7, leaf-7-bad, leaf-bad, leaf-2, leaf-3, leaf-4, leaf-4-over, leaf-5}
 use Rattle.formats_judge.proofs.leaf.Statement.{statement}
 use Rattle.formats_judge.proofs.leaf.Tie as tie

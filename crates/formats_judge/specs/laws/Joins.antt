@@ -12,11 +12,11 @@ use borrow.Author.Tests.{le-leb, lt-leb, leb-true, leb-false, ltb-true, ltb-fals
 use Rattle.formats.specs.Class.{Class}
 use Rattle.basics.specs.Lists.{all}
 use Rattle.formats.specs.Format.{Format, text, list, _&_, Value}
-use Rattle.formats_judge.specs.Judged.{ok, answer, firstNo, verdict}
+use Rattle.formats_judge.specs.Judged.{ok, answer, firstFailing, verdict}
 use Rattle.formats_judge.specs.promises.Judged.{textAnswer, verdicts, sooner}
 
 -- the verdict of two parts is the sooner of their verdicts
-pub first-both : (a b c x y z : Bool) → sooner (firstNo a b c) (firstNo x y z) ≡ firstNo (a && x) (b && y) (c && z)
+pub first-both : (a b c x y z : Bool) → sooner (firstFailing a b c) (firstFailing x y z) ≡ firstFailing (a && x) (b && y) (c && z)
 first-both false b c false y z = refl
 first-both false b c true false z = refl
 first-both false b c true true false = refl
@@ -89,7 +89,7 @@ module _ (g : ℕ → Bool) where
   yes-seven : g 5 ≡ true → g 6 ≡ true → g 7 ≡ true → (p : ℕ) → 5 ≤ p → p ≤ 7 → g p ≡ true
   yes-seven a b c p l h = ⊎-elim (λ e. subst (λ p. g p ≡ true) (sym e) c) (λ m. yes-six a b p l m) (eq-or-lt-of-le h)
 
-  says : (x y z : Bool) → g 5 ≡ x → g 6 ≡ y → g 7 ≡ z → (q : ℕ) → 5 ≤ q → q ≤ 7 → (firstNo x y z ≡ q) ↔ FirstNo g q
+  says : (x y z : Bool) → g 5 ≡ x → g 6 ≡ y → g 7 ≡ z → (q : ℕ) → 5 ≤ q → q ≤ 7 → (firstFailing x y z ≡ q) ↔ FirstNo g q
   says false y z a b c q l h =
       let F : FirstNo g 5 = (a, λ p m k. absurd (omega arith)) in
       (λ e. subst (FirstNo g) e F, only 5 q (omega arith) l F)
@@ -101,7 +101,7 @@ module _ (g : ℕ → Bool) where
       (λ e. subst (FirstNo g) e F, only 7 q (omega arith) l F)
   says true true true a b c q l h = (λ e. absurd (omega arith), λ F. differ q (yes-seven a b c q l h) (F .0))
 
-  all-yes : (x y z : Bool) → g 5 ≡ x → g 6 ≡ y → g 7 ≡ z → (firstNo x y z ≡ 0) ↔ ((p : ℕ) → 5 ≤ p → p ≤ 7 → g p ≡ true)
+  all-yes : (x y z : Bool) → g 5 ≡ x → g 6 ≡ y → g 7 ≡ z → (firstFailing x y z ≡ 0) ↔ ((p : ℕ) → 5 ≤ p → p ≤ 7 → g p ≡ true)
   all-yes false y z a b c = (λ e. absurd (omega arith), λ k. differ 5 (k 5 (omega arith) (omega arith)) a)
   all-yes true false z a b c = (λ e. absurd (omega arith), λ k. differ 6 (k 6 (omega arith) (omega arith)) b)
   all-yes true true false a b c = (λ e. absurd (omega arith), λ k. differ 7 (k 7 (omega arith) (omega arith)) c)

@@ -7,17 +7,18 @@ use lib.Dec.{leb}
 use Rattle.formats.specs.Readers.{manyR}
 use Rattle.formats.specs.Class.{Class, inClass}
 use Rattle.basics.specs.Lists.{all}
-use Rattle.formats.specs.Format.{Format, Value, element}
+use Rattle.formats.specs.Format.{Format, Value}
+use Rattle.formats.specs.promises.Outcome.{element}
 use Rattle.formats_judge.specs.declared.Judge.{Judge}
 use Rattle.formats_judge.specs.declared.Judge.the-variants.{At, Broken}
-use Rattle.formats_judge.specs.Judged.{ok, answer, firstNo, judged}
+use Rattle.formats_judge.specs.Judged.{ok, answer, firstFailing, judged}
 
 -- a text, for every limit
 abbrev pub textAnswer : ℕ → Class → List ℕ → ℕ
 textAnswer limit c v = answer 5 (leb (length v) limit && inClass c v)
 
 abbrev pub verdicts : (f : Format) → List (Value f) → ℕ
-verdicts f v = firstNo (all (ok 5 f) v) (all (ok 6 f) v) (all (ok 7 f) v)
+verdicts f v = firstFailing (all (ok 5 f) v) (all (ok 6 f) v) (all (ok 7 f) v)
 
 -- of two verdicts the one that comes first, where 0 is none
 abbrev pub sooner : ℕ → ℕ → ℕ

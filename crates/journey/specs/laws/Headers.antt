@@ -32,7 +32,7 @@ use Rattle.journey.specs.Card.{Transit}
 use Rattle.journey.specs.Enrich.{alertsIn, applies, alerts-of, keys, labels-of, headers-of}
 
 -- a text of a set, which is a map to nothing
-abbrev Entry : Type 0
+abbrev pub Entry : Type 0
 Entry = List ℕ × Unit {0}
 
 -- ---- lists
@@ -58,10 +58,10 @@ keys-each P [] h = tt
 keys-each P (e ∷ l) h = (h .0, keys-each P l (h .1))
 
 -- a set of texts
-abbrev entry : List ℕ → Entry
+abbrev pub entry : List ℕ → Entry
 entry x = (x, tt)
 
-abbrev set : List (List ℕ) → List Entry
+abbrev pub set : List (List ℕ) → List Entry
 set l = puts texts (map entry l) []
 
 -- ---- what holds of every label holds of every header

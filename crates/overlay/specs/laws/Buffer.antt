@@ -1,4 +1,5 @@
--- Law. ONE BUFFER for one state, and back; all zeros is none; every valid state fits the published length.
+-- Law. ONE BUFFER for one state, and back; all zeros is none; every state that a buffer holds fits the published
+-- length.
 use mathlib.Core.Path.{_≡_, refl, ap, _∙_}
 use mathlib.Core.Bool.{Bool, true, false, cond, _&&_}
 use mathlib.Core.List.{List, [], _∷_, _++_}
@@ -11,7 +12,7 @@ use lib.ListN.{length, replicate, length-append, length-replicate}
 use borrow.Author.Tests.{eqb-true}
 use Rattle.basics.specs.laws.Options.{none-some}
 use Rattle.basics.specs.Lists.{all}
-use Rattle.formats.specs.Format.{Fits, read, write}
+use Rattle.formats.specs.Format.{read, write}
 use Rattle.formats.specs.laws.Format.{read-write, write-read}
 use Rattle.formats_judge.specs.Judged.{ok}
 use Rattle.formats_capacity.specs.laws.Capacity.{capacity, capacity-bounds}
@@ -20,7 +21,7 @@ use Rattle.overlay.specs.laws.Within.{Judged56, formed-of, keeps}
 use Rattle.maps.specs.Map.{ascending}
 use Rattle.maps.specs.Order.{texts}
 use Rattle.overlay.specs.State.{State, overlay, feedsOf}
-use Rattle.overlay.specs.Valid.{feedValid, within, valid}
+use Rattle.overlay.specs.Valid.{feedValid, within, valid, Held}
 use Rattle.overlay.specs.Image.{filled, image, heldState, stateOf}
 use Rattle.overlay.specs.Buffer.{Buffer, published}
 
@@ -33,11 +34,11 @@ zeros-all [] e = refl
 zeros-all (b ∷ s) e = let h = both-true (eqb 0 b) (all (eqb 0) s) e in let z : 0 ≡ b = eqb-true 0 b (h .0) in rw (← z) (ap (λ t. 0 ∷ t) (zeros-all s (h .1)))
 
 -- the state of its image
-pub image-state : (n : ℕ) (s : State) → Fits overlay s → valid s ≡ true → stateOf (image n s) ≡ some s
+pub image-state : (n : ℕ) (s : State) → Held s → stateOf (image n s) ≡ some s
 unfolding stateOf image filled
-image-state n s f h =
+image-state n s h =
     let k = n - length (write overlay s) in
-    ap heldState (read-write overlay s (replicate k 0) f) ∙ (λ i. cond (all-zeros k i && h i) (some s) none)
+    ap heldState (read-write overlay s (replicate k 0) (h .fits)) ∙ (λ i. cond (all-zeros k i && h .valid i) (some s) none)
 
 -- what an accepted buffer holds
 accepted-some : (o : Option (State × List ℕ)) (s : State) → heldState o ≡ some s
@@ -66,20 +67,19 @@ state-buffer b s e =
     let (w, f) = write-read overlay b s rest r in
     record {
       is = zeros-filled (write overlay s) rest b w (zeros-all rest z);
-      fits = f;
-      valid = h;
+      held = record { fits = f; valid = h };
       room = omega (arith, ap length w, length-append (write overlay s) rest);
     }
 
-filled-length : (n : ℕ) (x : List ℕ) → length x ≤ n → length (filled n x) ≡ n
+pub filled-length : (n : ℕ) (x : List ℕ) → length x ≤ n → length (filled n x) ≡ n
 unfolding filled
 filled-length n x h = rw (length-append, length-replicate) (omega arith)
 
--- ONE BUFFER: the accepted buffers of n bytes are the images of the valid states that have room there, each of its own
+-- ONE BUFFER: the accepted buffers of n bytes are the images of the held states that have room there, each of its own
 pub one-buffer : (n : ℕ) (s : State) (b : List ℕ) → Buffer n s b ↔ ((length b ≡ n) × (stateOf b ≡ some s))
 unfolding image
 one-buffer n s b = (
-  λ B. (ap length (B .is) ∙ filled-length n (write overlay s) (B .room), ap stateOf (B .is) ∙ image-state n s (B .fits) (B .valid)),
+  λ B. (ap length (B .is) ∙ filled-length n (write overlay s) (B .room), ap stateOf (B .is) ∙ image-state n s (B .held)),
   λ h. rw (h .0) at (state-buffer b s (h .1)),
 )
 
@@ -88,17 +88,19 @@ unfolding stateOf
 no-state zero = refl
 no-state (suc n) = refl
 
--- a valid state is within the rules
-pub valid-rules : (s : State) → Fits overlay s → valid s ≡ true → Judged56 overlay s × (ok 7 overlay s ≡ true)
+-- a held state is within the rules
+pub held-rules : (s : State) → Held s → Judged56 overlay s × (ok 7 overlay s ≡ true)
 unfolding valid within
-valid-rules s f h =
-    let w = both-true (ok 5 overlay s && (ok 6 overlay s && ok 7 overlay s)) (ascending texts (feedsOf s) && all feedValid (feedsOf s)) h .0 in
+held-rules s h =
+    let w = both-true (ok 5 overlay s && (ok 6 overlay s && ok 7 overlay s)) (ascending texts (feedsOf s) && all feedValid (feedsOf s)) (h .valid) .0 in
     let a = both-true (ok 5 overlay s) (ok 6 overlay s && ok 7 overlay s) w in
     let b = both-true (ok 6 overlay s) (ok 7 overlay s) (a .1) in
-    (record { formed = formed-of overlay s f; five = a .0; six = b .0 }, b .1)
+    (record { formed = formed-of overlay s (h .fits); five = a .0; six = b .0 }, b .1)
 
 pub published-capacity : capacity overlay ≡ published
 published-capacity = refl
 
-pub valid-room : (s : State) → Fits overlay s → valid s ≡ true → length (write overlay s) ≤ published
-valid-room s f h = let w = valid-rules s f h in rw published-capacity at (capacity-bounds overlay s f (keeps overlay s (w .0 .five) (w .0 .six) (w .1)))
+pub held-room : (s : State) → Held s → length (write overlay s) ≤ published
+held-room s h =
+    let w = held-rules s h in
+    rw published-capacity at (capacity-bounds overlay s (h .fits) (keeps overlay s (w .0 .five) (w .0 .six) (w .1)))

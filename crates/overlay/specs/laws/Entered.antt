@@ -1,36 +1,32 @@
 -- Law. What the entities of a message within questions 4 to 6 enter is within them too: records, updates and keys.
-use mathlib.Core.Path.{_≡_, refl, sym, ap, _∙_}
-use mathlib.Core.Bool.{Bool, true, false, cond, _&&_, _||_, not, false≢true}
+use mathlib.Core.Path.{_≡_, refl, ap}
+use mathlib.Core.Bool.{Bool, true, false, cond, not}
 use mathlib.Core.List.{List, [], _∷_, _++_, map}
-use mathlib.Core.Logic.{inl, inr}
 use mathlib.Core.Option.{Option, none, some, Option·map}
-use Prim.Native.Nat.{ℕ, zero, suc, _+_, _-_, _/_, _%_, _^_, _≤_, _<_}
+use Prim.Native.Nat.{ℕ, suc, _-_, _%_, _^_}
 use native.Mathlib.Omega.{arith}
 use lib.IntN.{pos, negsuc}
-use lib.Dec.{eqb, leb, ltb, leb·zero}
-use lib.ListN.{length, length-append, take}
-use lib.Seq.{take-at}
+use lib.Dec.{leb, ltb, leb·zero}
+use lib.ListN.{length}
 use borrow.Author.Tests.{le-leb, leb-true, ltb-true, ltb-false, lt-ltb}
 use mir.Val.{sel}
-use Rattle.basics.specs.Lists.{All, all, isEmpty}
-use Rattle.formats.specs.Class.{allowed, inClass, printable, token}
+use Rattle.basics.specs.Lists.{All, isEmpty}
+use Rattle.formats.specs.Class.{inClass, printable, token}
 use Rattle.formats.specs.Format.{Format, text, small, optional, _&_, Value}
 use Rattle.formats_judge.specs.Judged.{ok}
 use Rattle.overlay.specs.laws.Within.{Judged56, joined, listed, absent, present, both}
 use Rattle.realtime.specs.Tree.{Tree, Leaf, count, words, tree, last, sub, rep}
 use Rattle.realtime.specs.Schema.{feedMessage, feedEntity, tripUpdate, tripDescriptor, stopTimeUpdate, stopTimeEvent, fieldRows, feed}
-use Rattle.realtime.specs.Judge as judge
 use Rattle.realtime.specs.Judge.{rules, textsFine, numbersFine, numberRule, limit}
 use Rattle.realtime_views.specs.Typed.{int32, int64, uint32, numberIn, orZero}
 use Rattle.realtime_views.specs.Typed as typed
 use Rattle.realtime_views.specs.Views as view
-use Rattle.decode.specs.Trip.{Trip, StopUpdate, delay, instant, number32, stopUpdate, trip, routeOf, dateOf, timeOf, directionOf, updatesOf}
-use Rattle.basics.specs.Options.{Maybe, maybe}
-use Rattle.decode.specs.Key.{decimalOf, directionText, prefixed, datedKey, headOf, tailOf, incompleteKey, inserts, entriesIn, rawOk, datedOk, keyOk}
-use Rattle.slices.specs.Lists.{lexOf}
-use Rattle.maps.specs.Map.{isSame, ascending}
+use Rattle.decode.specs.Trip.{Trip, StopUpdate, delay, instant, number32, stopUpdate, trip, routeOf, dateOf, timeOf, updatesOf}
+use Rattle.basics.specs.Options.{maybe}
+use Rattle.decode.specs.Key.{datedKey, incompleteKey, inserts, entriesIn, keyOk}
+use Rattle.maps.specs.Map.{ascending}
 use Rattle.maps.specs.Order.{numbers}
-use Rattle.maps.specs.laws.Order.{numbers-order, lex-itself}
+use Rattle.maps.specs.laws.Order.{numbers-order}
 use Rattle.maps.specs.laws.Map.{puts-ascending}
 use Rattle.basics.specs.laws.Booleans.{both-true}
 use Rattle.decode.specs.Record.{bit, updateIn, updatesIn, tripIn}
@@ -38,6 +34,7 @@ use Rattle.decode.specs.Leaves.{entries, timestampIn}
 use Rattle.overlay.specs.State.{timestamp}
 use Rattle.decode.specs.laws.Fine.{FineTree, Given, LeafFine, fine-sub, fine-rep, fine-last, tree-fine}
 use Rattle.overlay.specs.laws.StaysValid.{TripKept}
+use Rattle.overlay.specs.laws.Keys.{Printed, printed-judged, printed-append, printed-up, token-printed, incomplete-printed, base-ok, dated-ok, incomplete-ok}
 use Rattle.overlay.specs.laws.EveryEntry.{each-puts}
 
 abbrev FineIn : ℕ → Tree → Type 0
@@ -94,18 +91,6 @@ number-given t f (some (words s)) x = tt
 
 -- ---- texts
 
--- at most l bytes, all printable
-record Printed (l : ℕ) (x : List ℕ) : Type 0 where
-  short : length x ≤ l
-  fair : all (allowed printable) x ≡ true
-
-printed-judged : (l : ℕ) (x : List ℕ) → Printed l x → Judged56 (text l printable) x
-printed-judged l x p = record { formed = tt; five = both (le-leb (length x) l (p .short)) (p .fair); six = refl }
-
-printable-class : (x : List ℕ) → judge.printable x ≡ all (allowed printable) x
-printable-class [] = refl
-printable-class (b ∷ x) = ap (λ r. (leb 32 b && leb b 126) && r) (printable-class x)
-
 -- the last text of a field
 text-printed : (t f l : ℕ) (m : Tree) → limit t f ≡ l → FineIn t m → Printed l (typed.textIn (last f m))
 text-printed t f l m e x = go (last f m) (fine-last feed rules t f m x)
@@ -114,18 +99,8 @@ text-printed t f l m e x = go (last f m) (fine-last feed rules t f m x)
     go none h = record { short = omega arith; fair = refl }
     go (some (count n)) h = record { short = omega arith; fair = refl }
     go (some (words s)) h =
-        let q = both-true (leb (length s) (limit t f)) (judge.printable s) h in
-        record { short = omega (arith, leb-true (length s) (limit t f) (q .0)); fair = sym (printable-class s) ∙ q .1 }
-
-all-append : {A : Type 0} (p : A → Bool) (x y : List A) → all p x ≡ true → all p y ≡ true → all p (x ++ y) ≡ true
-all-append p [] y a b = b
-all-append p (c ∷ x) y a b = let q = both-true (p c) (all p x) a in both (q .0) (all-append p x y (q .1) b)
-
-printed-append : (k l : ℕ) (x y : List ℕ) → Printed k x → Printed l y → Printed (k + l) (x ++ y)
-printed-append k l x y a b = record { short = rw length-append (omega (arith, a .short, b .short)); fair = all-append (allowed printable) x y (a .fair) (b .fair) }
-
-printed-up : {k l : ℕ} {x : List ℕ} → k ≤ l → Printed k x → Printed l x
-printed-up h a = record { short = omega (arith, a .short); fair = a .fair }
+        let q = both-true (leb (length s) (limit t f)) (inClass printable s) h in
+        record { short = omega (arith, leb-true (length s) (limit t f) (q .0)); fair = q .1 }
 
 -- ---- a stop time update, and a trip
 
@@ -186,89 +161,11 @@ module _ (e : Tree) (x : FineIn feedEntity e) where
       (joined _ (any-judged number32 uint32 uint32-judged (numberIn (last 6 (descriptor e))))
       (joined _ (printed-judged 16 _ (text-of 2 16 refl)) (listed 128 (number32 & stopUpdate) (updatesIn e) (updates-judged e fine-update)))))))
 
--- ---- keys
-
-digit-printed : (n : ℕ) → n < 10 → Printed 1 ((48 + n) ∷ [])
-digit-printed n h = record { short = omega arith; fair = both (both (le-leb 32 (48 + n) (omega arith)) (le-leb (48 + n) 126 (omega arith))) refl }
-
-decimal-printed : (k n : ℕ) → Printed k (decimalOf k n)
-decimal-printed zero n = record { short = omega arith; fair = refl }
-decimal-printed (suc k) n = go (ltb n 10) refl (decimal-printed k (n / 10))
-  where
-    go : (b : Bool) → ltb n 10 ≡ b → Printed k (decimalOf k (n / 10)) → Printed (suc k) (cond b ((48 + n) ∷ []) (decimalOf k (n / 10) ++ (48 + n % 10) ∷ []))
-    go true e h = printed-up (omega arith) (digit-printed n (ltb-true n 10 e))
-    go false e h = printed-up (omega arith) (printed-append k 1 (decimalOf k (n / 10)) ((48 + n % 10) ∷ []) h (digit-printed (n % 10) (omega arith)))
-
-shown-printed : (d : Maybe ℕ) → Printed 10 (directionText d)
-shown-printed (inl x) = record { short = omega arith; fair = refl }
-shown-printed (inr n) = decimal-printed 10 n
-
--- a feed's id
-token-printed : (f : List ℕ) → ok 5 (text 16 token) f ≡ true → Printed 16 f
-token-printed [] h = absurd (false≢true h)
-token-printed (b ∷ f) h =
-    let q = both-true (leb (length (b ∷ f)) 16) (inClass token (b ∷ f)) h in
-    record { short = leb-true (length (b ∷ f)) 16 (q .0); fair = weaker (b ∷ f) (q .1) }
-  where
-    weaker : (x : List ℕ) → all (allowed token) x ≡ true → all (allowed printable) x ≡ true
-    weaker [] e = refl
-    weaker (c ∷ x) e =
-        let p = both-true (allowed token c) (all (allowed token) x) e in
-        let r = both-true (leb 33 c && leb c 126) (not (eqb c 58)) (p .0) .0 in
-        let s = both-true (leb 33 c) (leb c 126) r in
-        both (both (le-leb 32 c (omega (arith, leb-true 33 c (s .0)))) (s .1)) (weaker x (p .1))
-
-prefixed-printed : (f x : List ℕ) → Printed 16 f → Printed 64 x → Printed 81 (prefixed f x)
-prefixed-printed f [] a b = record { short = omega arith; fair = refl }
-prefixed-printed f (c ∷ x) a b = printed-append 16 65 f (58 ∷ c ∷ x) a (record { short = omega (arith, b .short); fair = b .fair })
-
-incomplete-printed : (f : List ℕ) (t : Trip) → Printed 16 f → Printed 64 (routeOf t) → Printed 16 (dateOf t) → Printed 16 (timeOf t) → Printed 137 (incompleteKey f t)
-unfolding incompleteKey
-incomplete-printed f t a r d m =
-    printed-append 97 40 (headOf f (routeOf t) (directionOf t)) (tailOf (dateOf t) (timeOf t))
-    (printed-append 87 10 _ (directionText (directionOf t))
-    (printed-append 84 3 _ (38 ∷ 100 ∷ 61 ∷ [])
-    (printed-append 3 81 (35 ∷ 114 ∷ 61 ∷ []) (prefixed f (routeOf t)) (record { short = omega arith; fair = refl }) (prefixed-printed f (routeOf t) a r))
-    (record { short = omega arith; fair = refl }))
-    (shown-printed (directionOf t)))
-    (printed-append 24 16 _ (timeOf t)
-    (printed-append 20 4 _ (38 ∷ 115 ∷ 116 ∷ 61 ∷ []) (printed-append 4 16 (38 ∷ 115 ∷ 100 ∷ 61 ∷ []) (dateOf t) (record { short = omega arith; fair = refl }) d)
-    (record { short = omega arith; fair = refl }))
-    m)
+-- ---- entries
 
 -- a record at a key of its own
 entry-kept : (f x : List ℕ) (t : Trip) → Printed 137 x → keyOk f x t ≡ true → Judged56 trip t → ascending numbers (updatesOf t) ≡ true → TripKept f (x, t)
 entry-kept f x t p k j u = record { judged = joined (x, t) (printed-judged 137 x p) j; valid = both k u }
-
-or-left : (a b : Bool) → a ≡ true → (a || b) ≡ true
-or-left true b e = refl
-or-left false b e = absurd (false≢true e)
-
-pub or-right : (a b : Bool) → b ≡ true → (a || b) ≡ true
-or-right true b e = refl
-or-right false b e = e
-
-itself : (x : List ℕ) → isSame (lexOf x x) ≡ true
-itself x = ap isSame (lex-itself x)
-
-raw-ok : (b : ℕ) (raw : List ℕ) → Printed 64 (b ∷ raw) → rawOk (b ∷ raw) ≡ true
-raw-ok b raw p = both (le-leb (length (b ∷ raw)) 64 (p .short)) (p .fair)
-
-base-ok : (f : List ℕ) (b : ℕ) (raw : List ℕ) (t : Trip) → Printed 64 (b ∷ raw) → keyOk f (b ∷ raw) t ≡ true
-unfolding keyOk
-base-ok f b raw t p = or-left (rawOk (b ∷ raw)) _ (raw-ok b raw p)
-
-dated-ok : (f : List ℕ) (b : ℕ) (raw : List ℕ) (t : Trip) → Printed 64 (b ∷ raw) → not (isEmpty (dateOf t)) ≡ true → keyOk f (datedKey (b ∷ raw) (dateOf t)) t ≡ true
-unfolding keyOk
-dated-ok f b raw t p d =
-    let x = datedKey (b ∷ raw) (dateOf t) in
-    let n : length x - suc (length (dateOf t)) ≡ length (b ∷ raw) = omega (arith, length-append (b ∷ raw) (64 ∷ dateOf t)) in
-    let k : take (length x - suc (length (dateOf t))) x ≡ b ∷ raw = ap (λ i. take i x) n ∙ take-at (b ∷ raw) (64 ∷ dateOf t) (length (b ∷ raw)) refl in
-    or-right (rawOk x) _ (or-left (datedOk (dateOf t) x) _ (rw k (both d (both (raw-ok b raw p) (itself x)))))
-
-pub incomplete-ok : (f : List ℕ) (t : Trip) → keyOk f (incompleteKey f t) t ≡ true
-unfolding keyOk
-incomplete-ok f t = or-right (rawOk (incompleteKey f t)) _ (or-right (datedOk (dateOf t) (incompleteKey f t)) _ (itself (incompleteKey f t)))
 
 -- THE ENTRIES OF AN ENTITY
 module _ (f : List ℕ) (name : ok 5 (text 16 token) f ≡ true) where

@@ -10,7 +10,7 @@ use lib.Dec.{ltb, eqb}
 use borrow.Author.Tests.{le-leb, le-ltb, ltb-true, ltb-false, ne-eqb}
 use Rattle.formats.specs.Class.{printable, token, allowed}
 use Rattle.basics.specs.Lists.{all}
-use Rattle.formats.specs.Format.{small, text, list, optional, constant, _&_, Fits, write}
+use Rattle.formats.specs.Format.{small, text, list, optional, constant, _&_, write}
 use Rattle.slices.specs.Lists.{lexOf}
 use Rattle.slices.specs.declared.Order.the-variants.{Less}
 use Rattle.decode.specs.Trip.{tripEntry, Trip, StopUpdate, id, delay, number32, stopUpdate, trip}
@@ -20,9 +20,9 @@ use Rattle.maps.specs.laws.Order.{cons-before}
 use Rattle.decode.specs.Key.{directionText, tailOf, incompleteKey}
 use Rattle.decode.specs.Leaves as leaves
 use Rattle.alerts.specs.Alert.{alert}
-use Rattle.overlay.specs.laws.Entered.{or-right, incomplete-ok}
+use Rattle.overlay.specs.laws.Keys.{or-right, incomplete-ok}
 use Rattle.overlay.specs.State.{State, Feed, Vehicle, overlay, feedEntry, vehicle, vehicleEntry, timestamp, feedWith, stateWith}
-use Rattle.overlay.specs.Valid.{tripValid, feedValid, within, valid}
+use Rattle.overlay.specs.Valid.{tripValid, feedValid, within, valid, Held}
 use Rattle.overlay.specs.laws.Within.{both}
 use Rattle.overlay.specs.Buffer.{published}
 use Rattle.overlay.specs.laws.Buffer.{published-capacity}
@@ -177,5 +177,9 @@ largest-valid =
     (table-all fullFeed feedValid 4 (λ k l. feed-valid k) 0 4 (omega arith)))
 
 -- CAPACITY: the published length is met
-pub capacity-met : (s : State) × (Fits overlay s) × (valid s ≡ true) × (length (write overlay s) ≡ published)
-capacity-met = (largest, largest-fills .fits, largest-valid, largest-fills .long ∙ published-capacity)
+pub capacity-met : (s : State) × Held s × (length (write overlay s) ≡ published)
+capacity-met = (
+  largest,
+  record { fits = largest-fills .fits; valid = largest-valid },
+  largest-fills .long ∙ published-capacity,
+)

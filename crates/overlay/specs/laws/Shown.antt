@@ -10,7 +10,8 @@ use borrow.Author.Tests.{eq-eqb, ne-eqb, ltb-true, ltb-false}
 use Rattle.slices.specs.Lists.{lexOf}
 use Rattle.slices.specs.declared.Order.{Order}
 use Rattle.slices.specs.declared.Order.the-variants.{Less, Same, More}
-use Rattle.maps.specs.Map.{isSame, byOrder, get}
+use Rattle.maps.specs.Map.{byOrder, get}
+use Rattle.maps.specs.promises.Order.{isSame}
 use Rattle.maps.specs.Order.{texts}
 use Rattle.maps.specs.laws.Order.{texts-order}
 use Rattle.maps.specs.laws.Map.{get-put}
@@ -20,7 +21,7 @@ use Rattle.overlay.specs.Records.{recordsOf, shown}
 use Rattle.overlay.specs.Change.{feedAt, putFeed}
 
 -- two texts are the same where their order says so
-same-lex : (a b : List ℕ) → same a b ≡ isSame (lexOf a b)
+pub same-lex : (a b : List ℕ) → same a b ≡ isSame (lexOf a b)
 unfolding lexOf
 same-lex [] [] = refl
 same-lex [] (y ∷ b) = refl

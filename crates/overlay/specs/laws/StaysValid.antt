@@ -1,8 +1,8 @@
--- Law. A message and the two sheets keep a state valid, unless question 7 says no.
+-- Law. A message and the two sheets leave a state that a buffer holds, unless question 7 says no.
 use mathlib.Core.Path.{_≡_, refl}
 use mathlib.Core.Bool.{Bool, true, false, cond, _&&_, _||_}
 use mathlib.Core.List.{List, [], _∷_, _++_}
-use mathlib.Core.Logic.{_⊎_, inl, inr, ⊎-elim}
+use mathlib.Core.Logic.{inl, inr, ⊎-elim}
 use mathlib.Core.Option.{Option, none, some, Option·getD}
 use Prim.Native.Nat.{ℕ, suc, _+_, _%_, _^_, _≤_}
 use native.Mathlib.Omega.{arith}
@@ -12,7 +12,7 @@ use lib.ListN.{length}
 use borrow.Author.Tests.{le-leb, eqb-true, eq-eqb}
 use Rattle.basics.specs.Lists.{All, all}
 use Rattle.formats.specs.Class.{token}
-use Rattle.formats.specs.Format.{text, number, list, optional, _&_, write, Fits}
+use Rattle.formats.specs.Format.{text, number, list, optional, _&_, write}
 use Rattle.formats_judge.specs.Judged.{ok}
 use Rattle.overlay.specs.laws.Within.{Judged56, left, right, joined, elements, listed, absent, few, counted, both, fits-of}
 use Rattle.realtime.specs.Tree.{Tree, rep}
@@ -27,10 +27,11 @@ use Rattle.decode.specs.Leaves as leaves
 use Rattle.alerts.specs.Alert.{Alert, alert}
 use Rattle.overlay.specs.State.{Feed, State, Vehicles, timestamp, vehicleEntry, feedEntry, overlay, timestampOf, countOf, tripsOf, vehiclesOf, alertsOf, versionOf, feedsOf, noFeed}
 use Rattle.overlay.specs.Image.{room}
-use Rattle.overlay.specs.Valid.{tripValid, countValid, feedValid, within, valid}
+use Rattle.overlay.specs.Valid.{tripValid, countValid, feedValid, within, valid, Held}
 use Rattle.overlay.specs.Change.{feedAt, putFeed, afterMessage, afterAlerts, afterVehicles}
 use Rattle.overlay.specs.Buffer.{published}
-use Rattle.overlay.specs.laws.Buffer.{valid-rules, valid-room}
+use Rattle.overlay.specs.laws.Buffer.{held-rules, held-room}
+use Rattle.overlay.specs.laws.Keys.{either, or-right}
 use Rattle.overlay.specs.laws.EveryEntry.{each-of, all-of, each-map, each-both, each-put, each-puts, get-each, each-stale, stale-ascending}
 
 -- ---- what is kept of each part
@@ -54,7 +55,7 @@ pub record StateKept (s : State) : Type 0 where
   pub up : ascending texts (feedsOf s) ≡ true
   pub feeds : All FeedKept (feedsOf s)
 
--- ---- a valid state is kept, and one that is kept and within question 7 is valid
+-- ---- a held state is kept, and one that is kept and within question 7 is held
 
 feed-kept : (e : List ℕ × Feed) → Judged56 feedEntry e → feedValid e ≡ true → FeedKept e
 unfolding feedValid
@@ -84,10 +85,6 @@ count-below f (e ∷ m) = go (leaves.hasByte 64 (f ++ 58 ∷ e .0)) (count-below
     go true h = omega arith
     go false h = omega arith
 
-either : (a b : Bool) → (a || b) ≡ true → (a ≡ true) ⊎ (b ≡ true)
-either true b e = inl refl
-either false b e = inr e
-
 count-few : (f : List ℕ) (F : Feed) → countValid f F ≡ true → length (tripsOf F) ≤ 2048 → countOf F ≤ 2048
 count-few f F c h =
     ⊎-elim (λ e. omega (arith, eqb-true (countOf F) (leaves.countWithoutAt f (tripsOf F)) e, count-below f (tripsOf F)))
@@ -115,11 +112,11 @@ feed-valid : (e : List ℕ × Feed) → FeedKept e → feedValid e ≡ true
 unfolding feedValid
 feed-valid (f, F) k = both (k .tripsUp) (both (all-of (tripValid f) (tripsOf F) (each-map (λ e x. x .valid) (tripsOf F) (k .trips))) (both (k .vehiclesUp) (k .count)))
 
-pub kept-of : (s : State) → Fits overlay s → valid s ≡ true → StateKept s
+pub kept-of : (s : State) → Held s → StateKept s
 unfolding valid within
-kept-of s w h =
-    let j = valid-rules s w h .0 in
-    let a = both-true (ok 5 overlay s && (ok 6 overlay s && ok 7 overlay s)) (ascending texts (feedsOf s) && all feedValid (feedsOf s)) h .1 in
+kept-of s h =
+    let j = held-rules s h .0 in
+    let a = both-true (ok 5 overlay s && (ok 6 overlay s && ok 7 overlay s)) (ascending texts (feedsOf s) && all feedValid (feedsOf s)) (h .valid) .1 in
     let b = both-true (ascending texts (feedsOf s)) (all feedValid (feedsOf s)) a in
     record {
       version = left (right j) .six;
@@ -127,21 +124,24 @@ kept-of s w h =
       feeds = each-both feed-kept (feedsOf s) (elements 4 feedEntry (feedsOf s) (right (right j))) (each-of feedValid (feedsOf s) (b .1));
     }
 
-pub valid-of : (s : State) → StateKept s → ok 7 overlay s ≡ true → Fits overlay s × (valid s ≡ true)
+pub held-of : (s : State) → StateKept s → ok 7 overlay s ≡ true → Held s
 unfolding valid within
-valid-of s k h =
+held-of s k h =
     let few7 = each-of (ok 7 feedEntry) (feedsOf s) (counted 4 feedEntry (feedsOf s) h) in
+    let feeds = listed 4 feedEntry (feedsOf s) (each-both feed-judged (feedsOf s) (k .feeds) few7) in
     let j : Judged56 overlay s =
     joined s (record { formed = tt; five = refl; six = refl })
-    (joined (s .1) (record { formed = tt; five = refl; six = k .version }) (listed 4 feedEntry (feedsOf s) (each-both feed-judged (feedsOf s) (k .feeds) few7))) in (
-      fits-of overlay refl s j h,
-      both (both (j .five) (both (j .six) h)) (both (k .up) (all-of feedValid (feedsOf s) (each-map feed-valid (feedsOf s) (k .feeds)))),
-    )
+    (joined (s .1) (record { formed = tt; five = refl; six = k .version }) feeds) in
+    record {
+      fits = fits-of overlay refl s j h;
+      valid = both (both (j .five) (both (j .six) h))
+          (both (k .up) (all-of feedValid (feedsOf s) (each-map feed-valid (feedsOf s) (k .feeds))));
+    }
 
 -- at the published length such a state has room: question 7 counts there, and no more
 pub kept-room : (s : State) → StateKept s → ok 7 overlay s ≡ true → room published s ≡ true
 unfolding room
-kept-room s k h = let v = valid-of s k h in le-leb (length (write overlay s)) published (valid-room s (v .0) (v .1))
+kept-room s k h = le-leb (length (write overlay s)) published (held-room s (held-of s k h))
 
 -- ---- each change keeps
 
@@ -181,10 +181,6 @@ alerts-kept f alerts s h j k =
 version-kept : (n : ℕ) → ok 6 (number 0 18446744073709551615) ((n + 1) % 2 ^ 64) ≡ true
 version-kept n = both (leb·zero ((n + 1) % 2 ^ 64)) (le-leb ((n + 1) % 2 ^ 64) 18446744073709551615 (omega arith))
 
-or-true : (a b : Bool) → b ≡ true → (a || b) ≡ true
-or-true true b e = refl
-or-true false b e = e
-
 pub vehicles-kept : (f : List ℕ) (entries : Vehicles) (clock : ℤ) (s : State) → ok 5 (text 16 token) f ≡ true → All (Judged56 vehicleEntry) entries
     → StateKept s → StateKept (afterVehicles f entries clock s)
 unfolding afterVehicles
@@ -200,7 +196,7 @@ vehicles-kept f entries clock s h j k =
       vehicles = each-stale (Judged56 vehicleEntry) clock all-in (each-puts texts (Judged56 vehicleEntry) entries (vehiclesOf F) j (a .vehicles));
       vehiclesUp = stale-ascending clock all-in (puts-ascending texts-order entries (vehiclesOf F) (a .vehiclesUp));
       alerts = a .alerts;
-      count = or-true (eqb (length (tripsOf F)) (leaves.countWithoutAt f (tripsOf F))) (eqb (length (tripsOf F)) (length (tripsOf F))) (eq-eqb (length (tripsOf F)) (length (tripsOf F)) refl);
+      count = or-right (eqb (length (tripsOf F)) (leaves.countWithoutAt f (tripsOf F))) (eqb (length (tripsOf F)) (length (tripsOf F))) (eq-eqb (length (tripsOf F)) (length (tripsOf F)) refl);
     })
 
 -- A MESSAGE, whose entries and timestamp are within the rules

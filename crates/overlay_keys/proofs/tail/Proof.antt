@@ -1,6 +1,5 @@
-use native.Mathlib.Omega.{arith}
-use Rattle.overlay_keys.specs.laws.Keys.{tail-between, tail-date, tail-mark, tail-so}
-use Rattle.overlay_keys.specs.laws.Piece.{piece-inside, piece-forward}
+use Rattle.overlay_keys.specs.laws.Keys.{tail-between, tail-date, tail-inside, tail-mark, tail-so}
+use Rattle.overlay_keys.specs.laws.Piece.{piece-inside}
 use borrow.Author.Needs.{needs}
 use Rattle.overlay_keys.proofs.tail.Statement.{statement}
 use Rattle.overlay_keys.proofs.tail.Tie as tie
@@ -66,7 +65,7 @@ part-piece-end-2 : tie.Need-part-piece-end-2
 part-piece-end-2 c = search needs
 
 piece-requires-4 : tie.Need-piece-requires-4
-piece-requires-4 c κs = record { forward = search piece-forward; within = omega arith }
+piece-requires-4 c κs = search tail-inside
 
 returns-4 : tie.Need-returns-4
 returns-4 c = search tail-so

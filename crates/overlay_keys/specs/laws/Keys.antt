@@ -9,7 +9,7 @@ use native.Mathlib.Omega.{arith}
 use lib.Dec.{leb, ltb, eqb}
 use lib.ListN.{length, take, drop, getD, drop-of-length-le}
 use lib.Seq.{take-take, length-take-le}
-use borrow.Author.Tests.{le-leb, lt-leb, ne-eqb, le-ltb}
+use borrow.Author.Tests.{le-leb, lt-leb, ne-eqb, eq-eqb}
 use Rattle.formats.specs.Readers.{bind}
 use Rattle.formats.specs.Number.{numberR}
 use Rattle.formats.specs.Class.{Class, printable, inClass, allowed}
@@ -28,9 +28,8 @@ use Rattle.formats_check.specs.promises.Checked.{Number, fine, Fine}
 use Rattle.formats_check.specs.laws.Checked.{Out, Parts, parts, no-parts}
 use Rattle.formats_check.specs.laws.Elements.{no-number, a-number}
 use Rattle.formats_check.specs.laws.Climbing.{Spans, span-key, span-none, span-is, span-forward, span-within}
-use Rattle.slices.specs.Lists.{lexOf}
 use Rattle.slices.specs.laws.Lists.{and-left, and-right}
-use Rattle.maps.specs.Map.{isSame}
+use Rattle.basics.specs.Texts.{same}
 use Rattle.decode.specs.Trip.{Trip, dateOf, delay, date, id, number32, time, stopUpdate, trip}
 use Rattle.basics.specs.Options.{Maybe}
 use Rattle.decode.specs.Key.{directionText, decimalOf, prefixed, headOf, tailOf, rawOk, datedOk, datedKey}
@@ -79,7 +78,10 @@ module _ {s : List ℕ} {y at e : ℕ} where
   module _ (h : y < length s) (z : getD s y 0 ≡ 0 → ⊥) {o : Numeral} (N : Number s (y + 1) o) where
     pub direction-bad : o ≡ Bad → Direction s y at e Broken
     direction-bad k =
-        record { moves = moves-stop; on = λ w u q. none-some (rw (no-number N k) at (given s y (getD s y 0) h refl z q)) }
+        record {
+          moves = moves-stop;
+          on = λ w u q. none-some (rw (no-number N k) at (given s y (getD s y 0) h refl z q));
+        }
 
     pub direction-so : {n p : ℕ} → o ≡ Got n p → {r : Skip} → Piece (decimalOf 10 n) s at e r → Direction s y at e r
     direction-so {n} {p} k {r} P =
@@ -181,6 +183,10 @@ module _ {s : List ℕ} {b d u v at e : ℕ} {q : Skip} (P : Piece dateMark s at
       pub tail-so : {p : ℕ} → g ≡ At p → {r : Skip} → Piece (bytes s u v) s p e r → Tail s b d u v at e r
       tail-so j T = record { is = piece-then (piece-then (piece-then P h D) i M) j T }
 
+pub tail-inside : {s : List ℕ} {at e : ℕ} {q : Skip} → Piece timeMark s at e q → {m : ℕ} → q ≡ At m → {a : ℕ}
+    → Inside s a e → Inside s m e
+tail-inside P h I = piece-inside P h I
+
 pub head-inside : {f s : List ℕ} {x y at e : ℕ} {r : Skip} → Head f s x y at e r → {m : ℕ} → r ≡ At m → {a : ℕ}
     → Inside s a e → Inside s m e
 head-inside H h I = moves-inside (H .moves) h I
@@ -249,19 +255,19 @@ module _ {s : List ℕ} {d : ℕ} {r : Span} (R : Spans 64 printable s d r) wher
         incomplete-so {f} {a} {e} {b} {k} {l} j {t} M = record { on = λ v u q g. told v u q }
           where
             told : (v : Value routeOn) (u : List ℕ) → read routeOn (drop d s) ≡ some (v, u)
-                → t ≡ isSame (lexOf (bytes s a e) (headOf f (v .0) (v .1 .0) ++ tailOf (bytes s b d) (v .1 .1 .0)))
+                → t ≡ same (bytes s a e) (headOf f (v .0) (v .1 .0) ++ tailOf (bytes s b d) (v .1 .1 .0))
             told v u q =
                 let last = parts (list 128 (number32 & stopUpdate)) (span-is T j) (timed q .rest) refl in
                 let m : v .0 ≡ bytes s x y = span-key R h .bytes (v .0) (routed q .front) in
                 let n : v .1 .1 .0 ≡ bytes s k l = span-key T j .bytes (v .1 .1 .0) (last .front) in
                 M .on (v .1 .0) (drop z s) (timed q .front)
-                ∙ ap (λ y. isSame (lexOf (bytes s a e) (headOf f y (v .1 .0) ++ tailOf (bytes s b d)
-                (bytes s k l)))) (sym m)
-                ∙ ap (λ y. isSame (lexOf (bytes s a e) (headOf f (v .0) (v .1 .0) ++ tailOf (bytes s b d) y))) (sym n)
+                ∙ ap (λ y. same (bytes s a e) (headOf f y (v .1 .0) ++ tailOf (bytes s b d)
+                (bytes s k l))) (sym m)
+                ∙ ap (λ y. same (bytes s a e) (headOf f (v .0) (v .1 .0) ++ tailOf (bytes s b d) y)) (sym n)
 
 -- THE DATED KEY, by what is in front of '@'
 abbrev datedAt : ℕ → List ℕ → List ℕ → Bool
-datedAt n d x = not (isEmpty d) && (rawOk (take n x) && isSame (lexOf x (datedKey (take n x) d)))
+datedAt n d x = not (isEmpty d) && (rawOk (take n x) && same x (datedKey (take n x) d))
 
 and-no : (p : Bool) → false ≡ (p && false)
 and-no true = refl
@@ -292,18 +298,17 @@ dated-zero n d x z = rw z (and-no (not (isEmpty d)))
 dated-over : (n : ℕ) (d x : List ℕ) → 64 < n → n ≤ length x → false ≡ datedAt n d x
 dated-over n d x h k =
     rw (length-take-le n x k, lt-leb n 64 h)
-    (and-late (not (isEmpty d)) (not (isEmpty (take n x))) (isSame (lexOf x (datedKey (take n x) d))))
+    (and-late (not (isEmpty d)) (not (isEmpty (take n x))) (same x (datedKey (take n x) d)))
 
 dated-in : (n : ℕ) (d x : List ℕ) → 0 < length d → 0 < n → n ≤ 64 → n ≤ length x → all (allowed printable) x ≡ true
-    → datedAt n d x ≡ isSame (lexOf x (take n x ++ 64 ∷ d))
+    → datedAt n d x ≡ same x (take n x ++ 64 ∷ d)
 dated-in n d x h i j k c =
     let l : length (take n x) ≡ n = length-take-le n x k in
     rw (not-empty d h, not-empty (take n x) (omega arith), l, le-leb n 64 j, all-take n x c) refl
 
-lex-front : (x a b : List ℕ) → lexOf (x ++ a) (x ++ b) ≡ lexOf a b
-unfolding lexOf
-lex-front [] a b = refl
-lex-front (y ∷ x) a b = rw (le-ltb y y (omega arith)) (lex-front x a b)
+same-front : (x a b : List ℕ) → same (x ++ a) (x ++ b) ≡ same a b
+same-front [] a b = refl
+same-front (y ∷ x) a b = rw (eq-eqb y y refl) (same-front x a b)
 
 less : (x n k : ℕ) → x ≡ n → x - k ≤ n
 less x n k h = omega arith
@@ -337,17 +342,18 @@ module _ {s : List ℕ} {a e b d : ℕ} (I : Inside s a e) (J : Inside s b d) wh
     in-front =
         let n : mark - a ≡ size = shift e a (d - b) ∙ sym sized in
         take-take size (e - a) (drop a s)
-        (less (length (bytes s a e)) (e - a) (suc (length (bytes s b d))) (bytes-length I)) ∙ ap (λ n. take n (drop a s)) (sym n)
+        (less (length (bytes s a e)) (e - a) (suc (length (bytes s b d))) (bytes-length I))
+        ∙ ap (λ n. take n (drop a s)) (sym n)
 
     told : all (allowed printable) (bytes s a e) ≡ true
-        → datedOk (bytes s b d) (bytes s a e) ≡ isSame (lexOf (bytes s mark e) (64 ∷ bytes s b d))
+        → datedOk (bytes s b d) (bytes s a e) ≡ same (bytes s mark e) (64 ∷ bytes s b d)
     told c =
         dated-in size (bytes s b d) (bytes s a e) (omega (arith, bytes-length J)) (omega (arith, sized))
         (omega (arith, sized)) (omega (arith, sized)) c
-        ∙ ap (λ y. isSame (lexOf (bytes s a e) (y ++ 64 ∷ bytes s b d))) in-front
-        ∙ ap (λ y. isSame (lexOf y (bytes s a mark ++ 64 ∷ bytes s b d)))
+        ∙ ap (λ y. same (bytes s a e) (y ++ 64 ∷ bytes s b d)) in-front
+        ∙ ap (λ y. same y (bytes s a mark ++ 64 ∷ bytes s b d))
         (bytes-join s a mark e (omega (arith, I .forward)) (omega arith))
-        ∙ ap isSame (lex-front (bytes s a mark) (bytes s mark e) (64 ∷ bytes s b d))
+        ∙ same-front (bytes s a mark) (bytes s mark e) (64 ∷ bytes s b d)
 
     pub dated-mark : q ≡ Broken → Dated s a e b d false
     dated-mark i = record { on = λ c. piece-not (piece-stop P (bytes s b d) i) refl ∙ sym (told c) }
@@ -378,8 +384,8 @@ module _ {f s : List ℕ} {a e : ℕ} (I : Inside s a e) where
     key-empty z =
         let l : bytes s a e ≡ [] = bytes-none s a e z in
         record {
-          on = λ c v u q g. L .on c v u q g ∙ ap (λ x. rawOk x || (datedOk (dateOf v) (bytes s a e) || isSame
-              (lexOf (bytes s a e) (incompleteKey f v)))) (sym l);
+          on = λ c v u q g. L .on c v u q g ∙ ap (λ x. rawOk x || (datedOk (dateOf v) (bytes s a e) || same
+              (bytes s a e) (incompleteKey f v))) (sym l);
         }
 
     pub key-long : 64 < e - a → Keys f s a e t
@@ -387,8 +393,8 @@ module _ {f s : List ℕ} {a e : ℕ} (I : Inside s a e) where
     key-long h =
         let l : length (bytes s a e) ≡ e - a = bytes-length I in
         record {
-          on = λ c v u q g. L .on c v u q g ∙ ap (λ x. x || (datedOk (dateOf v) (bytes s a e) || isSame
-              (lexOf (bytes s a e) (incompleteKey f v)))) (raw l);
+          on = λ c v u q g. L .on c v u q g ∙ ap (λ x. x || (datedOk (dateOf v) (bytes s a e) || same
+              (bytes s a e) (incompleteKey f v))) (raw l);
         }
       where
         raw : length (bytes s a e) ≡ e - a → false ≡ rawOk (bytes s a e)
@@ -444,7 +450,7 @@ module _ {s : List ℕ} {e : ℕ} {r : Skip} (A : Fine (optional delay) s e r) w
         longer-dated {f} k =
             record {
               on = λ c v u x g.
-                  sym (ap (λ y. y || isSame (lexOf (bytes s a e) (incompleteKey f v))) (says c {v = v} x ∙ k));
+                  sym (ap (λ y. y || same (bytes s a e) (incompleteKey f v)) (says c {v = v} x ∙ k));
             }
 
         pub longer-so : {f : List ℕ} → t ≡ false → {y : Bool} → Incomplete f s a e b d y → Longer f s a e y
@@ -455,8 +461,8 @@ module _ {s : List ℕ} {e : ℕ} {r : Skip} (A : Fine (optional delay) s e r) w
                   N .on (v .1 .1 .1) u (cut {v = v} x .rest)
                   (and-right (fine date (dateOf v)) (fine routeOn (v .1 .1 .1))
                   (and-right (fine (optional delay) (v .0)) (fine flagOn (v .1)) g))
-                  ∙ ap (λ z. isSame (lexOf (bytes s a e) (headOf f (v .1 .1 .1 .0) (v .1 .1 .1 .1 .0) ++ tailOf z
-                  (v .1 .1 .1 .1 .1 .0)))) (sym (is-date {v = v} x))
+                  ∙ ap (λ z. same (bytes s a e) (headOf f (v .1 .1 .1 .0) (v .1 .1 .1 .1 .0) ++ tailOf z
+                  (v .1 .1 .1 .1 .1 .0))) (sym (is-date {v = v} x))
                   ∙ sym
-                  (ap (λ z. z || isSame (lexOf (bytes s a e) (incompleteKey f v))) (says c {v = v} x ∙ k));
+                  (ap (λ z. z || same (bytes s a e) (incompleteKey f v)) (says c {v = v} x ∙ k));
             }

@@ -10,13 +10,8 @@ use lib.Seq.{length-take-le, take-add, take-take, drop-drop, drop-cons, take-app
 use borrow.Author.Tests.{eqb-true, eqb-false, lt-ltb, le-ltb}
 use Rattle.formats.specs.declared.Skip.{Skip}
 use Rattle.formats.specs.declared.Skip.the-variants.{At, Broken}
-use Rattle.slices.specs.Lists.{lexOf}
 use Rattle.basics.specs.Texts.{same}
 use Rattle.basics.specs.laws.Texts.{same-refl, same-true}
-use Rattle.slices.specs.declared.Order.{Order}
-use Rattle.slices.specs.declared.Order.the-variants.{Less, Same, More}
-use Rattle.maps.specs.Map.{isSame}
-use Rattle.maps.specs.laws.Order.{lex-itself, lex-same}
 use Rattle.decode.specs.Key.{decimalOf}
 use Rattle.overlay_keys.specs.promises.Piece.{bytes, Inside, Pieced, Piece, Moved, Moves}
 
@@ -123,28 +118,27 @@ module _ {x s : List ℕ} {at e : ℕ} {r : Skip} (P : Piece x s at e r) where
       go Broken t = tt
 
   -- the whole is the same just where the pieces end with it
-  not-same : (o : Order) → (o ≡ Same → ⊥) → false ≡ isSame o
-  not-same Less f = refl
-  not-same Same f = absurd (f refl)
-  not-same More f = refl
+  not-same : (b : Bool) → (b ≡ true → ⊥) → false ≡ b
+  not-same false f = refl
+  not-same true f = absurd (f refl)
 
-  pub piece-not : r ≡ Broken → false ≡ isSame (lexOf (bytes s at e) x)
+  pub piece-not : r ≡ Broken → false ≡ same (bytes s at e) x
   piece-not h =
-      not-same (lexOf (bytes s at e) x) (λ i. stops h [] (lex-same (bytes s at e) x i ∙ sym (append-nil x)))
+      not-same (same (bytes s at e) x) (λ i. stops h [] (same-true (bytes s at e) x i ∙ sym (append-nil x)))
 
-  pub piece-end : {m : ℕ} → r ≡ At m → Inside s at e → (t : Bool) → t ≡ eqb m e → t ≡ isSame (lexOf (bytes s at e) x)
+  pub piece-end : {m : ℕ} → r ≡ At m → Inside s at e → (t : Bool) → t ≡ eqb m e → t ≡ same (bytes s at e) x
   piece-end {m} h I true i =
       let j : m ≡ e = eqb-true m e (sym i) in
       let k : bytes s at e ≡ x = ap (bytes s at) (sym j) ∙ at-m h .2 in
-      sym (ap isSame (ap (λ y. lexOf y x) k ∙ lex-itself x))
+      sym (ap (λ y. same y x) k ∙ same-refl x)
   piece-end {m} h I false i =
       let A = at-m h in
-      not-same (lexOf (bytes s at e) x)
+      not-same (same (bytes s at e) x)
       (λ q. eqb-false m e (sym i)
       (omega (
         arith,
         bytes-length I,
-        ap length (lex-same (bytes s at e) x q),
+        ap length (same-true (bytes s at e) x q),
         ap length (A .2),
         A .0,
         A .1,

@@ -9,8 +9,7 @@ use Rattle.formats.specs.Class.{printable, inClass}
 use Rattle.formats.specs.Format.{Format, optional, list, _&_, Value, read}
 use Rattle.formats.specs.declared.Skip.{Skip}
 use Rattle.formats_check.specs.promises.Checked.{fine}
-use Rattle.slices.specs.Lists.{lexOf}
-use Rattle.maps.specs.Map.{isSame}
+use Rattle.basics.specs.Texts.{same}
 use Rattle.decode.specs.Trip.{Trip, id, number32, time, stopUpdate, trip, dateOf}
 use Rattle.basics.specs.Options.{Maybe}
 use Rattle.decode.specs.Key.{directionText, prefixed, headOf, tailOf, datedOk, incompleteKey, keyOk}
@@ -40,12 +39,12 @@ pub record Tail (s : List ℕ) (b d u v at e : ℕ) (r : Skip) : Type 0 where
 
 pub record Matches (f s : List ℕ) (a e b d x y u v : ℕ) (t : Bool) : Type 0 where
   pub on : (w : Maybe ℕ) (z : List ℕ) → read (optional number32) (drop y s) ≡ some (w, z)
-      → t ≡ isSame (lexOf (bytes s a e) (headOf f (bytes s x y) w ++ tailOf (bytes s b d) (bytes s u v)))
+      → t ≡ same (bytes s a e) (headOf f (bytes s x y) w ++ tailOf (bytes s b d) (bytes s u v))
 
 -- the key from a up to e is the incomplete one, where the record's date stands from b up to d
 pub record Incomplete (f s : List ℕ) (a e b d : ℕ) (t : Bool) : Type 0 where
   pub on : (v : Value routeOn) (u : List ℕ) → read routeOn (drop d s) ≡ some (v, u) → fine routeOn v ≡ true
-      → t ≡ isSame (lexOf (bytes s a e) (headOf f (v .0) (v .1 .0) ++ tailOf (bytes s b d) (v .1 .1 .0)))
+      → t ≡ same (bytes s a e) (headOf f (v .0) (v .1 .0) ++ tailOf (bytes s b d) (v .1 .1 .0))
 
 pub record Dated (s : List ℕ) (a e b d : ℕ) (t : Bool) : Type 0 where
   pub on : inClass printable (bytes s a e) ≡ true → t ≡ datedOk (bytes s b d) (bytes s a e)
@@ -53,7 +52,7 @@ pub record Dated (s : List ℕ) (a e b d : ℕ) (t : Bool) : Type 0 where
 -- the key from a up to e is one of the record that stands at e, with its date or without a trip id; or any of them
 pub record Longer (f s : List ℕ) (a e : ℕ) (t : Bool) : Type 0 where
   pub on : inClass printable (bytes s a e) ≡ true → (v : Trip) (u : List ℕ) → read trip (drop e s) ≡ some (v, u)
-      → fine trip v ≡ true → t ≡ (datedOk (dateOf v) (bytes s a e) || isSame (lexOf (bytes s a e) (incompleteKey f v)))
+      → fine trip v ≡ true → t ≡ (datedOk (dateOf v) (bytes s a e) || same (bytes s a e) (incompleteKey f v))
 
 pub record Keys (f s : List ℕ) (a e : ℕ) (t : Bool) : Type 0 where
   pub on : inClass printable (bytes s a e) ≡ true → (v : Trip) (u : List ℕ) → read trip (drop e s) ≡ some (v, u)

@@ -4,7 +4,8 @@ use lib.ListN.{length}
 use native.Mathlib.Omega.{arith}
 use Rattle.decode.specs.Trip.{stopUpdate}
 use Rattle.formats_check.specs.laws.Checked.{check-in}
-use Rattle.formats_check.specs.laws.Rising.{Rising, rising-start, rising-no, rising-low, rising-high, rising-rest, rising-so, rising-end}
+use Rattle.formats_check.specs.laws.Rising.{Rising, rising-start, rising-no, rising-low, rising-high, rising-rest}
+use Rattle.formats_check.specs.laws.Rising.{rising-so, rising-end}
 use Rattle.overlay_trip.proofs.updates_from.Statement.{statement}
 use Rattle.overlay_trip.proofs.updates_from.Tie as tie
 

@@ -15,13 +15,15 @@ use mathlib.Core.Bool.{Bool, true, false, _&&_}
 use Rattle.formats.specs.Format.{Format, text, small, optional, _&_, list, Value, read}
 use Rattle.maps.specs.Map.{ascending}
 use Rattle.maps.specs.Order.{numbers, texts}
-use Rattle.decode.specs.Trip.{delay, instant, date, id, number32, time, stopUpdate, trip, tripEntry, Trip, StopUpdate, updatesOf}
+use Rattle.decode.specs.Trip.{delay, instant, date, id, number32, time, stopUpdate, trip, tripEntry, Trip, StopUpdate}
+use Rattle.decode.specs.Trip.{updatesOf}
 use Rattle.formats.specs.Class.{printable}
 use Rattle.basics.specs.Lists.{all}
 use Rattle.formats_check.specs.laws.Rising.{ascend}
 use Rattle.formats_check.specs.promises.Checked.{Number, fine, Fine, Test, own, behind, holds, Tested}
 use Rattle.formats_check.specs.laws.Checked.{check-past}
-use Rattle.formats_check.specs.laws.Elements.{number-no, number-high, number-so, signed-no, signed-bad, signed-so, around-in, around-over, upward-in, upward-over, upward-below}
+use Rattle.formats_check.specs.laws.Elements.{number-no, number-high, number-so, signed-no, signed-bad, signed-so}
+use Rattle.formats_check.specs.laws.Elements.{around-in, around-over, upward-in, upward-over, upward-below}
 
 module _ {s : List ℕ} {at : ℕ} {o : Numeral} (e : Number s at o) where
   pub delay-no : o ≡ Bad → Fine delay s at Broken

@@ -6,7 +6,7 @@ use native.Mathlib.Omega.{arith}
 use lib.ListN.{length, length-append}
 use lib.Seq.{take-at, drop-at}
 use borrow.Author.Tests.{le-leb}
-use Rattle.wire.specs.Wire.{read, varint, key, bytes, lengthDelimited, string, value, field}
+use Rattle.wire.specs.Wire.{read, varint, key, bytes, lengthDelimited, LEN, value, field}
 use Rattle.wire.specs.laws.Wire.{longer, reader-varint, reader-key}
 use Rattle.wire.specs.laws.Values.{value-2}
 use Rattle.realtime.specs.Tree.{Schema, tree, addField}
@@ -14,7 +14,8 @@ use Rattle.realtime.specs.laws.Tree.{tree-step, tree-front}
 use Rattle.realtime.specs.Gains.{KeyOf, LengthOf, Gains, same, keep, gain, inside}
 
 -- a key, a length and as many bytes in front are a field
-text-front : (n : ℕ) (k l p a : List ℕ) → KeyOf k n → LengthOf l p → field 16 (k ++ (l ++ (p ++ a))) ≡ read (record { number = n; value = string p }) a
+pub text-front : (n : ℕ) (k l p a : List ℕ) → KeyOf k n → LengthOf l p
+    → field 16 (k ++ (l ++ (p ++ a))) ≡ read (record { number = n; value = LEN p }) a
 unfolding field lengthDelimited bytes
 text-front n k l p a K L =
     rw (
@@ -35,16 +36,7 @@ gains-same-tree {σ} {t} (gain {b = b} f x w h g) =
     tree-front σ t f x b w ∙ ap (λ k. addField (tree σ) k x (tree σ t b)) h ∙ gains-same-tree g
 gains-same-tree {σ} {t} (inside {a = a} {b = b} n u k l l′ p p′ K L L′ h g g′) =
     tree-step σ t _ _ b (text-front n k l′ p′ b K L′)
-    ∙ ap (λ j. addField (tree σ) j (record { number = n; value = string p′ }) (tree σ t b)) h
+    ∙ ap (λ j. addField (tree σ) j (record { number = n; value = LEN p′ }) (tree σ t b)) h
     ∙ rw (gains-same-tree g, gains-same-tree g′)
-    (ap (λ j. addField (tree σ) j (record { number = n; value = string p }) (tree σ t a)) (sym h))
+    (ap (λ j. addField (tree σ) j (record { number = n; value = LEN p }) (tree σ t a)) (sym h))
     ∙ sym (tree-step σ t _ _ a (text-front n k l p a K L))
-
--- added fields may themselves gain: several steps, one after the other
-pub data Gained (σ : Schema) (t : ℕ) : List ℕ → List ℕ → Type 0 where
-  once : {x y : List ℕ} → Gains σ t x y → Gained σ t x y
-  then : {x y z : List ℕ} → Gains σ t x y → Gained σ t y z → Gained σ t x z
-
-pub gained-same-tree : {σ : Schema} {t : ℕ} {x y : List ℕ} → Gained σ t x y → tree σ t y ≡ tree σ t x
-gained-same-tree (once g) = gains-same-tree g
-gained-same-tree (then g h) = gained-same-tree h ∙ gains-same-tree g

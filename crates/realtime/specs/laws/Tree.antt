@@ -7,7 +7,8 @@ use native.Mathlib.Omega.{arith}
 use lib.ListN.{length, take, drop, length-append, take-append-drop}
 use mathlib.Core.Bool.{Bool, true, false, cond}
 use lib.Dec.{leb}
-use Rattle.wire.specs.Wire.{Read, broken, read, andThen, varint, Key, key, bytes, lengthDelimited, Value, number, eight, string, group, four, value, Field, field, fields}
+use Rattle.wire.specs.Wire.{Read, broken, read, andThen, varint, Key, key, bytes, lengthDelimited, Value, VARINT, I64}
+use Rattle.wire.specs.Wire.{LEN, GROUP, I32, value, Field, field, fields}
 use Rattle.wire.specs.laws.Wire.{never, moves, stays, reader-key, reader-varint, reader-field, key-nil, field-nil}
 use Rattle.wire.specs.laws.Values.{value-2, value-wire}
 use Rattle.wire.specs.Fields.{Whole}
@@ -17,11 +18,11 @@ use Rattle.basics.specs.Options.{bindO}
 
 -- a text inside a value has fewer than n bytes
 abbrev pub Shorter : ℕ → Value → Type 0
-Shorter n (number m) = Unit {0}
-Shorter n (eight x) = Unit {0}
-Shorter n (string x) = length x < n
-Shorter n group = Unit {0}
-Shorter n (four x) = Unit {0}
+Shorter n (VARINT m) = Unit {0}
+Shorter n (I64 x) = Unit {0}
+Shorter n (LEN x) = length x < n
+Shorter n GROUP = Unit {0}
+Shorter n (I32 x) = Unit {0}
 
 -- two readers that agree on fewer than n bytes put the same
 put-same : (n : ℕ) (p q : ℕ → List ℕ → Option Tree) → ((u : ℕ) (x : List ℕ) → length x < n → p u x ≡ q u x)
@@ -32,18 +33,18 @@ put-same n p q h (some aText) x l a b e = rw e
 put-same n p q h (some (aMessage u)) x l a b e = rw e (go (x .value) l)
   where
     go : (v : Value) → Shorter n v → addMessage (p u) (x .number) u v b ≡ addMessage (q u) (x .number) u v b
-    go (number m) l = refl
-    go (eight y) l = refl
-    go (string y) l = rw (h u y l)
-    go group l = refl
-    go (four y) l = refl
+    go (VARINT m) l = refl
+    go (I64 y) l = refl
+    go (LEN y) l = rw (h u y l)
+    go GROUP l = refl
+    go (I32 y) l = refl
 
 shorter : (v : Value) (m n : ℕ) → m ≤ n → Shorter m v → Shorter n v
-shorter (number k) m n h l = tt
-shorter (eight y) m n h l = tt
-shorter (string y) m n h l = omega arith
-shorter group m n h l = tt
-shorter (four y) m n h l = tt
+shorter (VARINT k) m n h l = tt
+shorter (I64 y) m n h l = tt
+shorter (LEN y) m n h l = omega arith
+shorter GROUP m n h l = tt
+shorter (I32 y) m n h l = tt
 
 -- a text and what is left are no longer than the bytes that they are read from
 bytes-room : (n : ℕ) (s x r : List ℕ) → bytes n s ≡ read x r → length x + length r ≤ length s
@@ -66,13 +67,16 @@ text-room s x r e = go (varint s) refl e
     go (read n m) e₁ e₂ = omega (arith, stays varint reader-varint s n m e₁, bytes-room n m x r e₂)
 
 value-shorter : (d : ℕ) (k : Key) (s : List ℕ) (v : Value) (r : List ℕ) (n : ℕ) → length s < n → value d k s ≡ read v r → Shorter n v
-value-shorter d k s (number m) r n l e = tt
-value-shorter d k s (eight x) r n l e = tt
-value-shorter d k s group r n l e = tt
-value-shorter d k s (four x) r n l e = tt
-value-shorter d k s (string x) r n l e = go (lengthDelimited s) refl (sym (value-2 d (k .number) s) ∙ ap (λ w. value d (record { number = k .number; wire = w }) s) (value-wire (string x) r d k s e) ∙ e)
+value-shorter d k s (VARINT m) r n l e = tt
+value-shorter d k s (I64 x) r n l e = tt
+value-shorter d k s GROUP r n l e = tt
+value-shorter d k s (I32 x) r n l e = tt
+value-shorter d k s (LEN x) r n l e =
+    go (lengthDelimited s) refl
+    (sym (value-2 d (k .number) s)
+    ∙ ap (λ w. value d (record { number = k .number; wire = w }) s) (value-wire (LEN x) r d k s e) ∙ e)
   where
-    go : (o : Read (List ℕ)) → lengthDelimited s ≡ o → andThen o (λ x r. read (string x) r) ≡ read (string x) r → length x < n
+    go : (o : Read (List ℕ)) → lengthDelimited s ≡ o → andThen o (λ x r. read (LEN x) r) ≡ read (LEN x) r → length x < n
     go broken e₁ e₂ = never e₂
     go (read y m) e₁ e₂ = let p : y ≡ x = cc in omega (arith, ap length p, text-room s y m e₁)
 
@@ -107,19 +111,19 @@ put-none p none x = refl
 put-none p (some aNumber) x = go (x .value)
   where
     go : (v : Value) → addNumber (x .number) v none ≡ none
-    go (number m) = refl
-    go (eight y) = refl
-    go (string y) = refl
-    go group = refl
-    go (four y) = refl
+    go (VARINT m) = refl
+    go (I64 y) = refl
+    go (LEN y) = refl
+    go GROUP = refl
+    go (I32 y) = refl
 put-none p (some aText) x = go (x .value)
   where
     go : (v : Value) → addText (x .number) v none ≡ none
-    go (number m) = refl
-    go (eight y) = refl
-    go (string y) = refl
-    go group = refl
-    go (four y) = refl
+    go (VARINT m) = refl
+    go (I64 y) = refl
+    go (LEN y) = refl
+    go GROUP = refl
+    go (I32 y) = refl
 put-none p (some (aMessage u)) x = go (x .value)
   where
     in-message : (o : Option Tree) → bindO o (λ t. Option·map (msg (x .number) u t) none) ≡ none
@@ -127,11 +131,11 @@ put-none p (some (aMessage u)) x = go (x .value)
     in-message (some t) = refl
 
     go : (v : Value) → addMessage (p u) (x .number) u v none ≡ none
-    go (number m) = refl
-    go (eight y) = refl
-    go (string y) = in-message (p u y)
-    go group = refl
-    go (four y) = refl
+    go (VARINT m) = refl
+    go (I64 y) = refl
+    go (LEN y) = in-message (p u y)
+    go GROUP = refl
+    go (I32 y) = refl
 
 grown-step : (p : ℕ → List ℕ → Option Tree) (listed : ℕ → Option Kind) (s : List ℕ) (x : Field) (r : List ℕ) → field 16 s ≡ read x r
     → grown p listed s ≡ addField p (listed (x .number)) x (grown p listed r)

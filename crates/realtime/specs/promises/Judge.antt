@@ -1,11 +1,12 @@
 -- Promise. Judgements of parts, put together.
 use Prim.Native.Nat.{ℕ}
-use mathlib.Core.Bool.{Bool, true, false, _&&_}
-use lib.Dec.{leb}
+use mathlib.Core.Bool.{Bool, true, false}
+use Rattle.formats.specs.Class.{printable, allowed}
 use Rattle.realtime.specs.declared.Verdict.{Verdict}
 
+-- a byte of a printable text
 abbrev pub sign : ℕ → Bool
-sign b = leb 32 b && leb b 126
+sign b = allowed printable b
 
 abbrev pub fine : Verdict → Bool
 fine Verdict.Broken = false

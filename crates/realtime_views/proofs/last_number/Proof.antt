@@ -6,7 +6,8 @@ use mathlib.Core.Path.{refl, sym}
 use lib.ListN.{length}
 use Rattle.realtime.specs.Schema.{feed}
 use Rattle.realtime.specs.laws.Steps.{step-is}
-use Rattle.realtime_views.specs.promises.Numbers.{taking, plain, orZeroAt}
+use Rattle.realtime_views.specs.promises.Last.{taking}
+use Rattle.realtime_views.specs.promises.Numbers.{plain, orZeroAt}
 use Rattle.realtime_views.proofs.Reader.{Reading, begins, says, stops}
 use Rattle.realtime_views.proofs.Stops.{mine-number, other-number, other-text, no-message, clash}
 use Rattle.realtime_views.proofs.last_number.Statement.{statement}

@@ -9,7 +9,8 @@ use lib.Dec.{eqb}
 use lib.ListN.{length, take, drop}
 use Rattle.realtime.specs.Tree.{aNumber}
 use Rattle.realtime.specs.Schema.{feed, stopTimeUpdate, stopTimeEvent}
-use Rattle.realtime_views.specs.promises.Fold.{Takes, inside}
+use Rattle.realtime_views.specs.promises.Fold.{inside}
+use Rattle.realtime_views.specs.promises.Last.{Single, taking}
 use Rattle.realtime_views.specs.laws.Reading.{front-part}
 use Rattle.realtime_views.specs.promises.Reading.{Lens, Reads}
 use Rattle.realtime_views.specs.Typed.{uint32, int32, int64, enum}
@@ -20,19 +21,6 @@ use Rattle.realtime_views.specs.declared.Event.{Event}
 use Rattle.realtime_views.specs.declared.StopUpdate.{StopUpdate}
 use Rattle.realtime_views.specs.declared.Number.{Number}
 use Rattle.realtime_views.specs.declared.EventNumbers.{EventNumbers}
-
--- a field alone, and what is made of its number and of its text
-pub record Single (B : Type 0) : Type 0 where
-  pub field : ℕ
-  pub number : ℕ → B
-  pub text : List ℕ → B
-
-abbrev pub taking : {B : Type 0} → Single B → Takes B
-taking o = record {
-  number = λ v f n. cond (eqb f (o .field)) (o .number n) v;
-  text = λ v f x. cond (eqb f (o .field)) (o .text x) v;
-  message = λ v f m. v;
-}
 
 -- answers without a position, and the place of a text
 abbrev pub plain : {D B : Type 0} → (D → B) → Lens D B

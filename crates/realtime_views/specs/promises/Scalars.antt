@@ -11,6 +11,7 @@ use lib.ListN.{length, take, drop}
 use Rattle.realtime.specs.Tree.{Leaf, count, words}
 use Rattle.realtime.specs.Schema.{feed, feedEntity, tripUpdate}
 use Rattle.realtime_views.specs.promises.Fold.{Takes, inside}
+use Rattle.realtime_views.specs.promises.Last.{Single, each}
 use Rattle.realtime_views.specs.laws.Reading.{front-part}
 use Rattle.realtime_views.specs.promises.Reading.{Lens, Ready, Reads}
 use Rattle.realtime_views.specs.declared.Scalar.{Scalar}
@@ -90,13 +91,13 @@ kept d f x = record {
 abbrev pub blank : Scalars
 blank = record { f1 = Scalar.Nothing; f2 = Scalar.Nothing; f3 = Scalar.Nothing; f4 = Scalar.Nothing; f5 = Scalar.Nothing; f6 = Scalar.Nothing }
 
+-- a scalar as it stands, none where it is absent
+abbrev pub scalarAt : ℕ → Single (Option Leaf)
+scalarAt k = record { field = k; number = λ n. some (count n); text = λ x. some (words x) }
+
 -- how the fields of a message are taken, one after the other, and those along a path of messages
 abbrev pub own : Takes Lasts
-own = record {
-  number = λ v f n i. cond (eqb f (fieldOf i)) (some (count n)) (v i);
-  text = λ v f x i. cond (eqb f (fieldOf i)) (some (words x)) (v i);
-  message = λ v f m. v;
-}
+own = each (λ i. scalarAt (fieldOf i))
 
 abbrev pub takesAlong : List ℕ → Takes Lasts
 takesAlong [] = own

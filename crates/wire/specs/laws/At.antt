@@ -8,7 +8,8 @@ use lib.ListN.{length, take, drop, length-append, length-drop, take-append-drop}
 use lib.Seq.{drop-at, take-at}
 use lib.Dec.{leb}
 use mathlib.Core.Bool.{Bool, true, false, cond}
-use Rattle.wire.specs.Wire.{Read, broken, read, andThen, varint, Key, key, bytes, lengthDelimited, Value, value, field, string}
+use Rattle.wire.specs.Wire.{Read, broken, read, andThen, varint, Key, key, bytes, lengthDelimited, Value, value}
+use Rattle.wire.specs.Wire.{field, LEN}
 use Rattle.wire.specs.laws.Values.{value-2}
 use Rattle.wire.specs.laws.Wire.{never, moves, stays, key-nil, ReaderLaw, reader-varint, reader-key, reader-text, reader-value}
 use Rattle.wire.specs.promises.Places.{cursorAt, gotNumber, numberAt, gotKey, keyAt, gotText, textAt, gotSkipped, skippedAt}
@@ -185,7 +186,7 @@ field-less s at d k next v after K Q =
 
 -- behind a key of wire type 2 a text is the value
 pub text-value : (s : List ℕ) (number w d next i n after : ℕ) → w ≡ 2 → TextAt s next i n after
-    → ReadAt (value d (record { number = number; wire = w })) s next (string (take n (drop i s))) after
+    → ReadAt (value d (record { number = number; wire = w })) s next (LEN (take n (drop i s))) after
 text-value s number w d next i n after e N = record { same = rw (e, value-2 d number (drop next s), N .same); inside = N .inside }
 
 pub text-value-broken : (s : List ℕ) (number w d next : ℕ) → w ≡ 2 → lengthDelimited (drop next s) ≡ broken → value d (record { number = number; wire = w }) (drop next s) ≡ broken

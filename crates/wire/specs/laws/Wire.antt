@@ -8,7 +8,8 @@ use lib.ListN.{length, take, drop, length-append, length-take, take-append-drop}
 use lib.Seq.{take-at, drop-at}
 use lib.Dec.{ltb, leb, eqb}
 use borrow.Author.Tests.{le-leb, leb-true}
-use Rattle.wire.specs.Wire.{Read, broken, read, andThen, digits, varint, Key, key, bytes, lengthDelimited, item, Value, number, eight, string, group, four, payload, until, value, field}
+use Rattle.wire.specs.Wire.{Read, broken, read, andThen, digits, varint, Key, key, bytes, lengthDelimited, item}
+use Rattle.wire.specs.Wire.{Value, VARINT, I64, LEN, GROUP, I32, payload, until, value, field}
 
 pub never : {A B : Type 0} {a : A} {r : List ℕ} → broken ≡ read a r → B
 never {A} {B} {a} {r} e = absurd (subst is e tt)
@@ -133,10 +134,15 @@ module _ (inside : Key → List ℕ → Read Value) (I : (k : Key) → ReaderLaw
       mid k m l true x = refl
       mid k m l false x = last k m l (inside k m) refl
 
-      go : (o : Read Key) → key s ≡ o → andThen o (λ k r. cond (eqb (k .wire) 4) (cond (eqb (k .number) n) (read group r) broken) (andThen (inside k r) (λ v r′. f r′)))
-          ≡ andThen o (λ k r. cond (eqb (k .wire) 4) (cond (eqb (k .number) n) (read group r) broken) (andThen (inside k r) (λ v r′. g r′)))
+      go : (o : Read Key) → key s ≡ o
+          → andThen o (λ k r. cond (eqb (k .wire) 4) (cond (eqb (k .number) n) (read GROUP r) broken)
+          (andThen (inside k r) (λ v r′. f r′)))
+          ≡ andThen o (λ k r. cond (eqb (k .wire) 4) (cond (eqb (k .number) n) (read GROUP r) broken)
+          (andThen (inside k r) (λ v r′. g r′)))
       go broken e = refl
-      go (read k m) e = mid k m (moves key reader-key key-nil s k m e) (eqb (k .wire) 4) (cond (eqb (k .number) n) (read group m) broken)
+      go (read k m) e =
+          mid k m (moves key reader-key key-nil s k m e) (eqb (k .wire) 4)
+          (cond (eqb (k .number) n) (read GROUP m) broken)
 
   item-nil : (n : ℕ) (f : List ℕ → Read Value) → item inside n f [] ≡ broken
   item-nil n f = rw key-nil
@@ -175,12 +181,16 @@ module _ (inside : Key → List ℕ → Read Value) (I : (k : Key) → ReaderLaw
             front-then (inside k) (λ v r′. ends r′) (I k m v r′ e₁) (ih r′ (omega (arith, stays (inside k) (I k) m v r′ e₁)) e₂)
 
         mid : (k : Key) (m : List ℕ) → length m < length s → (b : Bool)
-            → cond b (cond (eqb (k .number) n) (read group m) broken) (andThen (inside k m) (λ v r′. ends r′)) ≡ read a r
-            → Front (λ m. cond b (cond (eqb (k .number) n) (read group m) broken) (andThen (inside k m) (λ v r′. ends r′))) m a r
-        mid k m l true e₂ = reader-cond (eqb (k .number) n) _ _ (reader-read group) reader-broken m a r e₂
+            → cond b (cond (eqb (k .number) n) (read GROUP m) broken) (andThen (inside k m) (λ v r′. ends r′))
+            ≡ read a r
+            → Front (λ m. cond b (cond (eqb (k .number) n) (read GROUP m) broken)
+            (andThen (inside k m) (λ v r′. ends r′))) m a r
+        mid k m l true e₂ = reader-cond (eqb (k .number) n) _ _ (reader-read GROUP) reader-broken m a r e₂
         mid k m l false e₂ = last k m l (inside k m) refl e₂
 
-        go : (o : Read Key) → key s ≡ o → andThen o (λ k r. cond (eqb (k .wire) 4) (cond (eqb (k .number) n) (read group r) broken) (andThen (inside k r) (λ v r′. ends r′))) ≡ read a r
+        go : (o : Read Key) → key s ≡ o
+            → andThen o (λ k r. cond (eqb (k .wire) 4) (cond (eqb (k .number) n) (read GROUP r) broken)
+            (andThen (inside k r) (λ v r′. ends r′))) ≡ read a r
             → Front (item inside n ends) s a r
         go broken e₁ e₂ = never e₂
         go (read k m) e₁ e₂ =
@@ -198,11 +208,11 @@ module _ (inside : Key → List ℕ → Read Value) (I : (k : Key) → ReaderLaw
 pub reader-payload : (w : ℕ) (inner : List ℕ → Read Value) → ReaderLaw inner → ReaderLaw (payload w inner)
 unfolding payload
 reader-payload w inner R =
-    reader-cond (eqb w 0) _ _ (reader-then varint _ reader-varint (λ n. reader-read (number n)))
-    (reader-cond (eqb w 1) _ _ (reader-then (bytes 8) _ (reader-bytes 8) (λ x. reader-read (eight x)))
-    (reader-cond (eqb w 2) _ _ (reader-then lengthDelimited _ reader-text (λ x. reader-read (string x)))
+    reader-cond (eqb w 0) _ _ (reader-then varint _ reader-varint (λ n. reader-read (VARINT n)))
+    (reader-cond (eqb w 1) _ _ (reader-then (bytes 8) _ (reader-bytes 8) (λ x. reader-read (I64 x)))
+    (reader-cond (eqb w 2) _ _ (reader-then lengthDelimited _ reader-text (λ x. reader-read (LEN x)))
     (reader-cond (eqb w 3) _ _ R
-    (reader-cond (eqb w 5) _ _ (reader-then (bytes 4) _ (reader-bytes 4) (λ x. reader-read (four x)))
+    (reader-cond (eqb w 5) _ _ (reader-then (bytes 4) _ (reader-bytes 4) (λ x. reader-read (I32 x)))
     reader-broken))))
 
 pub reader-value : (depth : ℕ) (k : Key) → ReaderLaw (value depth k)

@@ -24,9 +24,9 @@ use Rattle.realtime.specs.declared.Verdict.{Verdict}
         name: "leaves",
         of: "decode",
         preamble: "\
-use Rattle.realtime.specs.Tree.{Tree, tree, bindO}
+use Rattle.basics.specs.Options.{Maybe, bindO}
+use Rattle.realtime.specs.Tree.{Tree, tree}
 use Rattle.realtime.specs.Schema.{feed}
-use Rattle.decode.specs.Trip.{Maybe}
 use Rattle.decode.specs.Leaves.{Trips, differential, timestampIn, leaves}
 
 abbrev after : List ℕ → Trips → Option (Bool × (Maybe ℤ × Trips))

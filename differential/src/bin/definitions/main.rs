@@ -1,6 +1,6 @@
 //! Writes crates of antt, one for each definition, in which each case is an equation, closed by `refl`,
 //! between the definition at closed inputs and the original's answer. The checker then computes it.
-//! usage: definitions DIRECTORY SEED (in the repository's folder)
+//! usage: definitions DIRECTORY SEED SHARE (in the repository's folder; of the cases one in SHARE is written)
 mod alerts;
 mod branches;
 mod buffers;
@@ -24,6 +24,9 @@ use std::{env, fs};
 
 /// Cases to a file: the checker holds a file's terms at once.
 const BATCH: usize = 50;
+
+/// What a share has at least of each definition's cases.
+const LEAST: usize = 25;
 
 /// A definition and how cases of it are made.
 pub struct Definition {
@@ -65,6 +68,7 @@ fn main() {
     let mut words = env::args().skip(1);
     let directory = PathBuf::from(words.next().expect("a directory"));
     let seed: u64 = words.next().and_then(|word| word.parse().ok()).expect("a seed");
+    let share: usize = words.next().and_then(|word| word.parse().ok()).expect("a share");
     let known = [
         formats::DEFINITIONS,
         alerts::DEFINITIONS,
@@ -83,7 +87,8 @@ fn main() {
         if crates.is_empty() {
             println!("{}: left out, there is no crate {}", definition.name, definition.of);
         } else {
-            write_cases(&directory.join("cases").join(definition.name), definition, &crates, seed);
+            let cases = cases(definition, &mut Random::new(seed), share);
+            write_cases(&directory.join("cases").join(definition.name), definition, &crates, &cases);
             needed.extend(crates);
         }
     }
@@ -91,20 +96,30 @@ fn main() {
     write(&directory.join("crates"), &needed);
 }
 
-/// The definition's crate: a file for each batch of cases, and what there is of them.
-fn write_cases(folder: &Path, definition: &Definition, crates: &BTreeSet<String>, seed: u64) {
-    let cases = match definition.cases {
-        Cases::Listed(cases) => cases(),
+/// One in `share` of the definition's cases, and no fewer than the least.
+fn cases(definition: &Definition, random: &mut Random, share: usize) -> Vec<Equation> {
+    let due = |count: usize| count.div_ceil(share).max(LEAST).min(count);
+    match definition.cases {
+        Cases::Listed(cases) => {
+            let mut cases = cases();
+            for _ in due(cases.len())..cases.len() {
+                cases.swap_remove(random.below(cases.len()));
+            }
+            cases
+        }
         Cases::AtRandom(count, case) => {
-            let mut random = Random::new(seed);
             // Where the original panics (a window's edge inside a character) there is no answer: the next.
             set_hook(Box::new(|_| ()));
-            let answered = repeat_with(|| catch_unwind(AssertUnwindSafe(|| case(&mut random))));
-            let answered = answered.filter_map(Result::ok).take(count).collect();
+            let answered = repeat_with(|| catch_unwind(AssertUnwindSafe(|| case(random))));
+            let answered = answered.filter_map(Result::ok).take(due(count)).collect();
             drop(take_hook());
             answered
         }
-    };
+    }
+}
+
+/// The definition's crate: a file for each batch of cases, and what there is of them.
+fn write_cases(folder: &Path, definition: &Definition, crates: &BTreeSet<String>, cases: &[Equation]) {
     let (uses, unfolding) = opened(crates);
     let mut modules = String::new();
     for (batch, cases) in cases.chunks(BATCH).enumerate() {
@@ -122,6 +137,7 @@ fn write_cases(folder: &Path, definition: &Definition, crates: &BTreeSet<String>
     let counted =
         counted.iter().filter(|(count, _)| *count > 0).map(|(count, answer)| format!(", {count} {answer}"));
     write(&folder.join("count"), &format!("{} cases{}", cases.len(), counted.collect::<String>()));
+    write(&folder.join("of"), definition.of);
 }
 
 fn write(file: &Path, text: &str) {

@@ -6,12 +6,15 @@ use differential::form::Form;
 use differential::gens::history;
 use differential::layout;
 use differential::literal::{list, pairs, Literal};
+use differential::messages::{entity, header, start_date, timestamp, trip, trip_id, trip_update};
 use differential::panel::{Answer, Call, Panel};
 use differential::questions::LONGEST_CARD;
+use differential::samples::{alerts_call, message_call, report_call, trip_1, vehicles_call, NOON};
 
 pub const DEFINITIONS: &[Definition] = &[
     Definition { name: "histories", cases: AtRandom(200, |random| equal(&history(random, 5))), ..OF_PANEL },
     Definition { name: "questions", cases: Listed(questions), ..OF_PANEL },
+    Definition { name: "reports", cases: Listed(reports), ..OF_PANEL },
 ];
 
 /// What lists of calls have in common.
@@ -38,12 +41,33 @@ given n m calls = givenOn (gives (lengths n m) [] (fresh n) .out) n m calls
 
 /// The bounds of the questions. Left out are inputs that the checker doesn't take: what question 3 refuses or
 /// lets pass at 1,048,576 bytes, and a single message or vehicle sheet with as many entries as question 7 lets
-/// pass. `panel/Asked` and `panel/Seven` have those for every input.
+/// pass. `panel/laws/Answers` and `panel/Seven` have those for every input.
 fn questions() -> Vec<Equation> {
     let lists = bounds().into_iter().flat_map(|bound| [bound.within, bound.past]).flatten();
     let (computed, left): (Vec<_>, Vec<_>) = lists.partition(|calls| calls.last().is_some_and(taken));
     println!("bounds: {} lists of calls computed, {} left out", computed.len(), left.len());
     computed.iter().map(|calls| equal(calls)).collect()
+}
+
+/// Reports in which version, count and timestamp differ, of a feed with a dated trip and without.
+fn reports() -> Vec<Equation> {
+    let trips = |fields: &[Vec<u8>]| {
+        let dated = entity(&[trip_update(&[trip(&[trip_id("2"), start_date("20260101")])])]);
+        message_call(&[fields.concat(), trip_1(&[]), dated])
+    };
+    let at = |seconds: i64| trips(&[header(&[timestamp(seconds)])]);
+    let sheet = || vehicles_call(vec![], NOON);
+    let lists = [
+        vec![report_call()],
+        vec![trips(&[]), report_call()],
+        vec![at(5), report_call()],
+        vec![at(-1), report_call()],
+        vec![at(i64::MIN), trips(&[]), report_call()],
+        vec![at(5), sheet(), report_call()],
+        vec![sheet(), at(5), report_call()],
+        vec![at(5), alerts_call(vec![]), report_call()],
+    ];
+    lists.iter().map(|calls| equal(calls)).collect()
 }
 
 fn taken(call: &Call) -> bool {

@@ -1,9 +1,9 @@
--- `realtime_vectors::line_end` is safe and ends. Assumes nothing.
+-- `vector_lines::line_end` goes on and stays inside. Assumes nothing.
 use borrow.Author.Needs.{needs}
 use Prim.Native.Nat.{_-_, _≤_}
 use lib.ListN.{length}
-use Rattle.realtime_vectors.proofs.line_end.Statement.{statement}
-use Rattle.realtime_vectors.proofs.line_end.Tie as tie
+use Rattle.vector_lines.proofs.line_end.Statement.{statement}
+use Rattle.vector_lines.proofs.line_end.Tie as tie
 
 abbrev Inv-loop : tie.InvT-loop
 Inv-loop s from i₀ i = (from ≤ i) × (i ≤ length s)

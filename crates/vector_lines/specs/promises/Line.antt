@@ -1,4 +1,4 @@
--- Promise. Where a line ends.
+-- Promise. A place past the line that starts at `from`.
 use Prim.Native.Nat.{ℕ, _≤_, _<_}
 use mathlib.Core.List.{List}
 use lib.ListN.{length}
