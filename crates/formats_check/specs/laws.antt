@@ -1,3 +1,4 @@
+pub mod Joined
 pub mod Checked
 pub mod Elements
 pub mod Walks

@@ -34,6 +34,7 @@ use Rattle.formats_check.specs.laws.Checked.{Missed, absent, refused, Go
 use Rattle.formats_check.specs.laws.Checked.{under-no, under-so}
 use Rattle.formats_check.specs.laws.Elements.{text-so, text-read}
 use Rattle.formats_check.specs.laws.Walks.{walk-end, walk-bad, walk-no, walk-on, list-no, list-over, list-so}
+use Rattle.formats_check.specs.laws.Joined.{and-assoc, shuffle}
 
 -- a text that is good stands from a up to e, behind its length
 pub record Keyed (l : ℕ) (c : Class) (s : List ℕ) (at a e : ℕ) : Type 0 where
@@ -277,17 +278,6 @@ pub climbing-on : {l : ℕ} {c : Class} {g : Format} {t : Test (text l c & g)} {
 climbing-on C z E h i j = on C z E h i j 0 refl
 
 -- what a walk finds is that all entries are good and ascend, and what the sum is
-shuffle : (a b c d : Bool) → ((a && b) && (c && d)) ≡ ((c && a) && (b && d))
-shuffle true b true d = refl
-shuffle true true false d = refl
-shuffle true false false d = refl
-shuffle false b true d = refl
-shuffle false b false d = refl
-
-and-assoc : (a b c : Bool) → ((a && b) && c) ≡ (a && (b && c))
-and-assoc true b c = refl
-and-assoc false b c = refl
-
 abbrev pub weight : {A : Type 0} → (List ℕ → ℕ) → List (List ℕ × A) → ℕ
 weight w [] = 0
 weight w (e ∷ v) = w (e .0) + weight w v

@@ -12,6 +12,7 @@ use lib.Seq.{drop-cons}
 use borrow.Author.Tests.{le-leb, lt-leb}
 use Rattle.formats.specs.Class.{allowed, printable}
 use Rattle.basics.specs.Lists.{all}
+use Rattle.formats_check.specs.laws.Joined.{and-assoc}
 
 abbrev fits : ℕ → Bool
 fits b = leb 32 b && leb b 126
@@ -20,10 +21,6 @@ fits b = leb 32 b && leb b 126
 abbrev pub span : ℕ → List ℕ → ℕ → Bool
 span zero v i = true
 span (suc n) v i = span n v i && (leb 32 (getD v (i + n) 0) && leb (getD v (i + n) 0) 126)
-
-and-assoc : (a b c : Bool) → ((a && b) && c) ≡ (a && (b && c))
-and-assoc true b c = refl
-and-assoc false b c = refl
 
 span-all : (n : ℕ) (v : List ℕ) (i : ℕ) → i + n ≤ length v → all (allowed printable) (drop i v) ≡ (span n v i && all
     (allowed printable) (drop (i + n) v))

@@ -24,6 +24,7 @@ use Rattle.maps.specs.laws.Order.{cons-before, cons-behind, lex-itself}
 use Rattle.formats_check.specs.promises.Checked.{Number, Checked, fine, Walk, runs, Walked, Ahead}
 use Rattle.formats_check.specs.laws.Checked.{Missed, absent, refused, good, missed}
 use Rattle.formats_check.specs.laws.Walks.{walk-end, walk-no, walk-on, list-no, list-over, list-so}
+use Rattle.formats_check.specs.laws.Joined.{and-assoc, shuffle}
 
 abbrev pub entry : ℕ → Format → Format
 entry hi g = number 0 hi & g
@@ -116,17 +117,6 @@ less-is k x = go (ltb k x) refl (ltb x k) refl
     go false e false f =
         let i : k ≡ x = omega (arith, ltb-false k x e, ltb-false x k f) in
         rw (i, lex-itself (x ∷ []), lt-leb (x + 1) x (omega arith)) refl
-
-shuffle : (a b c d : Bool) → ((a && b) && (c && d)) ≡ ((c && a) && (b && d))
-shuffle true b true d = refl
-shuffle true true false d = refl
-shuffle true false false d = refl
-shuffle false b true d = refl
-shuffle false b false d = refl
-
-and-assoc : (a b c : Bool) → ((a && b) && c) ≡ (a && (b && c))
-and-assoc true b c = refl
-and-assoc false b c = refl
 
 start : (a b c t r : Bool) → t ≡ true → (b && c) ≡ r → ((a && b) && c) ≡ ((t && a) && r)
 start a b c t r p q = and-assoc a b c ∙ ap (λ z. a && z) q ∙ sym (ap (λ z. (z && a) && r) p)

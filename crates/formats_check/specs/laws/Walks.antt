@@ -11,9 +11,9 @@ use borrow.Author.Tests.{le-leb, lt-leb, lt-ltb}
 use Rattle.formats.specs.Readers.{bind, onlyR, manyR}
 use Rattle.formats.specs.laws.Law.{manyLaw}
 use Rattle.basics.specs.Lists.{all}
-use Rattle.formats.specs.Format.{Format, list, Value, read, write, takes, element}
+use Rattle.formats.specs.Format.{Format, list, Value, read, write, takes}
 use Rattle.formats.specs.laws.Format.{law, elementLaw, nonempty, takes-nonempty}
-use Rattle.formats.specs.promises.Outcome.{skipped}
+use Rattle.formats.specs.promises.Outcome.{skipped, element}
 use Rattle.formats.specs.declared.Numeral.{Numeral}
 use Rattle.formats.specs.declared.Numeral.the-variants.{Got, Bad}
 use Rattle.formats.specs.declared.Skip.{Skip}

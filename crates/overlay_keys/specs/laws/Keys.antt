@@ -15,6 +15,7 @@ use Rattle.formats.specs.Number.{numberR}
 use Rattle.formats.specs.Class.{Class, printable, inClass, allowed}
 use Rattle.basics.specs.Lists.{all, isEmpty}
 use Rattle.formats.specs.laws.Law.{found}
+use Rattle.basics.specs.laws.Booleans.{and-no}
 use Rattle.basics.specs.laws.Options.{none-some}
 use Rattle.formats.specs.Format.{Format, small, text, optional, list, _&_, Value, read}
 use Rattle.formats.specs.declared.Numeral.{Numeral}
@@ -269,10 +270,6 @@ module _ {s : List ℕ} {d : ℕ} {r : Span} (R : Spans 64 printable s d r) wher
 abbrev datedAt : ℕ → List ℕ → List ℕ → Bool
 datedAt n d x = not (isEmpty d) && (rawOk (take n x) && same x (datedKey (take n x) d))
 
-and-no : (p : Bool) → false ≡ (p && false)
-and-no true = refl
-and-no false = refl
-
 and-late : (p q c : Bool) → false ≡ (p && ((q && false) && c))
 and-late true true c = refl
 and-late true false c = refl
@@ -293,7 +290,7 @@ all-take (suc n) (b ∷ x) h =
     ) refl
 
 dated-zero : (n : ℕ) (d x : List ℕ) → n ≡ 0 → false ≡ datedAt n d x
-dated-zero n d x z = rw z (and-no (not (isEmpty d)))
+dated-zero n d x z = rw z (sym (and-no (not (isEmpty d))))
 
 dated-over : (n : ℕ) (d x : List ℕ) → 64 < n → n ≤ length x → false ≡ datedAt n d x
 dated-over n d x h k =

@@ -11,6 +11,7 @@ use borrow.Author.Tests.{eqb-true, eqb-false, lt-ltb, le-ltb}
 use Rattle.formats.specs.declared.Skip.{Skip}
 use Rattle.formats.specs.declared.Skip.the-variants.{At, Broken}
 use Rattle.basics.specs.Texts.{same}
+use Rattle.basics.specs.laws.Booleans.{false-true}
 use Rattle.basics.specs.laws.Texts.{same-refl, same-true}
 use Rattle.decode.specs.Key.{decimalOf}
 use Rattle.overlay_keys.specs.promises.Piece.{bytes, Inside, Pieced, Piece, Moved, Moves}
@@ -28,9 +29,6 @@ bytes-length {s} {a} {e} I =
 
 pub bytes-none : (s : List ℕ) (a e : ℕ) → e - a ≡ 0 → bytes s a e ≡ []
 bytes-none s a e z = rw z refl
-
-false-true : {C : Type 0} → false ≡ true → C
-false-true e = absurd (let z : _≡_ {A = ℕ} 0 1 = cc in omega arith)
 
 -- one piece
 module _ {s : List ℕ} {at e : ℕ} (I : Inside s at e) where

@@ -24,6 +24,7 @@ use Rattle.formats_check.specs.promises.Checked.{Number, fine, Fine, Test, own,
 use Rattle.formats_check.specs.laws.Checked.{check-past}
 use Rattle.formats_check.specs.laws.Elements.{number-no, number-high, number-so, signed-no, signed-bad, signed-so}
 use Rattle.formats_check.specs.laws.Elements.{around-in, around-over, upward-in, upward-over, upward-below}
+use Rattle.formats_check.specs.laws.Joined.{and-assoc}
 
 module _ {s : List ℕ} {at : ℕ} {o : Numeral} (e : Number s at o) where
   pub delay-no : o ≡ Bad → Fine delay s at Broken
@@ -66,10 +67,6 @@ routeGood = behind id (behind (optional number32) timeGood)
 
 abbrev pub tripGood : Test trip
 tripGood = behind (optional delay) (behind (small 1) (behind date routeGood))
-
-and-assoc : (a b c : Bool) → ((a && b) && c) ≡ (a && (b && c))
-and-assoc true b c = refl
-and-assoc false b c = refl
 
 -- a test of the last part, after the annotations of the whole
 behind-as : (a b : Format) (t : Test b) (A : Value b → Bool) → ((v : Value b) → (fine b v && A v) ≡ holds t v)
