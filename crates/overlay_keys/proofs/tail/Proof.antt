@@ -1,4 +1,4 @@
-use Rattle.overlay_keys.specs.laws.Keys.{tail-between, tail-date, tail-inside, tail-mark, tail-so}
+use Rattle.overlay_keys.specs.laws.Keys.{tail-between, tail-date, tail-mark, tail-so}
 use Rattle.overlay_keys.specs.laws.Piece.{piece-inside}
 use borrow.Author.Needs.{needs}
 use Rattle.overlay_keys.proofs.tail.Statement.{statement}
@@ -65,7 +65,11 @@ part-piece-end-2 : tie.Need-part-piece-end-2
 part-piece-end-2 c = search needs
 
 piece-requires-4 : tie.Need-piece-requires-4
-piece-requires-4 c κs = search tail-inside
+piece-requires-4 c κs =
+    let at-mark = c .before .before in
+    let at-date = at-mark .before .before .before .before .before in
+    let start = at-date .before .before .before .before .before .before .before .before .before .before in
+    piece-inside (at-mark .before .before .piece3 .ensures) (at-mark .w .given .1) (start .pre .1 .1)
 
 returns-4 : tie.Need-returns-4
 returns-4 c = search tail-so

@@ -184,10 +184,6 @@ module _ {s : List ℕ} {b d u v at e : ℕ} {q : Skip} (P : Piece dateMark s at
       pub tail-so : {p : ℕ} → g ≡ At p → {r : Skip} → Piece (bytes s u v) s p e r → Tail s b d u v at e r
       tail-so j T = record { is = piece-then (piece-then (piece-then P h D) i M) j T }
 
-pub tail-inside : {s : List ℕ} {at e : ℕ} {q : Skip} → Piece timeMark s at e q → {m : ℕ} → q ≡ At m → {a : ℕ}
-    → Inside s a e → Inside s m e
-tail-inside P h I = piece-inside P h I
-
 pub head-inside : {f s : List ℕ} {x y at e : ℕ} {r : Skip} → Head f s x y at e r → {m : ℕ} → r ≡ At m → {a : ℕ}
     → Inside s a e → Inside s m e
 head-inside H h I = moves-inside (H .moves) h I
