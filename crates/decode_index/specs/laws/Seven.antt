@@ -91,5 +91,5 @@ leaving-seven t =
 -- and then it answers these trips, and no others
 pub leaving-yes : (t : Trips) → (ok 7 (list 2048 tripEntry) t ≡ true) ↔ (leaving t ≡ trips t)
 leaving-yes t =
-    let there = λ e. answered (ltb 2048 (length t)) (anyCrowded t) t (sym (leaving-seven t) ∙ e) in
-    (there, λ e. leaving-seven t ∙ ap isTrips e)
+    let said = answered (ltb 2048 (length t)) (anyCrowded t) t in
+    (λ e. said (sym (leaving-seven t) ∙ e), λ e. leaving-seven t ∙ ap isTrips e)

@@ -27,7 +27,7 @@ use Rattle.overlay.specs.Report as report
 use Rattle.overlay.specs.laws.Buffer.{filled-length}
 use Rattle.journey.specs.Card.{card as cardForm}
 use Rattle.panel.specs.Outcome.{Outcome, refused, accepted, need, needSome, bytesOf}
-use Rattle.panel.specs.Questions.{Lengths, lengthsOk, opened, countsFit, changedState, freshFits, feedOk, whole, treeOutcome, freshOf, messageOf, alertsOutcome, alertSheetOf, vehiclesIn, vehiclesOutcome, vehicleSheetOf, finished, arrivingOutcome, cardCallOf, reportOf}
+use Rattle.panel.specs.Questions.{Lengths, publishedLengths, lengthsOk, opened, countsFit, changedState, freshFits, feedOk, whole, treeOutcome, freshOf, messageOf, alertsOutcome, alertSheetOf, vehiclesIn, vehiclesOutcome, vehicleSheetOf, finished, arrivingOutcome, cardCallOf, reportOf}
 use Rattle.panel.specs.Calls.{Call, fresh, message, alertSheet, vehicleSheet, card, report, ends, outOf, gives}
 
 -- what is written has room in n bytes
@@ -109,3 +109,7 @@ bytes-long n (accepted x) h = filled-length n x (h .short x refl)
 -- EVERY OUTPUT IS AS LONG AS ITS BUFFER
 pub out-long : (L : Lengths) (old : List ℕ) (c : Call) → length (gives L old c .out) ≡ outOf c
 out-long L old c = bytes-long (outOf c) (ends L old c) (call-room L old c)
+
+-- "Finished card at most 65,536 bytes?": the published length of a card's output
+pub published-card : (m a v c : List ℕ) → publishedLengths m a v c .card ≡ 65536
+published-card m a v c = refl
