@@ -7,7 +7,6 @@ use formats_check::number_at;
 use formats_check::printable_at;
 use overlay_trip::optional_delay;
 use overlay_trip::optional_number32;
-ghost use mathlib.Core.Path.{_≡_};
 ghost use mathlib.Core.List.{[], _∷_};
 ghost use Rattle.decode.specs.Key.{decimalOf};
 ghost use Rattle.overlay_keys.specs.promises.Piece.{Inside, Piece};

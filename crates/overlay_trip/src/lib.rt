@@ -5,7 +5,6 @@ use formats_check::flag;
 use formats_check::number_at;
 use formats_check::number_long;
 use formats_check::printable;
-ghost use mathlib.Core.Path.{_≡_};
 ghost use Prim.Native.Nat.{_≤_};
 ghost use lib.ListN.{length};
 ghost use Rattle.formats.specs.Format.{small, list, optional, _&_};

@@ -1,4 +1,4 @@
-use Rattle.formats_check.specs.laws.Climbing.{follows-first, follows-less, follows-same, follows-more}
+use Rattle.formats_check.specs.laws.Climbing.{follows-less, follows-same, follows-more}
 use borrow.Author.Needs.{needs}
 use Rattle.formats_check.proofs.follows.Statement.{statement}
 use Rattle.formats_check.proofs.follows.Tie as tie

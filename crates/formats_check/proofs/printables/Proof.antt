@@ -1,7 +1,6 @@
 use Rattle.formats_check.specs.laws.Elements.{in-place}
 use Rattle.formats_check.specs.laws.Walks.{all-many, all-no, all-so}
 use borrow.Author.Needs.{needs}
-use mathlib.Core.Path.{refl}
 use Rattle.formats_check.proofs.printables.Statement.{statement}
 use Rattle.formats_check.proofs.printables.Tie as tie
 

@@ -1,6 +1,6 @@
 -- Law. Checked reading: what an answer says, one value after another, an optional value, and tests.
 use mathlib.Core.Path.{_≡_, refl, sym, ap, _∙_}
-use mathlib.Core.List.{List, [], _∷_}
+use mathlib.Core.List.{List}
 use mathlib.Core.Option.{Option, none, some}
 use mathlib.Core.Logic.{_⊎_, inl, inr}
 use mathlib.Core.Bool.{Bool, true, false, cond, _&&_}
@@ -18,7 +18,6 @@ use Rattle.formats.specs.promises.Outcome.{skipped}
 use Rattle.formats.specs.declared.Skip.{Skip}
 use Rattle.formats.specs.declared.Skip.the-variants.{At, Broken}
 use Rattle.formats.proofs.Numbers.{place, opened}
-use Rattle.formats_judge.specs.Judged.{either}
 use Rattle.formats_check.specs.promises.Checked.{Checked, fine, Fine, Test, own, behind, under, both, also, holds}
 use Rattle.formats_check.specs.promises.Checked.{Tested}
 

@@ -28,7 +28,7 @@ use Rattle.formats_check.specs.declared.Span.{Span}
 use Rattle.formats_check.specs.declared.Span.the-variants.{At, No}
 use Rattle.formats_check.specs.declared.Entry.{Entry}
 use Rattle.formats_check.specs.declared.Entry.the-variants as entry
-use Rattle.formats_check.specs.promises.Checked.{Number, Checked, fine, Fine, Walk, runs, Walked, Ahead, Test}
+use Rattle.formats_check.specs.promises.Checked.{Number, Fine, Walk, runs, Walked, Ahead, Test}
 use Rattle.formats_check.specs.promises.Checked.{own, behind, under, holds, Tested}
 use Rattle.formats_check.specs.laws.Checked.{Missed, absent, refused, Good, good, missed, behind-no, behind-so}
 use Rattle.formats_check.specs.laws.Checked.{under-no, under-so}

@@ -1,5 +1,5 @@
 -- Law. Checked reading of what has no parts: numbers in a range, small and signed numbers, texts, floats, one byte.
-use mathlib.Core.Path.{_≡_, refl, sym, ap, _∙_}
+use mathlib.Core.Path.{_≡_, refl, sym, _∙_}
 use mathlib.Core.List.{List}
 use mathlib.Core.Bool.{Bool, true, false}
 use mathlib.Core.Option.{some, none}
@@ -14,7 +14,7 @@ use Rattle.formats.specs.Number.{numberR, littleR, zag}
 use Rattle.formats.specs.Readers.{constR}
 use Rattle.formats.specs.laws.Number.{numberLaw, littleLaw}
 use Rattle.formats.specs.Class.{Class, inClass}
-use Rattle.formats.specs.Format.{Format, number, signed, small, text, float, constant, read}
+use Rattle.formats.specs.Format.{number, signed, small, text, float, constant, read}
 use Rattle.formats.specs.promises.Outcome.{numbered, skipped}
 use Rattle.formats.specs.declared.Numeral.{Numeral}
 use Rattle.formats.specs.declared.Numeral.the-variants.{Got, Bad}

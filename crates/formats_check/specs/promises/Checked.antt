@@ -1,11 +1,11 @@
 -- Promise. Checked reading: a value of a format stands at a place and is good; the place past it, else no.
 use mathlib.Core.Path.{_≡_}
 use mathlib.Core.List.{List, [], _∷_}
-use mathlib.Core.Bool.{Bool, true, false, _&&_}
+use mathlib.Core.Bool.{Bool, true, _&&_}
 use Prim.Native.Nat.{ℕ}
 use lib.Dec.{leb}
 use lib.ListN.{length, drop}
-use Rattle.formats.specs.Readers.{Reader, onlyR, manyR}
+use Rattle.formats.specs.Readers.{onlyR, manyR}
 use Rattle.formats.specs.Number.{groupsR}
 use Rattle.formats.specs.Class.{inClass}
 use Rattle.basics.specs.Lists.{all}

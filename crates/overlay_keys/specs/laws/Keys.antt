@@ -6,7 +6,7 @@ use mathlib.Core.Option.{none, some}
 use mathlib.Core.Bool.{Bool, true, false, cond, _&&_, _||_, not}
 use Prim.Native.Nat.{ℕ, zero, suc, _+_, _-_, _≤_, _<_}
 use native.Mathlib.Omega.{arith}
-use lib.Dec.{leb, ltb, eqb}
+use lib.Dec.{eqb}
 use lib.ListN.{length, take, drop, getD, drop-of-length-le}
 use lib.Seq.{take-take, length-take-le}
 use borrow.Author.Tests.{le-leb, lt-leb, ne-eqb, eq-eqb}
@@ -32,7 +32,6 @@ use Rattle.formats_check.specs.laws.Climbing.{Spans, span-key, span-none, span-
 use Rattle.slices.specs.laws.Lists.{and-left, and-right}
 use Rattle.basics.specs.Texts.{same}
 use Rattle.decode.specs.Trip.{Trip, dateOf, delay, date, id, number32, time, stopUpdate, trip}
-use Rattle.basics.specs.Options.{Maybe}
 use Rattle.decode.specs.Key.{directionText, decimalOf, prefixed, headOf, tailOf, rawOk, datedOk, datedKey}
 use Rattle.decode.specs.Key.{incompleteKey, keyOk}
 use Rattle.overlay_keys.specs.promises.Piece.{bytes, Inside, Piece}

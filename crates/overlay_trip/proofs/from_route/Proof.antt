@@ -1,4 +1,4 @@
-use Rattle.formats_check.specs.laws.Checked.{behind-no, behind-so, tested}
+use Rattle.formats_check.specs.laws.Checked.{behind-no, behind-so}
 use borrow.Author.Needs.{needs}
 use Rattle.overlay_trip.proofs.from_route.Statement.{statement}
 use Rattle.overlay_trip.proofs.from_route.Tie as tie

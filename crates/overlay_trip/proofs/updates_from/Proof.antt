@@ -1,7 +1,6 @@
 use borrow.Author.Needs.{needs}
 use Prim.Native.Nat.{_≤_}
 use lib.ListN.{length}
-use native.Mathlib.Omega.{arith}
 use Rattle.decode.specs.Trip.{stopUpdate}
 use Rattle.formats_check.specs.laws.Checked.{check-in}
 use Rattle.formats_check.specs.laws.Rising.{Rising, rising-start, rising-no, rising-low, rising-high, rising-rest}

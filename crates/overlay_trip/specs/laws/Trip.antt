@@ -1,9 +1,8 @@
 -- Law. A trip's record by checked reading.
 use mathlib.Core.Path.{_≡_, refl, sym, ap, _∙_}
-use mathlib.Core.List.{List, [], _∷_}
+use mathlib.Core.List.{List}
 use Prim.Native.Nat.{ℕ, _%_, _≤_, _<_}
 use native.Mathlib.Omega.{arith}
-use lib.Dec.{leb}
 use lib.ListN.{length, drop}
 use lib.IntN.{pos, negsuc}
 use Rattle.formats.specs.declared.Numeral.{Numeral}
@@ -11,14 +10,12 @@ use Rattle.formats.specs.declared.Numeral.the-variants.{Got, Bad}
 use Rattle.formats.specs.declared.Skip.{Skip}
 use Rattle.formats.specs.declared.Skip.the-variants.{At, Broken}
 use mathlib.Core.Option.{some}
-use mathlib.Core.Bool.{Bool, true, false, _&&_}
-use Rattle.formats.specs.Format.{Format, text, small, optional, _&_, list, Value, read}
+use mathlib.Core.Bool.{Bool, true, _&&_}
+use Rattle.formats.specs.Format.{Format, small, optional, _&_, list, Value, read}
 use Rattle.maps.specs.Map.{ascending}
-use Rattle.maps.specs.Order.{numbers, texts}
-use Rattle.decode.specs.Trip.{delay, instant, date, id, number32, time, stopUpdate, trip, tripEntry, Trip, StopUpdate}
+use Rattle.maps.specs.Order.{numbers}
+use Rattle.decode.specs.Trip.{delay, instant, date, id, number32, time, stopUpdate, trip, Trip}
 use Rattle.decode.specs.Trip.{updatesOf}
-use Rattle.formats.specs.Class.{printable}
-use Rattle.basics.specs.Lists.{all}
 use Rattle.formats_check.specs.laws.Rising.{ascend}
 use Rattle.formats_check.specs.promises.Checked.{Number, fine, Fine, Test, own, behind, holds, Tested}
 use Rattle.formats_check.specs.laws.Checked.{check-past}
