@@ -1,0 +1,8 @@
+pub mod Joined
+pub mod Checked
+pub mod Elements
+pub mod Walks
+pub mod Rising
+pub mod Groups
+pub mod Printable
+pub mod Climbing

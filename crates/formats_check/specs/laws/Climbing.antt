@@ -1,0 +1,332 @@
+-- Law. Entries by ascending text: the walk knows where the key before stands, and a sum over the keys.
+use mathlib.Core.Path.{_≡_, refl, sym, ap, _∙_}
+use mathlib.Core.List.{List, [], _∷_}
+use mathlib.Core.Option.{Option, none, some}
+use mathlib.Core.Bool.{Bool, true, false, cond, _&&_}
+use Prim.Native.Nat.{ℕ, _+_, _-_, _≤_, _<_}
+use native.Mathlib.Omega.{arith}
+use native.Mathlib.Nat.{add-zero}
+use lib.Dec.{leb}
+use lib.ListN.{length, take, drop}
+use borrow.Author.Tests.{le-leb, lt-leb}
+use Rattle.formats.specs.Readers.{bind}
+use Rattle.formats.specs.laws.Law.{found}
+use Rattle.basics.specs.laws.Options.{none-some}
+use Rattle.formats.specs.Class.{Class, inClass}
+use Rattle.basics.specs.Lists.{all}
+use Rattle.formats.specs.Format.{Format, text, list, _&_, Value, read}
+use Rattle.formats.specs.declared.Numeral.{Numeral}
+use Rattle.formats.specs.declared.Numeral.the-variants.{Got, Bad}
+use Rattle.formats.specs.declared.Skip.{Skip}
+use Rattle.formats.specs.declared.Skip.the-variants as skip
+use Rattle.slices.specs.Lists.{lexOf}
+use Rattle.slices.specs.declared.Order.{Order}
+use Rattle.slices.specs.declared.Order.the-variants.{Less, Same, More}
+use Rattle.maps.specs.Map.{isLess, above, ascending}
+use Rattle.maps.specs.Order.{texts}
+use Rattle.formats_check.specs.declared.Span.{Span}
+use Rattle.formats_check.specs.declared.Span.the-variants.{At, No}
+use Rattle.formats_check.specs.declared.Entry.{Entry}
+use Rattle.formats_check.specs.declared.Entry.the-variants as entry
+use Rattle.formats_check.specs.promises.Checked.{Number, Fine, Walk, runs, Walked, Ahead, Test}
+use Rattle.formats_check.specs.promises.Checked.{own, behind, under, holds, Tested}
+use Rattle.formats_check.specs.laws.Checked.{Missed, absent, refused, Good, good, missed, behind-no, behind-so}
+use Rattle.formats_check.specs.laws.Checked.{under-no, under-so}
+use Rattle.formats_check.specs.laws.Elements.{text-so, text-read}
+use Rattle.formats_check.specs.laws.Walks.{walk-end, walk-bad, walk-no, walk-on, list-no, list-over, list-so}
+use Rattle.formats_check.specs.laws.Joined.{and-assoc, shuffle}
+
+-- a text that is good stands from a up to e, behind its length
+pub record Keyed (l : ℕ) (c : Class) (s : List ℕ) (at a e : ℕ) : Type 0 where
+  pub is : Fine (text l c) s at (skip.At e)
+  pub bytes : (v : List ℕ) → read (text l c) (drop at s) ≡ some (v, drop e s) → v ≡ take (e - a) (drop a s)
+  pub forward : a ≤ e
+
+abbrev pub Spanned : (l : ℕ) (c : Class) (s : List ℕ) (at : ℕ) → Span → Type 0
+Spanned l c s at (At a e) = Keyed l c s at a e
+Spanned l c s at No = Fine (text l c) s at skip.Broken
+
+pub record Spans (l : ℕ) (c : Class) (s : List ℕ) (at : ℕ) (r : Span) : Type 0 where
+  pub tells : Spanned l c s at r
+
+pub span-no : {l : ℕ} {c : Class} {s : List ℕ} {at : ℕ} → Fine (text l c) s at skip.Broken → Spans l c s at No
+span-no h = record { tells = h }
+
+-- a text, and where its bytes stand
+pub span-so : {l : ℕ} {c : Class} {s : List ℕ} {at : ℕ} {o : Numeral} → Number s at o → {n p : ℕ} → o ≡ Got n p
+    → n ≤ length s - p → n ≤ l → (t : Bool) → t ≡ inClass c (take (p + n - p) (drop p s)) → t ≡ true
+    → Spans l c s at (At p (p + n))
+span-so {l} {c} {s} {at} e {n} {p} h k m t i f =
+    let j : p + n - p ≡ n = omega arith in
+    let R = text-read l c e h k in
+    record {
+      tells = record {
+        is = text-so l c e h k m t i f;
+        bytes = λ v q. rw j (taken (sym q ∙ R));
+        forward = omega arith;
+      };
+    }
+  where
+    taken : {v x : List ℕ} {u w : List ℕ} → _≡_ {A = Option (List ℕ × List ℕ)} (some (v, u)) (some (x, w)) → v ≡ x
+    taken {v} q = found (λ a b. v ≡ a) q refl
+
+module _ {l : ℕ} {c : Class} {s : List ℕ} {at : ℕ} where
+  pub span-key : {r : Span} → Spans l c s at r → {a e : ℕ} → r ≡ At a e → Keyed l c s at a e
+  span-key S h = rw h at (S .tells)
+
+  pub span-none : {r : Span} → Spans l c s at r → r ≡ No → Fine (text l c) s at skip.Broken
+  span-none S h = rw h at (S .tells)
+
+  pub span-is : {r : Span} → Spans l c s at r → {a e : ℕ} → r ≡ At a e → Fine (text l c) s at (skip.At e)
+  span-is S h = span-key S h .is
+
+  pub span-forward : {r : Span} → Spans l c s at r → {a e : ℕ} → r ≡ At a e → a ≤ e
+  span-forward S h = span-key S h .forward
+
+  pub span-within : {r : Span} → Spans l c s at r → {a e : ℕ} → r ≡ At a e → e ≤ length s
+  span-within S h = good (span-key S h .is) refl .within
+
+-- the key before, where there is one, and whether a key may follow
+abbrev pub known : Bool → List ℕ → ℕ → ℕ → Option (List ℕ)
+known first s a e = cond first none (some (take (e - a) (drop a s)))
+
+abbrev pub follows : Option (List ℕ) → List ℕ → Bool
+follows none x = true
+follows (some k) x = isLess (lexOf k x)
+
+module _ (first : Bool) (s : List ℕ) (a e : ℕ) (x : List ℕ) where
+  pub follows-first : first ≡ true → true ≡ follows (known first s a e) x
+  follows-first h = rw h refl
+
+  module _ (h : first ≡ false) (o : Order) (i : o ≡ lexOf (take (e - a) (drop a s)) x) where
+    pub follows-less : o ≡ Less → true ≡ follows (known first s a e) x
+    follows-less j = rw (h, ← i, j) refl
+
+    pub follows-same : o ≡ Same → false ≡ follows (known first s a e) x
+    follows-same j = rw (h, ← i, j) refl
+
+    pub follows-more : o ≡ More → false ≡ follows (known first s a e) x
+    follows-more j = rw (h, ← i, j) refl
+
+-- AN ENTRY: a key, and a value, with a test on both; and where the key stands
+abbrev pub Entering : (l : ℕ) (c : Class) {g : Format} (t : Test (text l c & g)) (s : List ℕ) (at : ℕ) → Entry → Type 0
+Entering l c {g} t s at (entry.At a e q) = Keyed l c s at a e × Tested (text l c & g) t s at (skip.At q)
+Entering l c {g} t s at entry.No = Tested (text l c & g) t s at skip.Broken
+
+pub record Entered (l : ℕ) (c : Class) {g : Format} (t : Test (text l c & g)) (s : List ℕ) (at : ℕ) (r : Entry) : Type 0
+  where
+    pub tells : Entering l c t s at r
+
+module _ {l : ℕ} {c : Class} {g : Format} {t : Test (text l c & g)} {s : List ℕ} {at : ℕ} where
+  pub enter-no : Tested (text l c & g) t s at skip.Broken → Entered l c t s at entry.No
+  enter-no T = record { tells = T }
+
+  pub enter-bad : {x : Skip} → Tested (text l c & g) t s at x → x ≡ skip.Broken → Entered l c t s at entry.No
+  enter-bad T h = record { tells = rw h at T }
+
+  pub enter-so : {r : Span} → Spans l c s at r → {a e : ℕ} → r ≡ At a e → {x : Skip} → Tested (text l c & g) t s at x
+      → {q : ℕ} → x ≡ skip.At q → Entered l c t s at (entry.At a e q)
+  enter-so S h T i = record { tells = (span-key S h, rw i at T) }
+
+module _ {l : ℕ} {c : Class} {g : Format} {t : Test (text l c & g)} {s : List ℕ} {at : ℕ} {r : Entry}
+    (E : Entered l c t s at r) where
+  pub entered-none : r ≡ entry.No → Tested (text l c & g) t s at skip.Broken
+  entered-none h = rw h at (E .tells)
+
+  module _ {a e q : ℕ} (h : r ≡ entry.At a e q) where
+    both-told : Keyed l c s at a e × Tested (text l c & g) t s at (skip.At q)
+    both-told = rw h at (E .tells)
+
+    pub entered-key : Keyed l c s at a e
+    entered-key = both-told .0
+
+    pub entered-tested : Tested (text l c & g) t s at (skip.At q)
+    entered-tested = both-told .1
+
+    pub entered-forward : a ≤ e
+    entered-forward = entered-key .forward
+
+    pub entered-in : e ≤ length s
+    entered-in = good (entered-key .is) refl .within
+
+    pub entered-past : q ≤ length s
+    entered-past = good (entered-tested .is) refl .within
+
+-- a key and what is behind it, whose test may be by the key
+module _ {l : ℕ} {c : Class} {s : List ℕ} {at : ℕ} {r : Span} (S : Spans l c s at r) where
+  pub entry-no : {g : Format} (t : Test g) → r ≡ No → Tested (text l c & g) (behind (text l c) t) s at skip.Broken
+  entry-no t h = behind-no (span-none S h) t refl
+
+  pub entry-so : {g : Format} {t : Test g} {a e : ℕ} {x : Skip} → r ≡ At a e → Tested g t s e x
+      → Tested (text l c & g) (behind (text l c) t) s at x
+  entry-so h T = behind-so (span-key S h .is) refl T
+
+  pub keyed-no : {g : Format} (t : List ℕ → Test g) → r ≡ No
+      → Tested (text l c & g) (under (text l c) t) s at skip.Broken
+  keyed-no t h = under-no (span-none S h) t refl
+
+  pub keyed-so : {g : Format} {t : List ℕ → Test g} {a e : ℕ} {x : Skip} → r ≡ At a e
+      → Tested g (t (take (e - a) (drop a s))) s e x → Tested (text l c & g) (under (text l c) t) s at x
+  keyed-so {g} {t} {a} {e} {x} h T =
+      let K = span-key S h in
+      let G = good (K .is) refl in
+      let i : G .value ≡ take (e - a) (drop a s) = K .bytes (G .value) (G .reads) in
+      under-so (K .is) refl (rw i T)
+
+-- ENTRIES BY ASCENDING KEY. w is what a key adds to the sum, and d what the sum has to be
+module _ (l : ℕ) (c : Class) {g : Format} (t : Test (text l c & g)) (w : List ℕ → ℕ) (d : ℕ → Bool) where
+  abbrev pub climb : Walk (Option (List ℕ) × ℕ) (List ℕ × Value g)
+  climb =
+      record {
+        test = λ k e. follows (k .0) (e .0) && holds t e;
+        next = λ k e. (some (e .0), k .1 + w (e .0));
+        last = λ k. d (k .1);
+      }
+
+  pub record Climbs (n : ℕ) (s : List ℕ) (at : ℕ) (r : Skip) : Type 0 where
+    pub is : Walked (text l c & g) climb (none, 0) n s at r
+
+  pub record Climbing (n : ℕ) (s : List ℕ) (at : ℕ) (k : Option (List ℕ)) (m left p : ℕ) : Type 0 where
+    pub is : Ahead (text l c & g) climb (none, 0) n s at (k, m) left p
+
+  pub climbing-start : (n : ℕ) (s : List ℕ) (at a e : ℕ) → Climbing n s at (known true s a e) 0 n at
+  climbing-start n s at a e = record { is = record { on = λ x w. w } }
+
+-- where nothing is summed
+abbrev pub weightless : List ℕ → ℕ
+weightless k = 0
+
+abbrev pub whatever : ℕ → ℕ → Bool
+whatever n m = true
+
+-- a pair that is read begins with its first half
+begins : (a b : Format) (s : List ℕ) (v : Value a) (u : List ℕ) (w : Value (a & b)) (y : List ℕ)
+    → read a s ≡ some (v, u) → read (a & b) s ≡ some (w, y) → w .0 ≡ v
+begins a b s v u w y i j = go (read b u) (rw i at j)
+  where
+    go : (o : Option (Value b × List ℕ)) → bind o (λ z t. some ((v, z), t)) ≡ some (w, y) → w .0 ≡ v
+    go none e = none-some e
+    go (some z) e = found (λ p q. p .0 ≡ v) e refl
+
+second-no : (a b : Bool) → b ≡ false → (a && b) ≡ false
+second-no true b e = e
+second-no false b e = refl
+
+module _ {l : ℕ} {c : Class} {g : Format} {t : Test (text l c & g)} {w : List ℕ → ℕ} {d : ℕ → Bool} {n : ℕ} {s : List ℕ}
+    {at : ℕ} {k : Option (List ℕ)} {m left p : ℕ} (C : Climbing l c t w d n s at k m left p) where
+  pub climbing-end : left ≤ 0 → p ≤ length s → d m ≡ true → Climbs l c t w d n s at (skip.At p)
+  climbing-end z h f =
+      record { is = C .is .on (skip.At p) (walk-end (text l c & g) (climb l c t w d) (k, m) s p left z h f) }
+
+  pub climbing-sum : left ≤ 0 → d m ≡ false → Climbs l c t w d n s at skip.Broken
+  climbing-sum z f =
+      record { is = C .is .on skip.Broken (walk-bad (text l c & g) (climb l c t w d) (k, m) s p left z f) }
+
+  module _ (z : 0 < left) {r : Entry} (E : Entered l c t s p r) where
+    no : Missed (climb l c t w d .test (k, m)) (read (text l c & g) (drop p s)) → Climbs l c t w d n s at skip.Broken
+    no M = record { is = C .is .on skip.Broken (walk-no (text l c & g) (climb l c t w d) (k, m) s p left z M) }
+
+    pub climbing-bad : r ≡ entry.No → Climbs l c t w d n s at skip.Broken
+    climbing-bad h = no (go (missed (entered-none E h .is) refl))
+      where
+        go : Missed (holds t) (read (text l c & g) (drop p s))
+            → Missed (climb l c t w d .test (k, m)) (read (text l c & g) (drop p s))
+        go (absent q) = absent q
+        go (refused y q f) = refused y q (second-no (follows k (y .0 .0)) (holds t (y .0)) f)
+
+    module _ {a e q : ℕ} (h : r ≡ entry.At a e q) {b : Bool} (i : b ≡ follows k (take (e - a) (drop a s))) where
+      value : Good (read (text l c & g)) (holds t) s p q
+      value = good (entered-tested E h .is) refl
+
+      is-key : value .value .0 ≡ take (e - a) (drop a s)
+      is-key =
+          let K = entered-key E h in
+          let G = good (K .is) refl in
+          begins (text l c) g (drop p s) (G .value) (drop e s) (value .value) (drop q s) (G .reads) (value .reads)
+          ∙ K .bytes (G .value) (G .reads)
+
+      in-order : follows k (value .value .0) ≡ b
+      in-order = ap (follows k) is-key ∙ sym i
+
+      pub climbing-order : b ≡ false → Climbs l c t w d n s at skip.Broken
+      climbing-order j =
+          let o : follows k (value .value .0) ≡ false = in-order ∙ j in
+          no (refused (value .value, drop q s) (value .reads) (rw o refl))
+
+      on : b ≡ true → (y : ℕ) → y ≡ m + w (take (e - a) (drop a s))
+          → Climbing l c t w d n s at (known false s a e) y (left - 1) q
+      on j y f =
+          let o : follows k (value .value .0) ≡ true = in-order ∙ j in
+          record {
+            is = record {
+              on = λ x W.
+                  C .is .on x
+                  (walk-on (text l c & g) (climb l c t w d) (k, m) s p left z (value .value) q (value .reads)
+                  (rw (o, value .fits) refl) x (rw (is-key, ← f) W));
+            };
+          }
+
+      pub climbing-so : b ≡ true → {y : ℕ} → y ≡ w (take (e - a) (drop a s))
+          → Climbing l c t w d n s at (known false s a e) (m + y) (left - 1) q
+      climbing-so j {y} f = on j (m + y) (ap (λ x. m + x) f)
+
+pub climbing-on : {l : ℕ} {c : Class} {g : Format} {t : Test (text l c & g)} {n : ℕ} {s : List ℕ} {at : ℕ}
+    {k : Option (List ℕ)} {left p : ℕ} → Climbing l c t weightless (whatever n) n s at k 0 left p → 0 < left
+    → {r : Entry}
+    → Entered l c t s p r → {a e q : ℕ} → r ≡ entry.At a e q → {b : Bool} → b ≡ follows k (take (e - a) (drop a s))
+    → b ≡ true → Climbing l c t weightless (whatever n) n s at (known false s a e) 0 (left - 1) q
+climbing-on C z E h i j = on C z E h i j 0 refl
+
+-- what a walk finds is that all entries are good and ascend, and what the sum is
+abbrev pub weight : {A : Type 0} → (List ℕ → ℕ) → List (List ℕ × A) → ℕ
+weight w [] = 0
+weight w (e ∷ v) = w (e .0) + weight w v
+
+module _ (l : ℕ) (c : Class) {g : Format} (t : Test (text l c & g)) (w : List ℕ → ℕ) (d : ℕ → Bool) where
+  climbs-above : (k : List ℕ) (m : ℕ) (v : List (List ℕ × Value g))
+      → ((all (holds t) v && above texts k v) && d (m + weight w v)) ≡ runs (climb l c t w d) (some k, m) v
+  climbs-above k m [] = rw (add-zero m) refl
+  climbs-above k m (e ∷ v) =
+      let i : m + (w (e .0) + weight w v) ≡ m + w (e .0) + weight w v = omega arith in
+      ap (λ x. x && d (m + (w (e .0) + weight w v)))
+      (shuffle (holds t e) (all (holds t) v) (isLess (lexOf k (e .0))) (above texts (e .0) v))
+      ∙ and-assoc (isLess (lexOf k (e .0)) && holds t e) (all (holds t) v && above texts (e .0) v)
+      (d (m + (w (e .0) + weight w v)))
+      ∙ ap (λ x. (isLess (lexOf k (e .0)) && holds t e) && ((all (holds t) v && above texts (e .0) v) && d x)) i
+      ∙ ap (λ x. (isLess (lexOf k (e .0)) && holds t e) && x) (climbs-above (e .0) (m + w (e .0)) v)
+
+  climbs-all : (v : List (List ℕ × Value g))
+      → ((all (holds t) v && ascending texts v) && d (weight w v)) ≡ runs (climb l c t w d) (none, 0) v
+  climbs-all [] = refl
+  climbs-all (e ∷ v) =
+      let i : w (e .0) + weight w v ≡ 0 + w (e .0) + weight w v = omega arith in
+      ap (λ x. x && d (w (e .0) + weight w v)) (and-assoc (holds t e) (all (holds t) v) (above texts (e .0) v))
+      ∙ and-assoc (holds t e) (all (holds t) v && above texts (e .0) v) (d (w (e .0) + weight w v))
+      ∙ ap (λ x. holds t e && ((all (holds t) v && above texts (e .0) v) && d x)) i
+      ∙ ap (λ x. holds t e && x) (climbs-above (e .0) (0 + w (e .0)) v)
+
+-- at most m entries, each good, ascending by key, and a test of their number and the sum
+module _ (l : ℕ) (c : Class) {g : Format} (t : Test (text l c & g)) (w : List ℕ → ℕ) (d : ℕ → ℕ → Bool) (m : ℕ) where
+  abbrev pub climbsGood : List (List ℕ × Value g) → Bool
+  climbsGood v = leb (length v) m && ((all (holds t) v && ascending texts v) && d (length v) (weight w v))
+
+  abbrev pub climbTest : Test (list m (text l c & g))
+  climbTest = own (list m (text l c & g)) climbsGood
+
+  module _ {s : List ℕ} {at : ℕ} {o : Numeral} (e : Number s at o) where
+    pub climbs-no : o ≡ Bad → Tested (list m (text l c & g)) climbTest s at skip.Broken
+    climbs-no h = record { is = list-no m climbsGood refl e h }
+
+    module _ {n p : ℕ} (h : o ≡ Got n p) where
+      pub climbs-many : m < n → Tested (list m (text l c & g)) climbTest s at skip.Broken
+      climbs-many k =
+          record { is = list-over m climbsGood refl e h (λ v i. rw (lt-leb (length v) m i) refl) k }
+
+      pub climbs-so : n ≤ m → {x : Skip} → Climbs l c t w (d n) n s p x
+          → Tested (list m (text l c & g)) climbTest s at x
+      climbs-so k W = record { is = list-so m climbsGood refl e h runs-so (W .is) }
+        where
+          runs-so : (v : List (List ℕ × Value g)) → length v ≡ n → climbsGood v ≡ runs (climb l c t w (d n)) (none, 0) v
+          runs-so v i =
+              ap (λ x. leb x m && ((all (holds t) v && ascending texts v) && d x (weight w v))) i
+              ∙ rw (le-leb n m k) (climbs-all l c t w (d n) v)

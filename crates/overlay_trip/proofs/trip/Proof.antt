@@ -1,0 +1,65 @@
+use Rattle.formats_check.specs.laws.Checked.{behind-no, behind-so}
+use borrow.Author.Needs.{needs}
+use Rattle.overlay_trip.proofs.trip.Statement.{statement}
+use Rattle.overlay_trip.proofs.trip.Tie as tie
+
+optional-delay-requires : tie.Need-optional-delay-requires
+optional-delay-requires c κs = search needs
+
+enum-known-p : tie.Need-enum-known-p
+enum-known-p c = search needs
+
+enum-told : tie.Need-enum-told
+enum-told c = search needs
+
+returns : tie.Need-returns
+returns c = search behind-no
+
+flag-requires : tie.Need-flag-requires
+flag-requires c κs = search needs
+
+enum-known-q : tie.Need-enum-known-q
+enum-known-q c = search needs
+
+enum-told-2 : tie.Need-enum-told-2
+enum-told-2 c = search needs
+
+returns-2 : tie.Need-returns-2
+returns-2 c = search (behind-so, behind-no)
+
+printable-requires : tie.Need-printable-requires
+printable-requires c κs = search needs
+
+enum-known-u : tie.Need-enum-known-u
+enum-known-u c = search needs
+
+enum-told-3 : tie.Need-enum-told-3
+enum-told-3 c = search needs
+
+returns-3 : tie.Need-returns-3
+returns-3 c = search (behind-so, behind-no)
+
+from-route-requires : tie.Need-from-route-requires
+from-route-requires c κs = search needs
+
+returns-4 : tie.Need-returns-4
+returns-4 c = search behind-so
+
+pub trip-spec : {M : Type 1} → statement M
+trip-spec =
+    tie.close
+    (tie.spec
+    optional-delay-requires
+    enum-known-p
+    enum-told
+    returns
+    flag-requires
+    enum-known-q
+    enum-told-2
+    returns-2
+    printable-requires
+    enum-known-u
+    enum-told-3
+    returns-3
+    from-route-requires
+    returns-4)

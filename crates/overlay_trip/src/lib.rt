@@ -1,0 +1,227 @@
+// The record of a trip by checked reading: its updates, its parts, and the record whole.
+use formats::Numeral;
+use formats::Skip;
+use formats_check::flag;
+use formats_check::number_at;
+use formats_check::number_long;
+use formats_check::printable;
+ghost use Prim.Native.Nat.{_≤_};
+ghost use lib.ListN.{length};
+ghost use Rattle.formats.specs.Format.{small, list, optional, _&_};
+ghost use Rattle.decode.specs.Trip.{id, delay, instant, number32, stopUpdate, time, trip};
+ghost use Rattle.formats_check.specs.promises.Checked.{Checked, Fine, Tested};
+ghost use Rattle.formats_check.specs.laws.Rising.{Rises, ascend};
+ghost use Rattle.overlay_trip.specs.laws.Trip.{timeGood, routeGood, tripGood, Past};
+
+// Any 32 bits, by how a signed number is written.
+fn delay(s: &[u8], at: usize) -> Skip
+    ensures { λ r. ⌜ Fine delay (now (s .entry)) at r ⌝ }
+{
+    let Numeral::Got(n, p) = number_at(s, at) else {
+        return Skip::Broken;
+    };
+    if 4294967295 < n {
+        return Skip::Broken;
+    }
+    Skip::At(p)
+}
+
+pub fn instant(s: &[u8], at: usize) -> Skip
+    ensures { λ r. ⌜ Fine instant (now (s .entry)) at r ⌝ }
+{
+    let Numeral::Got(n, p) = number_at(s, at) else {
+        return Skip::Broken;
+    };
+    if n % 2 != 0 {
+        return Skip::Broken;
+    }
+    if 8204889600 < n {
+        return Skip::Broken;
+    }
+    Skip::At(p)
+}
+
+pub fn optional_delay(s: &[u8], at: usize) -> Skip
+    ensures { λ r. ⌜ Fine (optional delay) (now (s .entry)) at r ⌝ }
+{
+    if s.len() <= at {
+        return Skip::Broken;
+    }
+    let c = s[at];
+    if c == 0 {
+        return Skip::At(at + 1);
+    }
+    if c == 1 {
+        return delay(s, at + 1);
+    }
+    Skip::Broken
+}
+
+fn optional_instant(s: &[u8], at: usize) -> Skip
+    ensures { λ r. ⌜ Fine (optional instant) (now (s .entry)) at r ⌝ }
+{
+    if s.len() <= at {
+        return Skip::Broken;
+    }
+    let c = s[at];
+    if c == 0 {
+        return Skip::At(at + 1);
+    }
+    if c == 1 {
+        return instant(s, at + 1);
+    }
+    Skip::Broken
+}
+
+// Delay and time of one event, and what follows them in a stop's update.
+fn departure(s: &[u8], at: usize) -> Skip
+    ensures { λ r. ⌜ Fine (optional delay & optional instant & small 1) (now (s .entry)) at r ⌝ }
+{
+    let Skip::At(p) = optional_delay(s, at) else {
+        return Skip::Broken;
+    };
+    let Skip::At(q) = optional_instant(s, p) else {
+        return Skip::Broken;
+    };
+    flag(s, q)
+}
+
+fn arrival(s: &[u8], at: usize) -> Skip
+    ensures { λ r. ⌜ Fine (optional delay & optional instant & optional delay & optional instant & small 1)
+        (now (s .entry)) at r ⌝ }
+{
+    let Skip::At(p) = optional_delay(s, at) else {
+        return Skip::Broken;
+    };
+    let Skip::At(q) = optional_instant(s, p) else {
+        return Skip::Broken;
+    };
+    departure(s, q)
+}
+
+fn stop_update(s: &[u8], at: usize) -> Skip
+    ensures { λ r. ⌜ Fine stopUpdate (now (s .entry)) at r ⌝ }
+{
+    let Skip::At(p) = printable(64, s, at) else {
+        return Skip::Broken;
+    };
+    arrival(s, p)
+}
+
+// n updates one after another, ascending by sequence: the walk keeps the least that the next may have.
+fn updates_from(n: u64, s: &[u8], at: usize) -> Skip
+    requires { ⌜ at ≤ length (now s) ⌝ }
+    ensures { λ r. ⌜ Rises 4294967295 stopUpdate 0 n (now (s .entry)) at r ⌝ }
+{
+    let mut p = at;
+    let mut left = n;
+    let mut low: u64 = 0;
+    while 0 < left {
+        let Numeral::Got(k, q) = number_at(s, p) else {
+            return Skip::Broken;
+        };
+        if k < low {
+            return Skip::Broken;
+        }
+        if 4294967295 < k {
+            return Skip::Broken;
+        }
+        let Skip::At(e) = stop_update(s, q) else {
+            return Skip::Broken;
+        };
+        p = e;
+        low = k + 1;
+        left -= 1;
+    }
+    Skip::At(p)
+}
+
+// The updates of a trip: at most 128, each good, ascending by sequence.
+fn updates(s: &[u8], at: usize) -> Skip
+    ensures { λ r. ⌜ Checked (list 128 (number32 & stopUpdate)) (ascend 128 4294967295 stopUpdate)
+        (now (s .entry)) at r ⌝ }
+{
+    let Numeral::Got(n, p) = number_long(s, at) else {
+        return Skip::Broken;
+    };
+    if 128 < n {
+        return Skip::Broken;
+    }
+    updates_from(n, s, p)
+}
+
+fn number32(s: &[u8], at: usize) -> Skip
+    ensures { λ r. ⌜ Fine number32 (now (s .entry)) at r ⌝ }
+{
+    let Numeral::Got(n, p) = number_at(s, at) else {
+        return Skip::Broken;
+    };
+    if 4294967295 < n {
+        return Skip::Broken;
+    }
+    Skip::At(p)
+}
+
+pub fn optional_number32(s: &[u8], at: usize) -> Skip
+    ensures { λ r. ⌜ Fine (optional number32) (now (s .entry)) at r ⌝ }
+{
+    if s.len() <= at {
+        return Skip::Broken;
+    }
+    let c = s[at];
+    if c == 0 {
+        return Skip::At(at + 1);
+    }
+    if c == 1 {
+        return number32(s, at + 1);
+    }
+    Skip::Broken
+}
+
+// The record of a trip from its start time on, from its route on, and whole.
+fn from_time(s: &[u8], at: usize) -> Skip
+    ensures { λ r. ⌜ Tested (time & list 128 (number32 & stopUpdate)) timeGood (now (s .entry)) at r ⌝ }
+{
+    let Skip::At(p) = printable(16, s, at) else {
+        return Skip::Broken;
+    };
+    updates(s, p)
+}
+
+fn from_route(s: &[u8], at: usize) -> Skip
+    ensures { λ r. ⌜ Tested (id & optional number32 & time & list 128 (number32 & stopUpdate)) routeGood
+        (now (s .entry)) at r ⌝ }
+{
+    let Skip::At(p) = printable(64, s, at) else {
+        return Skip::Broken;
+    };
+    let Skip::At(q) = optional_number32(s, p) else {
+        return Skip::Broken;
+    };
+    from_time(s, q)
+}
+
+pub fn trip(s: &[u8], at: usize) -> Skip
+    ensures { λ r. ⌜ Tested trip tripGood (now (s .entry)) at r ⌝ }
+{
+    let Skip::At(p) = optional_delay(s, at) else {
+        return Skip::Broken;
+    };
+    let Skip::At(q) = flag(s, p) else {
+        return Skip::Broken;
+    };
+    let Skip::At(u) = printable(16, s, q) else {
+        return Skip::Broken;
+    };
+    from_route(s, u)
+}
+
+// The place past a good record that stands at `at`.
+pub fn past_trip(s: &[u8], at: usize) -> usize
+    ensures { λ r. ⌜ Past (now (s .entry)) at r ⌝ }
+{
+    match trip(s, at) {
+        Skip::At(p) => p,
+        Skip::Broken => 0,
+    }
+}
