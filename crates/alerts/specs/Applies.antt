@@ -83,7 +83,8 @@ railModes =
 abbrev pub is-rail-like-mode : List ℕ → Bool
 is-rail-like-mode mode = any (same (upper mode)) railModes
 
--- accented letters of the Latin-1 block, C3 and a byte in UTF-8, become plain capitals; then ASCII letters become capitals
+-- accented letters of the Latin-1 block, C3 and a byte in UTF-8, become plain capitals; then ASCII letters become
+-- capitals
 abbrev pub codes : String → List ℕ
 codes String.[] = []
 codes (String._∷_ c s) = code c ∷ codes s

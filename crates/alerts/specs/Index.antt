@@ -29,7 +29,8 @@ abbrev pub nonempty : List (List ℕ) → List (List ℕ)
 nonempty [] = []
 nonempty (x ∷ l) = cond (isEmpty x) [] (x ∷ l)
 
--- A map from keys to alert numbers: `entry(k).or_default().push(i)`, and `numbersAt`, where a missing key has no numbers
+-- A map from keys to alert numbers: `entry(k).or_default().push(i)`, and `numbersAt`, where a missing key has no
+-- numbers
 abbrev pub Map : Type 0
 Map = List (List ℕ × List ℕ)
 

@@ -29,7 +29,8 @@ yearFrom (suc more) year day =
 abbrev pub yearOf : ℕ → YearDay
 yearOf n = yearFrom 400 (1970 + n / 146097 * 400) (n % 146097)
 
--- `day` days after the first of `month`, whose days and those of the months behind it are given (no day of a year is behind them all)
+-- `day` days after the first of `month`, whose days and those of the months behind it are given (no day of a year is
+-- behind them all)
 unfoldable pub monthFrom : ℕ → List ℕ → ℕ → ℕ → Date
 monthFrom year [] month day = record { year = year; month = month; day = day }
 monthFrom year (days ∷ more) month day =

@@ -24,7 +24,8 @@ payload = text 2048 any
 abbrev pub middle : Format
 middle = id & scheduled & scheduled & optional cardTime & optional cardTime
 
--- mode, short name, route, trip; direction; from, to stop; two sequences; scheduled departure, arrival; realtime departure, arrival; delays likewise;
+-- mode, short name, route, trip; direction; from, to stop; two sequences; scheduled departure, arrival; realtime
+-- departure, arrival; delays likewise;
 -- cancelled; latitude, longitude, updated; middle stops; payload
 abbrev pub transit : Format
 transit =

@@ -44,7 +44,8 @@ abbrev pub updated : Event → ℤ → Trip → Option StopUpdate → StopRealti
 updated e at t none = delayed at (eqb (cancelledOf t) 1) (delayOf t)
 updated e at t (some u) = timed at (eventTime e u) (delayed at true (orOther (eventDelay e u) (delayOf t)))
 
--- APPLY_TIME: an event at a stop, by its sequence where one is given, else by the stop id. No record leaves it as scheduled
+-- APPLY_TIME: an event at a stop, by its sequence where one is given, else by the stop id. No record leaves it as
+-- scheduled
 unfoldable pub apply-time : Option Found → Event → ℤ → Maybe ℕ → List ℕ → StopRealtime
 apply-time none e at sequence stop = delayed at false (inl tt)
 apply-time (some r) e at sequence stop = updated e at (r .1) (find-stop-update (r .0) sequence stop (r .1))

@@ -38,7 +38,8 @@ unfoldable pub withoutStale : ℤ → Vehicles → Vehicles
 withoutStale clock [] = []
 withoutStale clock (e ∷ l) = cond (ltZ (updatedOf (e .1)) (clock -ℤ pos 900)) (withoutStale clock l) (e ∷ withoutStale clock l)
 
--- A VEHICLE SHEET: its entries over old ones, then the stale ones go; the count is of all keys, and the version goes on by one
+-- A VEHICLE SHEET: its entries over old ones, then the stale ones go; the count is of all keys, and the version goes
+-- on by one
 unfoldable pub afterVehicles : List ℕ → Vehicles → ℤ → State → State
 afterVehicles f entries clock s =
     let F = feedAt f s in

@@ -43,7 +43,8 @@ abbrev pub ifRead : {A B : Type 0} → Option A → B → (A → B) → B
 ifRead none b k = b
 ifRead (some a) b k = k a
 
--- a message empties the feed's trips unless DIFFERENTIAL; then each entity's record, in order, goes in at its keys, over old ones, deleted entities
+-- a message empties the feed's trips unless DIFFERENTIAL; then each entity's record, in order, goes in at its keys,
+-- over old ones, deleted entities
 -- passed over (`leaves`)
 abbrev pub messageEnters : List ℕ → Tree → Book → Book
 messageEnters f t bk =

@@ -8,8 +8,10 @@ use Rattle.realtime.specs.Schema.{feedMessage, feed}
 use Rattle.realtime.specs.Gains.{Gains}
 use Rattle.panel.specs.Calls.{Call, message}
 
--- a call of the second run beside one of the first, which returned n: the same arguments; or a message that gained fields, where the first run's was
--- accepted and the second's is not too long. Overlays are each run's own, and of output and working buffers only the lengths are arguments
+-- a call of the second run beside one of the first, which returned n: the same arguments; or a message that gained
+-- fields, where the first run's was
+-- accepted and the second's is not too long. Overlays are each run's own, and of output and working buffers only the
+-- lengths are arguments
 pub data Alike : Call → ℕ → Call → Type 0 where
   equal : {c : Call} {n : ℕ} → Alike c n c
   gained : {f m m′ : List ℕ} {new : ℕ} {work : List ℕ} {n : ℕ} → Gains feed feedMessage m m′ → n ≡ 0 → length m′ ≤ 1048576

@@ -24,7 +24,8 @@ header m = record {
 abbrev pub deleted : Tree → Bool
 deleted e = someAnd bool (numberIn (last 2 e))
 
--- The trip of an entity, by all its trip_updates, 3, and their trips, 1: trip_id 1, start_time 2, start_date 3, schedule_relationship 4, CANCELED is 3,
+-- The trip of an entity, by all its trip_updates, 3, and their trips, 1: trip_id 1, start_time 2, start_date 3,
+-- schedule_relationship 4, CANCELED is 3,
 -- route_id 5, direction_id 6; the delay, 5, of the trip_updates. An absent text is empty
 pub record TripView : Type 0 where
   pub id : List ℕ
@@ -49,7 +50,8 @@ tripView d u = record {
 abbrev pub trip : Tree → TripView
 trip e = tripView (sub 1 (sub 3 e)) (sub 3 e)
 
--- A stop_time_update: stop_sequence 1, arrival 2, departure 3, stop_id 4, schedule_relationship 5, SKIPPED is 1. Of an event: delay 1, time 2
+-- A stop_time_update: stop_sequence 1, arrival 2, departure 3, stop_id 4, schedule_relationship 5, SKIPPED is 1. Of
+-- an event: delay 1, time 2
 pub record EventView : Type 0 where
   pub delay : Option ℤ
   pub time : Option ℤ
