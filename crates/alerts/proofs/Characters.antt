@@ -27,26 +27,33 @@ pub record Passed (s : List ℕ) (n left i : ℕ) : Type 0 where
 pub start : (s : List ℕ) (n : ℕ) → Passed s n n 0
 start s n = record { within = omega arith; whole = refl }
 
-first-byte : (left b : ℕ) (t : List ℕ) → continues b ≡ false → 0 < left → characters left (b ∷ t) ≡ b ∷ characters (left - 1) t
+first-byte : (left b : ℕ) (t : List ℕ) → continues b ≡ false → 0 < left
+    → characters left (b ∷ t) ≡ b ∷ characters (left - 1) t
 first-byte zero b t e h = absurd (omega arith)
 first-byte (suc left) b t e h = rw e (ap (λ k. b ∷ characters k t) (omega arith))
 
 -- one byte more is passed
 one-more : (s : List ℕ) (n left left′ i : ℕ) → Passed s n left i → i < length s
-    → characters left (getD s i 0 ∷ drop (suc i) s) ≡ getD s i 0 ∷ characters left′ (drop (suc i) s) → Passed s n left′ (i + 1)
+    → characters left (getD s i 0 ∷ drop (suc i) s) ≡ getD s i 0 ∷ characters left′ (drop (suc i) s)
+    → Passed s n left′ (i + 1)
 one-more s n left left′ i p h e = record {
   within = omega arith;
-  whole = rw (add-one, take-suc s i 0) (p .whole ∙ ap (λ l. take i s ++ l) (ap (characters left) (drop-cons s i 0 h) ∙ e) ∙ sym (append-assoc (take i s) (getD s i 0 ∷ []) (characters left′ (drop (suc i) s))));
+  whole = rw (add-one, take-suc s i 0)
+      (p .whole ∙ ap (λ l. take i s ++ l) (ap (characters left) (drop-cons s i 0 h) ∙ e)
+      ∙ sym (append-assoc (take i s) (getD s i 0 ∷ []) (characters left′ (drop (suc i) s))));
 }
 
-pub goes-on : (s : List ℕ) (n left i : ℕ) → Passed s n left i → i < length s → continues (getD s i 0) ≡ true → Passed s n left (i + 1)
+pub goes-on : (s : List ℕ) (n left i : ℕ) → Passed s n left i → i < length s → continues (getD s i 0) ≡ true
+    → Passed s n left (i + 1)
 goes-on s n left i p h e = one-more s n left left i p h (on-byte left (getD s i 0) (drop (suc i) s) e)
 
-pub begins : (s : List ℕ) (n left i : ℕ) → Passed s n left i → i < length s → continues (getD s i 0) ≡ false → 0 < left → Passed s n (left - 1) (i + 1)
+pub begins : (s : List ℕ) (n left i : ℕ) → Passed s n left i → i < length s → continues (getD s i 0) ≡ false → 0 < left
+    → Passed s n (left - 1) (i + 1)
 begins s n left i p h e k = one-more s n left (left - 1) i p h (first-byte left (getD s i 0) (drop (suc i) s) e k)
 
 -- the end: no character is left, or no byte
-pub stops : (s : List ℕ) (n left i : ℕ) → Passed s n left i → i < length s → continues (getD s i 0) ≡ false → left ≡ 0 → Ends s n i
+pub stops : (s : List ℕ) (n left i : ℕ) → Passed s n left i → i < length s → continues (getD s i 0) ≡ false → left ≡ 0
+    → Ends s n i
 stops s n left i p h e z = record {
   within = p .within;
   taken = sym (p .whole ∙ ap (λ l. take i s ++ l) (rw (z, drop-cons s i 0, e) refl) ∙ append-nil (take i s));

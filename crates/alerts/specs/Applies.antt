@@ -11,9 +11,11 @@ use Prim.Native.Char.{code}
 use lib.Dec.{leb, eqb}
 use lib.ListN.{length, take, drop}
 use Rattle.basics.specs.Lists.{all, any, member, filter, isEmpty}
-use Rattle.alerts.specs.Text.{text, begins, ends, contains, find, upperByte, upper, sameIgnoringCase, digit, alphanumeric, trim, split}
+use Rattle.alerts.specs.Text.{text, begins, ends, contains, find, upperByte, upper, sameIgnoringCase, digit}
+use Rattle.alerts.specs.Text.{alphanumeric, trim, split}
 use Rattle.basics.specs.Texts.{same}
-use Rattle.alerts.specs.Alert.{Alert, header, description, cause, informed-trip-ids, informed-route-ids, informed-stop-ids, orEmptyText}
+use Rattle.alerts.specs.Alert.{Alert, header, description, cause, informed-trip-ids, informed-route-ids}
+use Rattle.alerts.specs.Alert.{informed-stop-ids, orEmptyText}
 use Rattle.alerts.specs.Index.{undated, tail}
 
 -- the product code in an id: the first run of letters and digits that is C and 4 to 7 digits
@@ -58,14 +60,16 @@ route-refs-match leg informed =
     (decided (product-code-token leg) (product-code-token informed) (tails-match (segment leg) (segment informed))))
 
 abbrev pub short-names-equal : List ℕ → List ℕ → Bool
-short-names-equal leg other = cond (isEmpty (trim leg) || isEmpty (trim other)) false (sameIgnoringCase (trim leg) (trim other))
+short-names-equal leg other =
+    cond (isEmpty (trim leg) || isEmpty (trim other)) false (sameIgnoringCase (trim leg) (trim other))
 
 -- road traffic
 abbrev pub hasText : List ℕ → String → Bool
 hasText blob s = contains (text s) blob
 
 abbrev pub roadBlob : Alert → List ℕ
-roadBlob a = upper (orEmptyText (header a) ++ text " " ++ orEmptyText (description a) ++ text " " ++ orEmptyText (cause a))
+roadBlob a =
+    upper (orEmptyText (header a) ++ text " " ++ orEmptyText (description a) ++ text " " ++ orEmptyText (cause a))
 
 abbrev pub road-traffic : List ℕ → Bool
 road-traffic blob =
@@ -189,7 +193,8 @@ is-secondary-line-context blob short =
 abbrev pub primaryRows : List (String × String)
 primaryRows =
     ("RER ", "") ∷ ("RER", "") ∷ ("METRO ", "") ∷ ("TRAVAUX SUR LES RER ", "") ∷ ("TRAVAUX SUR LE RER ", "")
-    ∷ ("INCIDENT LIGNE ", "") ∷ ("LIGNE ", " :") ∷ ("LIGNE ", " -") ∷ ("LIGNE ", " INTERRUPT") ∷ ("LIGNE ", " TRAFIC") ∷ []
+    ∷ ("INCIDENT LIGNE ", "") ∷ ("LIGNE ", " :") ∷ ("LIGNE ", " -") ∷ ("LIGNE ", " INTERRUPT") ∷ ("LIGNE ", " TRAFIC")
+    ∷ []
 
 abbrev pub is-primary-context : List ℕ → List ℕ → Bool
 is-primary-context blob short =
@@ -239,7 +244,8 @@ mappedShort (some code) = idfm-product-to-short code
 
 abbrev pub same-line : Option (List ℕ) → List ℕ → List ℕ → Option (List ℕ) → Bool
 same-line leg short code none = false
-same-line leg short code (some name) = short-names-equal short name && (isText leg code || isText (mappedShort leg) name)
+same-line leg short code (some name) =
+    short-names-equal short name && (isText leg code || isText (mappedShort leg) name)
 
 abbrev pub by-product : Option (List ℕ) → List ℕ → Option (List ℕ) → Bool
 by-product leg short none = false

@@ -7,7 +7,8 @@ use Prim.Native.Nat.{ℕ, zero, suc, _+_, _-_, _≤_, _<_}
 use native.Mathlib.Numerals.{add-one}
 use native.Mathlib.Omega.{arith}
 use lib.Dec.{leb, eqb}
-use lib.ListN.{length, getD, take, drop, set, length-set, length-append, length-map, drop-of-length-le, take-append-drop}
+use lib.ListN.{length, getD, take, drop, set, length-set, length-append, length-map, drop-of-length-le}
+use lib.ListN.{take-append-drop}
 use lib.Seq.{drop-cons, take-suc-set, take-append-seam, take-at, drop-at, length-take-le}
 use borrow.Author.Tests.{le-leb, lt-leb, leb-true, eq-eqb, ne-eqb, eqb-true, eqb-false, not-true, not-false}
 use Rattle.basics.specs.laws.Options.{none-some}
@@ -45,8 +46,10 @@ at-below (suc n) p k e h = go (eqb k n) refl (at-below n p k (and-true {x = p n}
 -- the table of plain capitals, for every byte
 abbrev pub capitals : List ℕ
 capitals =
-    65 ∷ 65 ∷ 65 ∷ 0 ∷ 65 ∷ 0 ∷ 0 ∷ 67 ∷ 69 ∷ 69 ∷ 69 ∷ 69 ∷ 0 ∷ 73 ∷ 73 ∷ 73 ∷ 0 ∷ 0 ∷ 0 ∷ 79 ∷ 79 ∷ 0 ∷ 79 ∷ 0 ∷ 0 ∷ 85 ∷ 85 ∷ 85 ∷ 85 ∷ 0 ∷ 0 ∷ 0
-    ∷ 65 ∷ 65 ∷ 65 ∷ 0 ∷ 65 ∷ 0 ∷ 0 ∷ 67 ∷ 69 ∷ 69 ∷ 69 ∷ 69 ∷ 0 ∷ 73 ∷ 73 ∷ 73 ∷ 0 ∷ 0 ∷ 0 ∷ 79 ∷ 79 ∷ 0 ∷ 79 ∷ 0 ∷ 0 ∷ 85 ∷ 85 ∷ 85 ∷ 85 ∷ 0 ∷ 0 ∷ 0 ∷ []
+    65 ∷ 65 ∷ 65 ∷ 0 ∷ 65 ∷ 0 ∷ 0 ∷ 67 ∷ 69 ∷ 69 ∷ 69 ∷ 69 ∷ 0 ∷ 73 ∷ 73 ∷ 73 ∷ 0 ∷ 0 ∷ 0 ∷ 79 ∷ 79 ∷ 0 ∷ 79 ∷ 0 ∷ 0
+    ∷ 85 ∷ 85 ∷ 85 ∷ 85 ∷ 0 ∷ 0 ∷ 0
+    ∷ 65 ∷ 65 ∷ 65 ∷ 0 ∷ 65 ∷ 0 ∷ 0 ∷ 67 ∷ 69 ∷ 69 ∷ 69 ∷ 69 ∷ 0 ∷ 73 ∷ 73 ∷ 73 ∷ 0 ∷ 0 ∷ 0 ∷ 79 ∷ 79 ∷ 0 ∷ 79 ∷ 0 ∷ 0
+    ∷ 85 ∷ 85 ∷ 85 ∷ 85 ∷ 0 ∷ 0 ∷ 0 ∷ []
 
 capital : ℕ → ℕ
 capital b = cond (leb 128 b && leb b 191) (getD capitals (b - 128) 0) 0
@@ -70,17 +73,21 @@ pub plain-high : (a b : ℕ) → a ≡ 0xc3 → b < 256 → 128 ≤ b → 191 < 
 unfolding capital
 plain-high a b h g l m = sym (rw (eq-eqb a 0xc3 h) (sym (capital-is b g) ∙ rw (le-leb 128 b l, lt-leb b 191 m) refl))
 
-pub plain-table : (a b : ℕ) → a ≡ 0xc3 → b < 256 → 128 ≤ b → b ≤ 191 → getD capitals (b - 128) 0 ≡ letterOf (unaccented a b)
+pub plain-table : (a b : ℕ) → a ≡ 0xc3 → b < 256 → 128 ≤ b → b ≤ 191
+    → getD capitals (b - 128) 0 ≡ letterOf (unaccented a b)
 unfolding capital
 plain-table a b h g l m = sym (rw (eq-eqb a 0xc3 h) (sym (capital-is b g) ∙ rw (le-leb 128 b l, le-leb b 191 m) refl))
 
 -- no letter is 0, so that 0 says none
-plain-some : (c l : ℕ) (rows : List (ℕ × List ℕ)) → all (λ r. leb 1 (r .0)) rows ≡ true → plainLetter c rows ≡ some l → 1 ≤ l
+plain-some : (c l : ℕ) (rows : List (ℕ × List ℕ)) → all (λ r. leb 1 (r .0)) rows ≡ true → plainLetter c rows ≡ some l
+    → 1 ≤ l
 plain-some c l [] e h = none-some h
 plain-some c l (row ∷ rows) e h = go (member c (row .1)) h (plain-some c l rows (and-true {x = leb 1 (row .0)} e .1))
   where
-    go : (t : Bool) → cond t (some (row .0)) (plainLetter c rows) ≡ some l → (plainLetter c rows ≡ some l → 1 ≤ l) → 1 ≤ l
-    go true x ih = let same-letter : row .0 ≡ l = cc in omega (arith, leb-true 1 (row .0) (and-true {x = leb 1 (row .0)} e .0))
+    go : (t : Bool) → cond t (some (row .0)) (plainLetter c rows) ≡ some l → (plainLetter c rows ≡ some l → 1 ≤ l)
+        → 1 ≤ l
+    go true x ih = let same-letter : row .0 ≡ l = cc in
+        omega (arith, leb-true 1 (row .0) (and-true {x = leb 1 (row .0)} e .0))
     go false x ih = ih x
 
 letter-none : (a b : ℕ) → letterOf (unaccented a b) ≡ 0 → unaccented a b ≡ none
@@ -90,7 +97,8 @@ letter-none a b e = go (eqb a 0xc3) e
     row none x h = refl
     row (some l) x h = absurd (omega (arith, h, plain-some (b + 64) l accents refl x))
 
-    go : (t : Bool) → letterOf (cond t (plainLetter (b + 64) accents) none) ≡ 0 → cond t (plainLetter (b + 64) accents) none ≡ none
+    go : (t : Bool) → letterOf (cond t (plainLetter (b + 64) accents) none) ≡ 0
+        → cond t (plainLetter (b + 64) accents) none ≡ none
     go true h = row (plainLetter (b + 64) accents) refl h
     go false h = refl
 
@@ -103,14 +111,16 @@ letter-some a b l e h = go (unaccented a b) e
 
 -- a place gives one byte, or a letter of two
 module _ (s : List ℕ) (i : ℕ) (h : i < length s) (b next : ℕ) where
-  pub read-capital : (fold : Bool) → not fold ≡ true → (b ≡ upperByte (getD s i 0)) × (next ≡ i + 1) → Stepped s i fold b next
+  pub read-capital : (fold : Bool) → not fold ≡ true → (b ≡ upperByte (getD s i 0)) × (next ≡ i + 1)
+      → Stepped s i fold b next
   read-capital fold f g = rw (not-true fold f) record {
     past = omega (arith, g .1);
     within = omega (arith, g .1);
     made = rw (g .0, g .1, add-one i, drop-cons s i 0) refl;
   }
 
-  pub read-last : (fold : Bool) → not fold ≡ false → length s ≤ i + 1 → (b ≡ upperByte (getD s i 0)) × (next ≡ i + 1) → Stepped s i fold b next
+  pub read-last : (fold : Bool) → not fold ≡ false → length s ≤ i + 1 → (b ≡ upperByte (getD s i 0)) × (next ≡ i + 1)
+      → Stepped s i fold b next
   read-last fold f l g = rw (not-false fold f) record {
     past = omega (arith, g .1);
     within = omega (arith, g .1);
@@ -120,13 +130,15 @@ module _ (s : List ℕ) (i : ℕ) (h : i < length s) (b next : ℕ) where
   two : i + 1 < length s → drop i s ≡ getD s i 0 ∷ getD s (i + 1) 0 ∷ drop (i + 1 + 1) s
   two l = drop-cons s i 0 h ∙ rw (add-one (i + 1), ← add-one i) (ap (λ t. getD s i 0 ∷ t) (drop-cons s (i + 1) 0 l))
 
-  pub read-single : (fold : Bool) (l : ℕ) → not fold ≡ false → i + 1 < length s → l ≡ letterOf (unaccented (getD s i 0) (getD s (i + 1) 0)) → l ≡ 0
+  pub read-single : (fold : Bool) (l : ℕ) → not fold ≡ false → i + 1 < length s
+      → l ≡ letterOf (unaccented (getD s i 0) (getD s (i + 1) 0)) → l ≡ 0
       → (b ≡ upperByte (getD s i 0)) × (next ≡ i + 1) → Stepped s i fold b next
   read-single fold l f m e z g = rw (not-false fold f) record {
     past = omega (arith, g .1);
     within = omega (arith, g .1);
     made = ap fold-alert-blob (two m)
-        ∙ ap (λ o. folded o (getD s i 0) (fold-alert-blob (drop (i + 1 + 1) s)) (fold-alert-blob (getD s (i + 1) 0 ∷ drop (i + 1 + 1) s)))
+        ∙ ap (λ o. folded o (getD s i 0) (fold-alert-blob (drop (i + 1 + 1) s))
+        (fold-alert-blob (getD s (i + 1) 0 ∷ drop (i + 1 + 1) s)))
         (letter-none (getD s i 0) (getD s (i + 1) 0) (sym e ∙ z))
         ∙ rw (g .0, g .1, drop-cons s (i + 1) 0, add-one (i + 1)) refl;
   }
@@ -139,7 +151,8 @@ read-letter s i l fold f m e z =
       past = omega arith;
       within = omega arith;
       made = ap fold-alert-blob (two s i h 0 0 m)
-          ∙ ap (λ o. folded o (getD s i 0) (fold-alert-blob (drop (i + 1 + 1) s)) (fold-alert-blob (getD s (i + 1) 0 ∷ drop (i + 1 + 1) s)))
+          ∙ ap (λ o. folded o (getD s i 0) (fold-alert-blob (drop (i + 1 + 1) s))
+          (fold-alert-blob (getD s (i + 1) 0 ∷ drop (i + 1 + 1) s)))
           (letter-some (getD s i 0) (getD s (i + 1) 0) l e z);
     }
 
@@ -153,8 +166,10 @@ pub record Writing (old out : List ℕ) (at : ℕ) (s : List ℕ) (fold : Bool) 
 pub writing-start : (old : List ℕ) (at : ℕ) (s : List ℕ) (fold : Bool) → Writing old old at s fold 0 at
 writing-start old at s fold = record { kept = refl; within = omega arith; room = omega arith; made = refl }
 
-pub writing-more : (old out : List ℕ) (at : ℕ) (s : List ℕ) (fold : Bool) (i k b next : ℕ) → Writing old out at s fold i k
-    → at + length s ≤ length old → i < length s → Stepped s i fold b next → Writing old (set out k b) at s fold next (k + 1)
+pub writing-more : (old out : List ℕ) (at : ℕ) (s : List ℕ) (fold : Bool) (i k b next : ℕ)
+    → Writing old out at s fold i k
+    → at + length s ≤ length old → i < length s → Stepped s i fold b next
+    → Writing old (set out k b) at s fold next (k + 1)
 writing-more old out at s fold i k b next w r h e = record {
   kept = length-set out k b ∙ w .kept;
   within = e .within;
@@ -167,11 +182,13 @@ writing-more old out at s fold i k b next w r h e = record {
     one-more : take (k + 1) (set out k b) ≡ take k out ++ (b ∷ [])
     one-more = rw (add-one k) (take-suc-set out k b (omega (arith, w .room, w .kept)))
 
-pub written : (old out : List ℕ) (at : ℕ) (s : List ℕ) (fold : Bool) (i k : ℕ) → Writing old out at s fold i k → length s ≤ i → Written old out at s fold k
+pub written : (old out : List ℕ) (at : ℕ) (s : List ℕ) (fold : Bool) (i k : ℕ) → Writing old out at s fold i k
+    → length s ≤ i → Written old out at s fold k
 written old out at s fold i k w h = record {
   kept = w .kept;
   within = omega (arith, w .room, w .within);
-  made = sym (w .made ∙ rw (drop-of-length-le s h) (ap (λ l. take k out ++ l) (nothing fold) ∙ append-nil (take k out)));
+  made = sym
+      (w .made ∙ rw (drop-of-length-le s h) (ap (λ l. take k out ++ l) (nothing fold) ∙ append-nil (take k out)));
 }
   where
     nothing : (fold : Bool) → searched fold [] ≡ []
@@ -182,7 +199,8 @@ written old out at s fold i k w h = record {
 fold-joined : (h d : List ℕ) → fold-alert-blob (h ++ (32 ∷ d)) ≡ fold-alert-blob h ++ (32 ∷ fold-alert-blob d)
 fold-joined [] [] = refl
 fold-joined [] (x ∷ d) = refl
-fold-joined (a ∷ []) d = ap (λ o. folded o a (fold-alert-blob d) (fold-alert-blob (32 ∷ d))) (no-letter (eqb a 0xc3)) ∙ ap (λ l. upperByte a ∷ l) (fold-joined [] d)
+fold-joined (a ∷ []) d = ap (λ o. folded o a (fold-alert-blob d) (fold-alert-blob (32 ∷ d))) (no-letter (eqb a 0xc3))
+    ∙ ap (λ l. upperByte a ∷ l) (fold-joined [] d)
   where
     no-letter : (t : Bool) → cond t (plainLetter (32 + 64) accents) none ≡ none
     no-letter true = refl
@@ -212,7 +230,8 @@ none-searched false = refl
 searched-space : (f : Bool) (d : List ℕ) → searched f (32 ∷ d) ≡ 32 ∷ searched f d
 searched-space f d = searched-joined f [] d ∙ ap (λ l. l ++ (32 ∷ searched f d)) (none-searched f)
 
-pub next-written : (old new s : List ℕ) (f : Bool) (at r : ℕ) → at + length s < length old → Written (set old at 32) new (at + 1) s f r → Written old new at (32 ∷ s) f r
+pub next-written : (old new s : List ℕ) (f : Bool) (at r : ℕ) → at + length s < length old
+    → Written (set old at 32) new (at + 1) s f r → Written old new at (32 ∷ s) f r
 next-written old new s f at r room w = record {
   kept = w .kept ∙ length-set old at 32;
   within = omega (arith, w .within);
@@ -223,11 +242,13 @@ next-written old new s f at r room w = record {
     spaced : take (at + 1) (set old at 32) ≡ take at old ++ (32 ∷ [])
     spaced = rw (add-one at) (take-suc-set old at 32 (omega arith))
 
-pub both-written : (old one two s t : List ℕ) (f : Bool) (at a r : ℕ) → Written old one at s f a → Written one two a (32 ∷ t) f r → Written old two at (s ++ (32 ∷ t)) f r
+pub both-written : (old one two s t : List ℕ) (f : Bool) (at a r : ℕ) → Written old one at s f a
+    → Written one two a (32 ∷ t) f r → Written old two at (s ++ (32 ∷ t)) f r
 both-written old one two s t f at a r w v = record {
   kept = v .kept ∙ w .kept;
   within = omega (arith, w .within, v .within, length-append s (32 ∷ t));
-  made = v .made ∙ ap (λ l. l ++ searched f (32 ∷ t)) (w .made) ∙ append-assoc (take at old) (searched f s) (searched f (32 ∷ t))
+  made = v .made ∙ ap (λ l. l ++ searched f (32 ∷ t)) (w .made)
+      ∙ append-assoc (take at old) (searched f s) (searched f (32 ∷ t))
       ∙ ap (λ l. take at old ++ l) (ap (λ l. searched f s ++ l) (searched-space f t) ∙ sym (searched-joined f s t));
 }
 
@@ -236,7 +257,8 @@ fits-empty old h d [] e = record { kept = refl; is = refl }
 fits-empty old h d (b ∷ short) e = absurd (omega (arith, e))
 
 -- the short name stands behind the folded texts
-pub short-room : (old one h d short : List ℕ) (n : ℕ) → length h + length d + length short < length old → Written old one 0 (h ++ (32 ∷ d)) true n → n + length short ≤ length one
+pub short-room : (old one h d short : List ℕ) (n : ℕ) → length h + length d + length short < length old
+    → Written old one 0 (h ++ (32 ∷ d)) true n → n + length short ≤ length one
 short-room old one h d short n room b = omega (arith, b .within, b .kept, length-append h (32 ∷ d))
 
 module _ (old one two h d short : List ℕ) (n e : ℕ) (room : length h + length d + length short < length old)
@@ -262,23 +284,27 @@ module _ (old one two h d short : List ℕ) (n e : ℕ) (room : length h + lengt
   name-room = (omega (arith, name-ends), omega (arith, w .within, w .kept, b .within, b .kept, size))
 
   whole : two ≡ take n one ++ (upper short ++ drop e two)
-  whole = sym (take-append-drop e two) ∙ ap (λ l. l ++ drop e two) (w .made) ∙ append-assoc (take n one) (upper short) (drop e two)
+  whole = sym (take-append-drop e two) ∙ ap (λ l. l ++ drop e two) (w .made)
+      ∙ append-assoc (take n one) (upper short) (drop e two)
 
   name-stands : take (e - n) (drop n two) ≡ upper short
   name-stands =
       let long : e - n ≡ length (upper short) = omega (arith, name-ends, length-map short upperByte) in
-      let rest : drop n two ≡ upper short ++ drop e two = ap (drop n) whole ∙ drop-at (take n one) (upper short ++ drop e two) n front in
+      let rest : drop n two ≡ upper short ++ drop e two =
+      ap (drop n) whole ∙ drop-at (take n one) (upper short ++ drop e two) n front in
       rw (rest, long) (take-append-seam (upper short) (drop e two))
 
   blob-stands : take n two ≡ fold-alert-blob (h ++ text " " ++ d)
   blob-stands =
-      ap (take n) whole ∙ take-at (take n one) (upper short ++ drop e two) n front ∙ b .made ∙ ap fold-alert-blob (sym (append-assoc h (32 ∷ []) d))
+      ap (take n) whole ∙ take-at (take n one) (upper short ++ drop e two) n front ∙ b .made
+      ∙ ap fold-alert-blob (sym (append-assoc h (32 ∷ []) d))
 
   pub fits-text : (t : Bool) → (length short ≡ 0 → ⊥) → t ≡ okAt two n e → Answered old two t (fitsOf h d short)
   fits-text t z x = record { kept = w .kept ∙ b .kept; is = x ∙ rw (name-stands, blob-stands) (go short z) }
     where
       go : (s : List ℕ) → (length s ≡ 0 → ⊥)
-          → textOk (fold-alert-blob (h ++ text " " ++ d)) (commercial-lines-in-text (fold-alert-blob (h ++ text " " ++ d))) (upper s) ≡ fitsOf h d s
+          → textOk (fold-alert-blob (h ++ text " " ++ d))
+          (commercial-lines-in-text (fold-alert-blob (h ++ text " " ++ d))) (upper s) ≡ fitsOf h d s
       go [] z = absurd (z refl)
       go (b ∷ s) z = refl
 

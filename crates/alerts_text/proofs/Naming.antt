@@ -13,9 +13,11 @@ use Rattle.basics.specs.laws.Options.{none-some}
 use Rattle.basics.specs.Lists.{any, filter, isEmpty}
 use Rattle.basics.specs.Texts.{same}
 use Rattle.alerts.specs.Text.{text, begins, ends, contains, later, find}
-use Rattle.alerts.specs.Applies.{letters, numerals, trams, around, names, letterRows, names-number, names-tram, commercial-lines-in-text, anyMarker, window, markerNear, railModes}
+use Rattle.alerts.specs.Applies.{letters, numerals, trams, around, names, letterRows, names-number, names-tram}
+use Rattle.alerts.specs.Applies.{commercial-lines-in-text, anyMarker, window, markerNear, railModes}
 use Rattle.alerts.specs.promises.Reduced.{adviceMarkers, primary, secondary, textOk, road}
-use Rattle.alerts_text.specs.promises.Tables.{upTo, nameFilled, patterns, anyIn, lesser, allLines, mentions, nearMarker, otherSubject, answerOf}
+use Rattle.alerts_text.specs.promises.Tables.{upTo, nameFilled, patterns, anyIn, lesser, allLines, mentions}
+use Rattle.alerts_text.specs.promises.Tables.{nearMarker, otherSubject, answerOf}
 use Rattle.alerts_text.specs.declared.lines.Ask.{Ask}
 use Rattle.alerts_text.specs.declared.lines.Ask.the-variants.{Named, Own, Other, Advised}
 use Rattle.alerts_text.specs.declared.text.Found.{Found}
@@ -68,24 +70,34 @@ spaced-length n = omega (arith, ap length (append-nil n))
 pub spaced-short : (n s : List ℕ) → length s ≤ length n → false ≡ ends (around " " n "") s
 spaced-short n s h = sym (ends-long (around " " n "") s (omega (arith, spaced-length n)))
 
-pub spaced-end : (n s : List ℕ) (t : Bool) → length n < length s → t ≡ begins (around " " n "") (drop (length s - length n - 1) s) → t ≡ ends (around " " n "") s
-spaced-end n s t h e = e ∙ sym (ends-begins (around " " n "") s (length s - length n - 1) (omega (arith, spaced-length n)))
+pub spaced-end : (n s : List ℕ) (t : Bool) → length n < length s
+    → t ≡ begins (around " " n "") (drop (length s - length n - 1) s) → t ≡ ends (around " " n "") s
+spaced-end n s t h e =
+    e ∙ sym (ends-begins (around " " n "") s (length s - length n - 1) (omega (arith, spaced-length n)))
 
 -- numbers and trams
 module _ (s n : List ℕ) where
   number-is : names-number s n
-      ≡ anyIn (text "METRO #|METRO#|LIGNE #|LIGNES #") n s || (anyIn (text " # | #.| #,|ET #") n s || ends (around " " n "") s) && anyIn (text "LIGNE|METRO") n s
-  number-is = ap (λ x. anyIn (text "METRO #|METRO#|LIGNE #|LIGNES #") n s || (anyIn (text " # | #.| #,|ET #") n s || ends (around " " n "") s) && (contains (text "LIGNE") s || x)) (sym (or-false (contains (text "METRO") s)))
+      ≡ anyIn (text "METRO #|METRO#|LIGNE #|LIGNES #") n s
+      || (anyIn (text " # | #.| #,|ET #") n s || ends (around " " n "") s) && anyIn (text "LIGNE|METRO") n s
+  number-is =
+      ap (λ x. anyIn (text "METRO #|METRO#|LIGNE #|LIGNES #") n s
+      || (anyIn (text " # | #.| #,|ET #") n s || ends (around " " n "") s) && (contains (text "LIGNE") s || x))
+      (sym (or-false (contains (text "METRO") s)))
 
-  pub number-first : (t : Bool) → t ≡ anyIn (text "METRO #|METRO#|LIGNE #|LIGNES #") n s → t ≡ true → true ≡ names-number s n
+  pub number-first : (t : Bool) → t ≡ anyIn (text "METRO #|METRO#|LIGNE #|LIGNES #") n s → t ≡ true
+      → true ≡ names-number s n
   number-first t e h = sym (number-is ∙ rw (← e, h) refl)
 
   pub number-alone : (t u : Bool) → t ≡ anyIn (text "METRO #|METRO#|LIGNE #|LIGNES #") n s → t ≡ false
       → u ≡ anyIn (text "LIGNE|METRO") n s → not u ≡ true → false ≡ names-number s n
-  number-alone t u e h f g = sym (number-is ∙ rw (← e, h, ← f, not-true u g) (and-no (anyIn (text " # | #.| #,|ET #") n s || ends (around " " n "") s)))
+  number-alone t u e h f g =
+      sym (number-is ∙ rw (← e, h, ← f, not-true u g)
+      (and-no (anyIn (text " # | #.| #,|ET #") n s || ends (around " " n "") s)))
 
   pub number-bare : (t u v : Bool) → t ≡ anyIn (text "METRO #|METRO#|LIGNE #|LIGNES #") n s → t ≡ false
-      → u ≡ anyIn (text "LIGNE|METRO") n s → not u ≡ false → v ≡ anyIn (text " # | #.| #,|ET #") n s → v ≡ true → true ≡ names-number s n
+      → u ≡ anyIn (text "LIGNE|METRO") n s → not u ≡ false → v ≡ anyIn (text " # | #.| #,|ET #") n s → v ≡ true
+      → true ≡ names-number s n
   number-bare t u v e h f g k l = sym (number-is ∙ rw (← e, h, ← f, not-false u g, ← k, l) refl)
 
   pub number-last : (t u v w : Bool) → t ≡ anyIn (text "METRO #|METRO#|LIGNE #|LIGNES #") n s → t ≡ false
@@ -99,7 +111,8 @@ module _ (s n : List ℕ) where
   pub tram-not : (t : Bool) → t ≡ anyIn (text "#") n s → not t ≡ true → false ≡ names-tram s n
   tram-not t e h = sym (tram-is ∙ rw (← e, not-true t h) refl)
 
-  pub tram-then : (t u : Bool) → t ≡ anyIn (text "#") n s → not t ≡ false → u ≡ anyIn (text "TRAM| #") n s → u ≡ names-tram s n
+  pub tram-then : (t u : Bool) → t ≡ anyIn (text "#") n s → not t ≡ false → u ≡ anyIn (text "TRAM| #") n s
+      → u ≡ names-tram s n
   tram-then t u e h f = sym (tram-is ∙ rw (← e, not-false t h, ← f) refl)
 
 -- by the first byte of the name
@@ -128,26 +141,32 @@ lesser-within m n k h g = go (leb m n) refl
     go true e = (h, leb-true m n e)
     go false e = (g, omega arith)
 
-window-is : (s : List ℕ) (i n : ℕ) → i + n ≤ length s → take (lesser (i + n + 24) (length s) - (i - 48)) (drop (i - 48) s) ≡ window s i n
+window-is : (s : List ℕ) (i n : ℕ) → i + n ≤ length s
+    → take (lesser (i + n + 24) (length s) - (i - 48)) (drop (i - 48) s) ≡ window s i n
 window-is s i n h = go (leb (i + n + 24) (length s)) refl
   where
-    go : (t : Bool) → leb (i + n + 24) (length s) ≡ t → take (cond t (i + n + 24) (length s) - (i - 48)) (drop (i - 48) s) ≡ window s i n
+    go : (t : Bool) → leb (i + n + 24) (length s) ≡ t
+        → take (cond t (i + n + 24) (length s) - (i - 48)) (drop (i - 48) s) ≡ window s i n
     go true e = refl
     go false e =
         tail-whole (i - 48) s
-        ∙ sym (take-all (i + n + 24 - (i - 48)) (drop (i - 48) s) (omega (arith, length-drop (i - 48) s, leb-false (i + n + 24) (length s) e)))
+        ∙ sym (take-all (i + n + 24 - (i - 48)) (drop (i - 48) s)
+        (omega (arith, length-drop (i - 48) s, leb-false (i + n + 24) (length s) e)))
 
-pub window-marked : (s : List ℕ) (i n start e : ℕ) (t : Bool) → i + n ≤ length s → start ≡ i - 48 → e ≡ lesser (i + n + 24) (length s)
+pub window-marked : (s : List ℕ) (i n start e : ℕ) (t : Bool) → i + n ≤ length s → start ≡ i - 48
+    → e ≡ lesser (i + n + 24) (length s)
     → t ≡ anyMarker adviceMarkers (take (e - start) (drop start s)) → t ≡ anyMarker adviceMarkers (window s i n)
 window-marked s i n start e t h p q x =
     let part : take (e - start) (drop start s) ≡ window s i n = rw (p, q) (window-is s i n h) in
     x ∙ ap (anyMarker adviceMarkers) part
 
 -- how long a filled pattern is
-pub unfilled-length : (name p : List ℕ) (h : ℕ) → h ≡ 0 + upTo 0x23 (drop 0 p) → length p ≤ h → length p ≡ length (nameFilled name p)
+pub unfilled-length : (name p : List ℕ) (h : ℕ) → h ≡ 0 + upTo 0x23 (drop 0 p) → length p ≤ h
+    → length p ≡ length (nameFilled name p)
 unfilled-length name p h e g = sym (ap length (filled-none name p (omega (arith, e))))
 
-pub filled-length : (name p : List ℕ) (h : ℕ) → h ≡ 0 + upTo 0x23 (drop 0 p) → h < length p → length name + (length p - 1) ≡ length (nameFilled name p)
+pub filled-length : (name p : List ℕ) (h : ℕ) → h ≡ 0 + upTo 0x23 (drop 0 p) → h < length p
+    → length name + (length p - 1) ≡ length (nameFilled name p)
 filled-length name p h e g =
     let here : upTo 0x23 p < length p = omega (arith, e) in
     omega (
@@ -183,7 +202,8 @@ find-room p (b ∷ s) i e = go (begins p (b ∷ s)) refl (find p s) refl e (find
 unAt : {x y : ℕ} → At x ≡ At y → x ≡ y
 unAt e = cc
 
-pub found-room : (p s : List ℕ) (i n : ℕ) (r : Found) → r ≡ foundOf (find p s) → r ≡ At i → n ≡ length p → i + n ≤ length s
+pub found-room : (p s : List ℕ) (i n : ℕ) (r : Found) → r ≡ foundOf (find p s) → r ≡ At i → n ≡ length p
+    → i + n ≤ length s
 found-room p s i n r e h g = rw g (go (find p s) refl (sym e ∙ h))
   where
     go : (o : Option ℕ) → find p s ≡ o → foundOf o ≡ At i → i + length p ≤ length s
@@ -212,7 +232,8 @@ subjects = text "RER #|RER#|METRO #|INCIDENT LIGNE #|LIGNE # :|LIGNE # -|LIGNE #
 pub primary-named : (s n : List ℕ) (t : Bool) → t ≡ anyIn subjects n s → t ≡ true → true ≡ primary s n
 primary-named s n t e h = ap (λ x. x || begins (around "LIGNE " n "") s) (sym (sym e ∙ h))
 
-pub primary-front : (s n : List ℕ) (t u : Bool) → t ≡ anyIn subjects n s → t ≡ false → u ≡ begins (around "LIGNE " n "") (drop 0 s) → u ≡ primary s n
+pub primary-front : (s n : List ℕ) (t u : Bool) → t ≡ anyIn subjects n s → t ≡ false
+    → u ≡ begins (around "LIGNE " n "") (drop 0 s) → u ≡ primary s n
 primary-front s n t u e h f = f ∙ ap (λ x. x || begins (around "LIGNE " n "") s) (sym (sym e ∙ h))
 
 -- equality as it is answered
@@ -250,26 +271,35 @@ module _ (ask : Ask) (s n m : List ℕ) (t : Bool) where
   asked-advised h e = rw h e
 
 -- advice
-pub secondary-near : (s n : List ℕ) (t : Bool) → t ≡ any (answerOf Advised s n) (patterns (text "LIGNE #|LIGNES #|METRO #| ET #| # | #.")) → t ≡ true → true ≡ secondary s n
-secondary-near s n t e h = ap (λ x. x || anyMarker adviceMarkers s && (contains (text "RER ") s || contains (text "TRAVAUX SUR") s)) (sym (sym e ∙ h))
+pub secondary-near : (s n : List ℕ) (t : Bool)
+    → t ≡ any (answerOf Advised s n) (patterns (text "LIGNE #|LIGNES #|METRO #| ET #| # | #.")) → t ≡ true
+    → true ≡ secondary s n
+secondary-near s n t e h =
+    ap (λ x. x || anyMarker adviceMarkers s && (contains (text "RER ") s || contains (text "TRAVAUX SUR") s))
+    (sym (sym e ∙ h))
 
-pub secondary-not : (s n : List ℕ) (t u : Bool) → t ≡ any (answerOf Advised s n) (patterns (text "LIGNE #|LIGNES #|METRO #| ET #| # | #.")) → t ≡ false
+pub secondary-not : (s n : List ℕ) (t u : Bool)
+    → t ≡ any (answerOf Advised s n) (patterns (text "LIGNE #|LIGNES #|METRO #| ET #| # | #.")) → t ≡ false
     → u ≡ anyMarker adviceMarkers s → not u ≡ true → false ≡ secondary s n
 secondary-not s n t u e h f g =
-    sym (ap (λ x. x || anyMarker adviceMarkers s && (contains (text "RER ") s || contains (text "TRAVAUX SUR") s)) (sym e ∙ h) ∙ rw (← f, not-true u g) refl)
+    sym (ap (λ x. x || anyMarker adviceMarkers s && (contains (text "RER ") s || contains (text "TRAVAUX SUR") s))
+    (sym e ∙ h) ∙ rw (← f, not-true u g) refl)
 
-pub secondary-all : (s n : List ℕ) (t u v : Bool) → t ≡ any (answerOf Advised s n) (patterns (text "LIGNE #|LIGNES #|METRO #| ET #| # | #.")) → t ≡ false
+pub secondary-all : (s n : List ℕ) (t u v : Bool)
+    → t ≡ any (answerOf Advised s n) (patterns (text "LIGNE #|LIGNES #|METRO #| ET #| # | #.")) → t ≡ false
     → u ≡ anyMarker adviceMarkers s → not u ≡ false → v ≡ anyIn (text "RER |TRAVAUX SUR") n s → v ≡ secondary s n
 secondary-all s n t u v e h f g k =
     k ∙ ap (λ x. contains (text "RER ") s || x) (or-false (contains (text "TRAVAUX SUR") s))
-    ∙ sym (ap (λ x. x || anyMarker adviceMarkers s && (contains (text "RER ") s || contains (text "TRAVAUX SUR") s)) (sym e ∙ h) ∙ rw (← f, not-false u g) refl)
+    ∙ sym (ap (λ x. x || anyMarker adviceMarkers s && (contains (text "RER ") s || contains (text "TRAVAUX SUR") s))
+    (sym e ∙ h) ∙ rw (← f, not-false u g) refl)
 
 -- the lines of a text, asked as one list
 any-filter : (q p : List ℕ → Bool) (l : List (List ℕ)) → any q (filter p l) ≡ any (λ m. p m && q m) l
 any-filter q p [] = refl
 any-filter q p (m ∷ l) = go (p m) (any-filter q p l)
   where
-    go : (t : Bool) → any q (filter p l) ≡ any (λ m. p m && q m) l → any q (cond t (m ∷ filter p l) (filter p l)) ≡ t && q m || any (λ m. p m && q m) l
+    go : (t : Bool) → any q (filter p l) ≡ any (λ m. p m && q m) l
+        → any q (cond t (m ∷ filter p l) (filter p l)) ≡ t && q m || any (λ m. p m && q m) l
     go true ih = ap (λ x. q m || x) ih
     go false ih = ih
 
@@ -296,12 +326,14 @@ joined f p q r k l m =
 separate : (f : List ℕ → Bool) (k l m : List (List ℕ)) → any f (k ++ l ++ m) ≡ any f k || any f l || any f m
 separate f k l m = any-append f (k ++ l) m ∙ ap (λ x. x || any f m) (any-append f k l)
 
-lines-any : (s : List ℕ) (q : List ℕ → Bool) → any q (commercial-lines-in-text s) ≡ any (λ m. mentions s m && q m) allLines
+lines-any : (s : List ℕ) (q : List ℕ → Bool)
+    → any q (commercial-lines-in-text s) ≡ any (λ m. mentions s m && q m) allLines
 lines-any s q =
     joined q (names letterRows s) (names-number s) (names-tram s) letters numerals trams
     ∙ rw (by-letter s q, by-number s q, by-tram s q) (sym (separate (λ m. mentions s m && q m) letters numerals trams))
 
-own-line : (s u : List ℕ) (l : List (List ℕ)) → any (λ m. mentions s m && same m u) l ≡ mentions s u && any (λ m. same m u) l
+own-line : (s u : List ℕ) (l : List (List ℕ))
+    → any (λ m. mentions s m && same m u) l ≡ mentions s u && any (λ m. same m u) l
 own-line s u [] = sym (and-no (mentions s u))
 own-line s u (m ∷ l) = go (same m u) refl (mentions s u) refl (own-line s u l)
   where
@@ -321,7 +353,8 @@ own-line s u (m ∷ l) = go (same m u) refl (mentions s u) refl (own-line s u l)
 
 module _ (s u : List ℕ) where
   text-is : textOk s (commercial-lines-in-text s) u
-      ≡ not (any (mentions s) allLines) || mentions s u && any (λ m. same m u) allLines && not (secondary s u && any (otherSubject s u) allLines)
+      ≡ not (any (mentions s) allLines) || mentions s u && any (λ m. same m u) allLines
+      && not (secondary s u && any (otherSubject s u) allLines)
   text-is =
       rw (
         some-of (commercial-lines-in-text s),
@@ -347,10 +380,15 @@ module _ (s u : List ℕ) where
 
         module _ (listed : not o ≡ false) (x : Bool) (hx : x ≡ secondary s u) where
           pub ok-first : not x ≡ true → true ≡ textOk s (commercial-lines-in-text s) u
-          ok-first h = sym (text-is ∙ rw (← hn, not-false n named, ← hm, not-false m own, ← ho, not-false o listed, ← hx, not-true x h) refl)
+          ok-first h =
+              sym (text-is
+              ∙ rw (← hn, not-false n named, ← hm, not-false m own, ← ho, not-false o listed, ← hx, not-true x h) refl)
 
-          pub ok-last : not x ≡ false → (y : Bool) → y ≡ any (answerOf Other s u) allLines → not y ≡ textOk s (commercial-lines-in-text s) u
-          ok-last h y hy = sym (text-is ∙ rw (← hn, not-false n named, ← hm, not-false m own, ← ho, not-false o listed, ← hx, not-false x h, ← hy) refl)
+          pub ok-last : not x ≡ false → (y : Bool) → y ≡ any (answerOf Other s u) allLines
+              → not y ≡ textOk s (commercial-lines-in-text s) u
+          ok-last h y hy =
+              sym (text-is
+              ∙ rw (← hn, not-false n named, ← hm, not-false m own, ← ho, not-false o listed, ← hx, not-false x h, ← hy) refl)
 
 -- road traffic
 module _ (s : List ℕ) (t : Bool) (ht : t ≡ anyIn (text "TRAFIC ROUTIER") s s) where
@@ -372,7 +410,8 @@ module _ (s : List ℕ) (t : Bool) (ht : t ≡ anyIn (text "TRAFIC ROUTIER") s s
       moved-word = hv ∙ ap (λ x. contains (text "DÉPLACÉ") s || x) (or-false (contains (text "DEPLAC") s))
 
       pub road-unmoved : not v ≡ true → false ≡ road s
-      road-unmoved h = sym (rw (← traffic, not-named, ← stop-word, not-false u stopped, ← moved-word, not-true v h) refl)
+      road-unmoved h =
+          sym (rw (← traffic, not-named, ← stop-word, not-false u stopped, ← moved-word, not-true v h) refl)
 
       pub road-last : not v ≡ false → (w : Bool) → w ≡ anyIn (text "CIRCULATION") s s → w ≡ road s
       road-last h w hw =
@@ -380,7 +419,8 @@ module _ (s : List ℕ) (t : Bool) (ht : t ≡ anyIn (text "TRAFIC ROUTIER") s s
           ∙ sym (rw (← traffic, not-named, ← stop-word, not-false u stopped, ← moved-word, not-false v h) refl)
 
 same-turned : (s t : List ℕ) → same s t ≡ same t s
-same-turned s t = both-ways (same s t) (same t s) (λ e. rw (same-true s t e) (same-refl t)) (λ e. rw (same-true t s e) (same-refl s))
+same-turned s t =
+    both-ways (same s t) (same t s) (λ e. rw (same-true s t e) (same-refl t)) (λ e. rw (same-true t s e) (same-refl s))
 
 pub rail-mode : (m : List ℕ) (t : Bool) → t ≡ any (answerOf Own m m) railModes → t ≡ any (same m) railModes
 rail-mode m t e = e ∙ any-same (λ x. same x m) (same m) (λ x. same-turned x m) railModes

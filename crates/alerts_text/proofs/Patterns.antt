@@ -43,11 +43,13 @@ pub filled-none : (name p : List ℕ) → length p ≤ upTo 0x23 p → nameFille
 filled-none name [] h = refl
 filled-none name (b ∷ p) h = go (eqb b 0x23) h (filled-none name p)
   where
-    go : (t : Bool) → suc (length p) ≤ cond t 0 (suc (upTo 0x23 p)) → (length p ≤ upTo 0x23 p → nameFilled name p ≡ p) → cond t (name ++ p) (b ∷ nameFilled name p) ≡ b ∷ p
+    go : (t : Bool) → suc (length p) ≤ cond t 0 (suc (upTo 0x23 p)) → (length p ≤ upTo 0x23 p → nameFilled name p ≡ p)
+        → cond t (name ++ p) (b ∷ nameFilled name p) ≡ b ∷ p
     go true h ih = absurd (omega arith)
     go false h ih = ap (λ l. b ∷ l) (ih (omega arith))
 
-pub filled-here : (name p : List ℕ) → upTo 0x23 p < length p → nameFilled name p ≡ take (upTo 0x23 p) p ++ name ++ drop (suc (upTo 0x23 p)) p
+pub filled-here : (name p : List ℕ) → upTo 0x23 p < length p
+    → nameFilled name p ≡ take (upTo 0x23 p) p ++ name ++ drop (suc (upTo 0x23 p)) p
 filled-here name [] h = absurd (omega arith)
 filled-here name (b ∷ p) h = go (eqb b 0x23) h (filled-here name p)
   where
@@ -65,10 +67,12 @@ tail-whole i s = ap (λ n. take n (drop i s)) (sym (length-drop i s)) ∙ take-l
 pub unfilled : (s name p : List ℕ) (h : ℕ) (r : Found) → h ≡ 0 + upTo 0x23 (drop 0 p) → length p ≤ h
     → r ≡ foundOf (find (p ++ [] ++ []) s) → r ≡ foundOf (find (nameFilled name p) s)
 unfilled s name p h r e g x =
-    x ∙ ap (λ l. foundOf (find l s)) (append-nil (p ++ []) ∙ append-nil p ∙ sym (filled-none name p (omega (arith, e, g))))
+    x ∙ ap (λ l. foundOf (find l s))
+    (append-nil (p ++ []) ∙ append-nil p ∙ sym (filled-none name p (omega (arith, e, g))))
 
 pub fills : (s name p : List ℕ) (h : ℕ) (r : Found) → h ≡ 0 + upTo 0x23 (drop 0 p) → h < length p
-    → r ≡ foundOf (find (take h p ++ name ++ take (length p - (h + 1)) (drop (h + 1) p)) s) → r ≡ foundOf (find (nameFilled name p) s)
+    → r ≡ foundOf (find (take h p ++ name ++ take (length p - (h + 1)) (drop (h + 1) p)) s)
+    → r ≡ foundOf (find (nameFilled name p) s)
 fills s name p h r e g x =
     let at : h ≡ upTo 0x23 p = omega (arith, e) in
     let here : upTo 0x23 p < length p = omega arith in
@@ -79,7 +83,8 @@ fills s name p h r e g x =
 abbrev bar : ℕ → Bool
 bar b = eqb b 0x7c
 
-split-more : (s : List ℕ) → upTo 0x7c s < length s → split bar s ≡ take (upTo 0x7c s) s ∷ split bar (drop (suc (upTo 0x7c s)) s)
+split-more : (s : List ℕ) → upTo 0x7c s < length s
+    → split bar s ≡ take (upTo 0x7c s) s ∷ split bar (drop (suc (upTo 0x7c s)) s)
 split-more [] h = absurd (omega arith)
 split-more (b ∷ s) h = go (bar b) h (split-more s)
   where
@@ -110,7 +115,8 @@ reaches : (t : List ℕ) (at : ℕ) → at ≤ length t → at + upTo 0x7c (drop
 reaches t at h = omega (arith, upTo-within 0x7c (drop at t), length-drop at t)
 
 pub untried-start : (f : List ℕ → Bool) (t : List ℕ) (e : ℕ) → e ≡ 0 + upTo 0x7c (drop 0 t) → Untried f t 0 e
-untried-start f t e h = record { within = omega arith; inside = omega (arith, h, upTo-within 0x7c t); ends = h; whole = refl }
+untried-start f t e h =
+    record { within = omega arith; inside = omega (arith, h, upTo-within 0x7c t); ends = h; whole = refl }
 
 module _ (f : List ℕ → Bool) (t : List ℕ) (at e : ℕ) (u : Untried f t at e) where
   -- one piece is tried
@@ -119,7 +125,8 @@ module _ (f : List ℕ → Bool) (t : List ℕ) (at e : ℕ) (u : Untried f t at
       let k : upTo 0x7c (drop at t) ≡ e - at = omega (arith, u .ends) in
       let more : upTo 0x7c (drop at t) < length (drop at t) = omega (arith, length-drop at t, u .ends) in
       let past : at + suc (e - at) ≡ e + 1 = omega (arith, u .within) in
-      let rest : drop (suc (e - at)) (drop at t) ≡ drop (e + 1) t = drop-drop (suc (e - at)) at t ∙ ap (λ n. drop n t) past in
+      let rest : drop (suc (e - at)) (drop at t) ≡ drop (e + 1) t =
+      drop-drop (suc (e - at)) at t ∙ ap (λ n. drop n t) past in
       let cut : patterns (drop at t) ≡ take (e - at) (drop at t) ∷ patterns (drop (e + 1) t) =
       split-more (drop at t) more ∙ rw (k, rest) refl in
       u .whole ∙ ap (any f) cut
@@ -139,4 +146,5 @@ module _ (f : List ℕ → Bool) (t : List ℕ) (at e : ℕ) (u : Untried f t at
   pub tried-last : (b : Bool) → length t ≤ e → b ≡ f (take (length t - at) (drop at t)) → b ≡ any f (patterns t)
   tried-last b h x =
       let all-of-it : length (drop at t) ≤ upTo 0x7c (drop at t) = omega (arith, length-drop at t, u .ends) in
-      x ∙ ap f (tail-whole at t) ∙ sym (u .whole ∙ ap (any f) (split-last (drop at t) all-of-it) ∙ or-false (f (drop at t)))
+      x ∙ ap f (tail-whole at t) ∙ sym
+      (u .whole ∙ ap (any f) (split-last (drop at t) all-of-it) ∙ or-false (f (drop at t)))

@@ -26,17 +26,21 @@ pub record Stands (p s : List ℕ) (i j k : ℕ) : Type 0 where
 pub stands-start : (p s : List ℕ) (i : ℕ) → Stands p s i 0 i
 stands-start p s i = record { within = omega arith; whole = refl }
 
-pub stands-short : (p s : List ℕ) (i j k : ℕ) → Stands p s i j k → j < length p → length s ≤ k → false ≡ begins p (drop i s)
+pub stands-short : (p s : List ℕ) (i j k : ℕ) → Stands p s i j k → j < length p → length s ≤ k
+    → false ≡ begins p (drop i s)
 stands-short p s i j k a h e = sym (a .whole ∙ rw (drop-cons p j 0, drop-of-length-le s e) refl)
 
-pub stands-differs : (p s : List ℕ) (i j k : ℕ) → Stands p s i j k → j < length p → k < length s → (getD s k 0 ≡ getD p j 0 → ⊥) → false ≡ begins p (drop i s)
+pub stands-differs : (p s : List ℕ) (i j k : ℕ) → Stands p s i j k → j < length p → k < length s
+    → (getD s k 0 ≡ getD p j 0 → ⊥) → false ≡ begins p (drop i s)
 stands-differs p s i j k a h g d =
     sym (a .whole ∙ rw (drop-cons p j 0, drop-cons s k 0, ne-eqb (getD p j 0) (getD s k 0) (λ e. d (sym e))) refl)
 
-pub stands-more : (p s : List ℕ) (i j k : ℕ) → Stands p s i j k → j < length p → k < length s → getD s k 0 ≡ getD p j 0 → Stands p s i (j + 1) (k + 1)
+pub stands-more : (p s : List ℕ) (i j k : ℕ) → Stands p s i j k → j < length p → k < length s → getD s k 0 ≡ getD p j 0
+    → Stands p s i (j + 1) (k + 1)
 stands-more p s i j k a h g e = record {
   within = omega arith;
-  whole = a .whole ∙ rw (add-one j, add-one k, drop-cons p j 0, drop-cons s k 0, eq-eqb (getD p j 0) (getD s k 0) (sym e)) refl;
+  whole = a .whole
+      ∙ rw (add-one j, add-one k, drop-cons p j 0, drop-cons s k 0, eq-eqb (getD p j 0) (getD s k 0) (sym e)) refl;
 }
 
 pub stands-whole : (p s : List ℕ) (i j k : ℕ) → Stands p s i j k → length p ≤ j → true ≡ begins p (drop i s)
@@ -48,12 +52,14 @@ begins-joined [] q t = refl
 begins-joined (a ∷ p) q [] = refl
 begins-joined (a ∷ p) q (b ∷ t) = rw (begins-joined p q t) (go (eqb a b))
   where
-    go : (e : Bool) → e && (begins p t && begins q (drop (length p) t)) ≡ e && begins p t && begins q (drop (length p) t)
+    go : (e : Bool) → e && (begins p t && begins q (drop (length p) t)) ≡ e && begins p t
+        && begins q (drop (length p) t)
     go true = refl
     go false = refl
 
 parts : (b n a s : List ℕ) (i : ℕ)
-    → begins (b ++ n ++ a) (drop i s) ≡ begins b (drop i s) && begins n (drop (i + length b) s) && begins a (drop (i + length b + length n) s)
+    → begins (b ++ n ++ a) (drop i s) ≡ begins b (drop i s) && begins n (drop (i + length b) s)
+    && begins a (drop (i + length b + length n) s)
 parts b n a s i =
     rw (
       begins-joined (b ++ n) a (drop i s),
@@ -75,10 +81,12 @@ module _ (b n a s : List ℕ) (i : ℕ) where
   pub not-before : (t : Bool) → t ≡ begins b (drop i s) → not t ≡ true → false ≡ begins (b ++ n ++ a) (drop i s)
   not-before t e h = sym (parts b n a s i ∙ rw (← e, not-true t h) refl)
 
-  pub not-name : (t u : Bool) → t ≡ begins b (drop i s) → not t ≡ false → u ≡ begins n (drop (i + length b) s) → not u ≡ true → false ≡ begins (b ++ n ++ a) (drop i s)
+  pub not-name : (t u : Bool) → t ≡ begins b (drop i s) → not t ≡ false → u ≡ begins n (drop (i + length b) s)
+      → not u ≡ true → false ≡ begins (b ++ n ++ a) (drop i s)
   not-name t u e h f k = sym (parts b n a s i ∙ rw (← e, not-false t h, ← f, not-true u k) refl)
 
-  pub then-after : (t u v : Bool) → t ≡ begins b (drop i s) → not t ≡ false → u ≡ begins n (drop (i + length b) s) → not u ≡ false
+  pub then-after : (t u v : Bool) → t ≡ begins b (drop i s) → not t ≡ false → u ≡ begins n (drop (i + length b) s)
+      → not u ≡ false
       → v ≡ begins a (drop (i + length b + length n) s) → v ≡ begins (b ++ n ++ a) (drop i s)
   then-after t u v e h f k g = sym (parts b n a s i ∙ rw (← e, not-false t h, ← f, not-false u k, ← g) refl)
 
@@ -107,19 +115,24 @@ moved-later : (i : ℕ) (o : Option ℕ) → moved i (later o) ≡ moved (i + 1)
 moved-later i none = refl
 moved-later i (some k) = ap some (omega arith)
 
-pub found-here : (p s : List ℕ) (i : ℕ) (t : Bool) → Unfound p s i → t ≡ begins p (drop i s) → t ≡ true → At i ≡ foundOf (find p s)
-found-here p s i t u e h = sym (ap foundOf (u .whole ∙ ap (moved i) (find-begins p (drop i s) (sym e ∙ h)) ∙ ap some (omega arith)))
+pub found-here : (p s : List ℕ) (i : ℕ) (t : Bool) → Unfound p s i → t ≡ begins p (drop i s) → t ≡ true
+    → At i ≡ foundOf (find p s)
+found-here p s i t u e h =
+    sym (ap foundOf (u .whole ∙ ap (moved i) (find-begins p (drop i s) (sym e ∙ h)) ∙ ap some (omega arith)))
 
-pub unfound-more : (p s : List ℕ) (i : ℕ) (t : Bool) → Unfound p s i → i < length s → t ≡ begins p (drop i s) → t ≡ false → Unfound p s (i + 1)
+pub unfound-more : (p s : List ℕ) (i : ℕ) (t : Bool) → Unfound p s i → i < length s → t ≡ begins p (drop i s)
+    → t ≡ false → Unfound p s (i + 1)
 unfound-more p s i t u g e h = record {
   within = omega arith;
   whole = u .whole ∙ ap (moved i) (step (sym e ∙ h)) ∙ moved-later i (find p (drop (i + 1) s));
 }
   where
     step : begins p (drop i s) ≡ false → find p (drop i s) ≡ later (find p (drop (i + 1) s))
-    step x = rw (add-one i, drop-cons s i 0) (ap (λ t. cond t (some 0) (later (find p (drop (suc i) s)))) (ap (begins p) (sym (drop-cons s i 0 g)) ∙ x))
+    step x = rw (add-one i, drop-cons s i 0)
+        (ap (λ t. cond t (some 0) (later (find p (drop (suc i) s)))) (ap (begins p) (sym (drop-cons s i 0 g)) ∙ x))
 
-pub nowhere : (p s : List ℕ) (i : ℕ) (t : Bool) → Unfound p s i → length s ≤ i → t ≡ begins p (drop i s) → t ≡ false → Nowhere ≡ foundOf (find p s)
+pub nowhere : (p s : List ℕ) (i : ℕ) (t : Bool) → Unfound p s i → length s ≤ i → t ≡ begins p (drop i s) → t ≡ false
+    → Nowhere ≡ foundOf (find p s)
 nowhere p s i t u g e h =
     let last : begins p [] ≡ false = rw (drop-of-length-le s g) at (sym e ∙ h) in
     sym (ap foundOf (u .whole ∙ ap (λ l. moved i (find p l)) (drop-of-length-le s g) ∙ ap (moved i) (none-left p last)))

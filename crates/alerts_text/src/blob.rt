@@ -1,4 +1,5 @@
-// The texts of an alert as they are searched: in capitals, and with accents folded, written one after the other into a lent buffer.
+// The texts of an alert as they are searched: in capitals, and with accents folded, written one after the other into
+// a lent buffer.
 ghost use mathlib.Core.Path.{_≡_};
 ghost use Prim.Native.Nat.{_+_, _<_, _≤_};
 ghost use lib.ListN.{length, getD, take};

@@ -5,9 +5,11 @@ ghost use lib.ListN.{length};
 ghost use Rattle.basics.specs.Lists.{any};
 ghost use Rattle.alerts.specs.Text.{ends};
 ghost use Rattle.basics.specs.Texts.{same};
-ghost use Rattle.alerts.specs.Applies.{around, names, letterRows, names-number, names-tram, commercial-lines-in-text, anyMarker, window, railModes};
+ghost use Rattle.alerts.specs.Applies.{around, names, letterRows, names-number, names-tram, commercial-lines-in-text};
+ghost use Rattle.alerts.specs.Applies.{anyMarker, window, railModes};
 ghost use Rattle.alerts.specs.promises.Reduced.{adviceMarkers, primary, secondary, textOk, road};
-ghost use Rattle.alerts_text.specs.promises.Tables.{nameFilled, patterns, lesser, allLines, mentions, nearMarker, otherSubject, answerOf};
+ghost use Rattle.alerts_text.specs.promises.Tables.{nameFilled, patterns, lesser, allLines, mentions, nearMarker};
+ghost use Rattle.alerts_text.specs.promises.Tables.{otherSubject, answerOf};
 
 // What is asked of each piece of a table.
 pub enum Ask {

@@ -62,13 +62,15 @@ module _ {y₀ d₀ left y d k : ℕ} (Y : Years y₀ d₀ left y d) (leap : k �
 
   pub years-more : (left ≡ 0 → ⊥) → 365 + k ≤ d → Years y₀ d₀ (left - 1) (y + 1) (d - (365 + k))
   unfolding yearFrom
-  years-more h l = record { near = omega (arith, Y .near); within = omega (arith, Y .within); same = Y .same ∙ go left h }
+  years-more h l =
+      record { near = omega (arith, Y .near); within = omega (arith, Y .within); same = Y .same ∙ go left h }
     where
       go : (n : ℕ) → (n ≡ 0 → ⊥) → yearFrom n y d ≡ yearFrom (n - 1) (y + 1) (d - (365 + k))
       go zero e = absurd (e refl)
       go (suc n) e = rw (← leap, le-ltb d (365 + k) l, sub-one (suc n))
 
-pub year-last : {y₀ d₀ left y d : ℕ} → Years y₀ d₀ left y d → left ≡ 0 → record { year = y; day = d } ≡ yearFrom 400 y₀ d₀
+pub year-last : {y₀ d₀ left y d : ℕ} → Years y₀ d₀ left y d → left ≡ 0
+    → record { year = y; day = d } ≡ yearFrom 400 y₀ d₀
 unfolding yearFrom
 year-last Y h = sym (Y .same ∙ rw h)
 
@@ -110,7 +112,8 @@ pub months-none : (y : ℕ) (days : List ℕ) (d : ℕ) → Months y days d 0 d
 months-none y days d = record { within = omega arith; same = refl }
 
 module _ {y : ℕ} {days : List ℕ} {d₀ m d : ℕ} (M : Months y days d₀ m d) where
-  pub month-here : m < length days → d < getD days m 0 → record { year = y; month = m + 1; day = d + 1 } ≡ monthFrom y days 1 d₀
+  pub month-here : m < length days → d < getD days m 0
+      → record { year = y; month = m + 1; day = d + 1 } ≡ monthFrom y days 1 d₀
   unfolding monthFrom
   month-here h l = sym (M .same ∙ rw (drop-cons days m 0 h, lt-ltb d (getD days m 0) l))
 
@@ -120,7 +123,8 @@ module _ {y : ℕ} {days : List ℕ} {d₀ m d : ℕ} (M : Months y days d₀ m 
     within = omega arith;
     same =
         M .same
-        ∙ rw (drop-cons days m 0 h, le-ltb d (getD days m 0) l) (ap (λ k. monthFrom y (drop k days) (m + 1 + 1) (d - getD days m 0)) (sym (add-one m)));
+        ∙ rw (drop-cons days m 0 h, le-ltb d (getD days m 0) l)
+        (ap (λ k. monthFrom y (drop k days) (m + 1 + 1) (d - getD days m 0)) (sym (add-one m)));
   }
 
   pub month-last : length days ≤ m → record { year = y; month = length days + 1; day = d } ≡ monthFrom y days 1 d₀

@@ -25,7 +25,8 @@ oneOClock n = n * 86400 + 3600
 
 -- whether the clocks of Paris are two hours ahead
 unfoldable pub isSummer : ℕ → Bool
-isSummer s = leb (oneOClock (lastSunday (marchEnd (s / 86400)))) s && ltb s (oneOClock (lastSunday (octoberEnd (s / 86400))))
+isSummer s =
+    leb (oneOClock (lastSunday (marchEnd (s / 86400)))) s && ltb s (oneOClock (lastSunday (octoberEnd (s / 86400))))
 
 abbrev pub offsetAt : ℕ → ℕ
 offsetAt s = cond (isSummer s) 7200 3600

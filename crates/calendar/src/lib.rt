@@ -1,4 +1,5 @@
-// The date in Paris at an instant, for every instant since 1970: the civil calendar, and the rule of document 01's `chrono_tz`.
+// The date in Paris at an instant, for every instant since 1970: the civil calendar, and the rule of document 01's
+// `chrono_tz`.
 ghost use mathlib.Core.Path.{_≡_};
 ghost use Prim.Native.Nat.{_≤_};
 ghost use Rattle.calendar.specs.Civil.{leapDay, yearOf, monthOf, lastSunday};

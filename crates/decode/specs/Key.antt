@@ -37,7 +37,8 @@ datedKey raw date = raw ++ 64 ∷ date
 
 -- #r=feed:route&d=direction and then &sd=date&st=time
 abbrev pub headOf : List ℕ → List ℕ → Maybe ℕ → List ℕ
-headOf feed route direction = (35 ∷ 114 ∷ 61 ∷ []) ++ prefixed feed route ++ (38 ∷ 100 ∷ 61 ∷ []) ++ directionText direction
+headOf feed route direction =
+    (35 ∷ 114 ∷ 61 ∷ []) ++ prefixed feed route ++ (38 ∷ 100 ∷ 61 ∷ []) ++ directionText direction
 
 abbrev pub tailOf : List ℕ → List ℕ → List ℕ
 tailOf date time = (38 ∷ 115 ∷ 100 ∷ 61 ∷ []) ++ date ++ (38 ∷ 115 ∷ 116 ∷ 61 ∷ []) ++ time
@@ -48,7 +49,8 @@ incompleteKey feed t = headOf feed (routeOf t) (directionOf t) ++ tailOf (dateOf
 -- what `insert_trip` puts where, by the raw trip id: nothing without a trip id and a route
 abbrev pub inserts : List ℕ → List ℕ → Trip → List (List ℕ × Trip)
 inserts feed [] t = cond (isEmpty (routeOf t)) [] ((incompleteKey feed t, t) ∷ [])
-inserts feed (b ∷ raw) t = cond (isEmpty (dateOf t)) ((b ∷ raw, t) ∷ []) ((datedKey (b ∷ raw) (dateOf t), t) ∷ (b ∷ raw, t) ∷ [])
+inserts feed (b ∷ raw) t =
+    cond (isEmpty (dateOf t)) ((b ∷ raw, t) ∷ []) ((datedKey (b ∷ raw) (dateOf t), t) ∷ (b ∷ raw, t) ∷ [])
 
 -- and of an entity: a deleted one is passed over
 unfoldable pub entriesIn : List ℕ → Tree → List (List ℕ × Trip)

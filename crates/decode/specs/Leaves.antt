@@ -40,4 +40,5 @@ hasByte c (b ∷ s) = eqb b c || hasByte c s
 
 unfoldable pub countWithoutAt : List ℕ → Trips → ℕ
 countWithoutAt feed [] = 0
-countWithoutAt feed (e ∷ m) = cond (hasByte 64 (feed ++ 58 ∷ e .0)) (countWithoutAt feed m) (suc (countWithoutAt feed m))
+countWithoutAt feed (e ∷ m) =
+    cond (hasByte 64 (feed ++ 58 ∷ e .0)) (countWithoutAt feed m) (suc (countWithoutAt feed m))

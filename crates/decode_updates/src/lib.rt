@@ -13,7 +13,8 @@ ghost use Rattle.decode.specs.Sizes.{mostTrips, mostUpdates, mostMessage, marks
 ghost use Rattle.decode_updates.specs.promises.Line.{mostLines, three, Lined, Noted};
 ghost use Rattle.decode_slots.specs.promises.Index.{rankOf};
 ghost use Rattle.decode_updates.specs.Line.{laid};
-ghost use Rattle.decode_updates.specs.promises.Updates.{ListedUpdates, Counted, CrowdedRead, ReadableSlot, crowdedSlot, crowdedIn};
+ghost use Rattle.decode_updates.specs.promises.Updates.{ListedUpdates, Counted, CrowdedRead, ReadableSlot};
+ghost use Rattle.decode_updates.specs.promises.Updates.{crowdedSlot, crowdedIn};
 
 // How many updates stand before a sequence: sought from the end, since they arrive in order as a rule.
 fn place_of(updates: &[u32], n: usize, sequence: u32) -> usize

@@ -26,8 +26,10 @@ leaf-is (suc (suc (suc (suc (suc (suc zero)))))) a b sub h = refl
 leaf-is (suc (suc (suc (suc (suc (suc (suc zero))))))) a b sub h = refl
 leaf-is (suc (suc (suc (suc (suc (suc (suc (suc k)))))))) a b sub h = absurd (omega arith)
 
-node-over : (kind a b : ℕ) (sub : ℕ → Format) → 8 ≤ kind → (kind ≡ 8 → ⊥) → (kind ≡ 9 → ⊥) → (kind ≡ 10 → ⊥) → nodeFormat kind a b sub ≡ never
-node-over kind a b sub l z₈ z₉ z₁₀ = let e : kind ≡ (suc (suc (suc (suc (suc (suc (suc (suc (suc (suc (suc (kind - 11)))))))))))) = omega arith in rw e refl
+node-over : (kind a b : ℕ) (sub : ℕ → Format) → 8 ≤ kind → (kind ≡ 8 → ⊥) → (kind ≡ 9 → ⊥) → (kind ≡ 10 → ⊥)
+    → nodeFormat kind a b sub ≡ never
+node-over kind a b sub l z₈ z₉ z₁₀ = let e : kind ≡
+    (suc (suc (suc (suc (suc (suc (suc (suc (suc (suc (suc (kind - 11)))))))))))) = omega arith in rw e refl
 
 pub node-none : (depth : ℕ) (t : List ℕ) (n : ℕ) → depth ≡ 0 → formatAt depth t n ≡ never
 node-none depth t n z = rw z refl

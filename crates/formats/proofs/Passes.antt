@@ -11,7 +11,8 @@ use Rattle.formats.specs.Readers.{bind, bytesR, constR, manyR}
 use Rattle.formats.specs.Number.{numberR, littleR}
 use Rattle.formats.specs.laws.Number.{littleLaw}
 use Rattle.formats.specs.Format.{Format, Value, read}
-use Rattle.formats.specs.promises.Outcome.{element, numbered, skipped, skipTo, skipMany, formatAt, leafFormat, tagAt}
+use Rattle.formats.specs.promises.Outcome.{element, numbered, skipped, skipTo, skipMany, formatAt, leafFormat}
+use Rattle.formats.specs.promises.Outcome.{tagAt}
 use Rattle.formats.specs.laws.Format.{law}
 use Rattle.formats.specs.laws.Outcome.{broken, at-place}
 use Rattle.formats.specs.declared.Numeral.{Numeral}
@@ -19,7 +20,9 @@ use Rattle.formats.specs.declared.Numeral.the-variants.{Got, Bad}
 use Rattle.formats.specs.declared.Skip.{Skip}
 use Rattle.formats.specs.declared.Skip.the-variants.{At, Broken}
 use Rattle.formats.proofs.Numbers.{place, opened, Found, got}
-use Rattle.formats.proofs.Parts.{count, Numbered, no-value, no-float, no-number, too-large, no-element, no-bytes, an-element, the-one, the-other, no-depth, no-count, too-many, no-tag, no-first, no-kind}
+use Rattle.formats.proofs.Parts.{count, Numbered, no-value, no-float, no-number, too-large, no-element, no-bytes}
+use Rattle.formats.proofs.Parts.{an-element, the-one, the-other, no-depth, no-count, too-many, no-tag, no-first}
+use Rattle.formats.proofs.Parts.{no-kind}
 use Rattle.formats.proofs.Nodes.{node-leaf, node-list, node-choice, node-pair}
 
 -- nothing was read
@@ -27,8 +30,10 @@ pub nothing : {A : Type 0} (s : List ℕ) {o : Option (A × List ℕ)} → o ≡
 nothing s e = sym (ap (skipped s) e)
 
 -- n bytes
-pub raw-good : (s : List ℕ) (at n : ℕ) → at ≤ length s → n ≤ length s - at → At (at + n) ≡ skipped s (bytesR n (drop at s))
-raw-good s at n h l = rw (le-leb n (length (drop at s)) (rw length-drop l)) (ap At (rw (length-drop, length-drop) (omega arith)))
+pub raw-good : (s : List ℕ) (at n : ℕ) → at ≤ length s
+    → n ≤ length s - at → At (at + n) ≡ skipped s (bytesR n (drop at s))
+raw-good s at n h l =
+    rw (le-leb n (length (drop at s)) (rw length-drop l)) (ap At (rw (length-drop, length-drop) (omega arith)))
 
 pub raw-bad : (s : List ℕ) (at n : ℕ) → length s - at < n → Broken ≡ skipped s (bytesR n (drop at s))
 raw-bad s at n l = rw (lt-leb n (length (drop at s)) (rw length-drop l)) refl
@@ -83,10 +88,12 @@ module _ (a : ℕ) (s : List ℕ) (at : ℕ) (o : Numeral) (r : o ≡ numbered s
     pub leaf-4 : (kind : ℕ) → kind ≡ 4 → n ≤ a → At p ≡ skipTo (leafFormat kind a 0) s at
     leaf-4 kind k l = rw (k, read-it .reads, le-leb n a l, place s p (read-it .within)) refl
 
-    pub leaf-5 : (kind : ℕ) (x : Skip) → x ≡ skipped s (bytesR n (drop p s)) → kind ≡ 5 → x ≡ skipTo (leafFormat kind a 0) s at
+    pub leaf-5 : (kind : ℕ) (x : Skip) → x ≡ skipped s (bytesR n (drop p s)) → kind ≡ 5
+        → x ≡ skipTo (leafFormat kind a 0) s at
     leaf-5 kind x f k = rw (k, read-it .reads) f
 
-    pub leaf-23 : (kind : ℕ) → Numbered kind → (kind ≡ 4 → ⊥) → (kind ≡ 5 → ⊥) → At p ≡ skipTo (leafFormat kind a 0) s at
+    pub leaf-23 : (kind : ℕ) → Numbered kind → (kind ≡ 4 → ⊥) → (kind ≡ 5 → ⊥)
+        → At p ≡ skipTo (leafFormat kind a 0) s at
     leaf-23 zero k z₄ z₅ = absurd (omega (arith, k .low))
     leaf-23 (suc zero) k z₄ z₅ = absurd (omega (arith, k .low))
     leaf-23 (suc (suc zero)) k z₄ z₅ = rw (read-it .reads, place s p (read-it .within)) refl
@@ -96,7 +103,8 @@ module _ (a : ℕ) (s : List ℕ) (at : ℕ) (o : Numeral) (r : o ≡ numbered s
     leaf-23 (suc (suc (suc (suc (suc (suc m)))))) k z₄ z₅ = absurd (omega (arith, k .high))
 
 -- what a continuation makes of a value does not move the place
-moved : {A B : Type 0} (s : List ℕ) (f : A → B) (o : Option (A × List ℕ)) → skipped s o ≡ skipped s (bind o (λ a t. some (f a, t)))
+moved : {A B : Type 0} (s : List ℕ) (f : A → B) (o : Option (A × List ℕ))
+    → skipped s o ≡ skipped s (bind o (λ a t. some (f a, t)))
 moved s f none = refl
 moved s f (some x) = refl
 
@@ -109,10 +117,13 @@ pub passed-in : (f : Format) (s : List ℕ) (at p : ℕ) (r : Skip) → r ≡ sk
 passed-in f s at p r e h = at-in f s (read f (drop at s)) p (sym h ∙ e)
 
 -- n of one kind: what the whole loop finds is what is found from here on
-pub many-none : (f : Format) (s : List ℕ) (n at : ℕ) (x : Skip) → skipMany f n s at ≡ x → n ≤ 0 → at ≤ length s → At at ≡ x
-many-none f s n at x i l h = let e : n ≡ 0 = omega arith in let j : At at ≡ skipMany f n s at = rw (e, place s at h) refl in j ∙ i
+pub many-none : (f : Format) (s : List ℕ) (n at : ℕ) (x : Skip) → skipMany f n s at ≡ x → n ≤ 0 → at ≤ length s
+    → At at ≡ x
+many-none f s n at x i l h = let e : n ≡ 0 = omega arith in let j : At at ≡ skipMany f n s at =
+    rw (e, place s at h) refl in j ∙ i
 
-module _ (f : Format) (s : List ℕ) (n at : ℕ) (r : Skip) (e : r ≡ skipTo f s at) (l : 0 < n) (x : Skip) (i : skipMany f n s at ≡ x) where
+module _ (f : Format) (s : List ℕ) (n at : ℕ) (r : Skip) (e : r ≡ skipTo f s at) (l : 0 < n) (x : Skip)
+    (i : skipMany f n s at ≡ x) where
   pub many-bad : r ≡ Broken → Broken ≡ x
   many-bad h = nothing s (no-element f s n at l (broken s (read f (drop at s)) (sym e ∙ h))) ∙ i
 
@@ -133,7 +144,8 @@ module _ (depth : ℕ) (t : List ℕ) (n : ℕ) (s : List ℕ) (at : ℕ) where
   pub pass-none : depth ≡ 0 → Broken ≡ skipTo (formatAt depth t n) s at
   pass-none z = nothing s (no-depth depth t n s at z)
 
-  module _ (z : depth ≡ 0 → ⊥) (kind a b : ℕ) (ek : kind ≡ getD t (4 * n + 0) 0) (ea : a ≡ getD t (4 * n + 1) 0) (eb : b ≡ getD t (4 * n + 2) 0) where
+  module _ (z : depth ≡ 0 → ⊥) (kind a b : ℕ) (ek : kind ≡ getD t (4 * n + 0) 0) (ea : a ≡ getD t (4 * n + 1) 0)
+      (eb : b ≡ getD t (4 * n + 2) 0) where
     leaf-any : (kind a b : ℕ) → kind < 8 → skipTo (leafFormat kind a 0) s at ≡ skipTo (leafFormat kind a b) s at
     leaf-any zero a b h = refl
     leaf-any (suc zero) a b h = refl
@@ -157,19 +169,22 @@ module _ (depth : ℕ) (t : List ℕ) (n : ℕ) (s : List ℕ) (at : ℕ) where
         pub list-over : length s - p < m → Broken ≡ skipTo (formatAt depth t n) s at
         list-over l = nothing s (too-many depth t n s at z kind a b ek ea eb k o r m p e l)
 
-        pub list-good : (x : Skip) → x ≡ skipMany (formatAt (depth - 1) t b) m s p → x ≡ skipTo (formatAt depth t n) s at
+        pub list-good : (x : Skip) → x ≡ skipMany (formatAt (depth - 1) t b) m s p
+            → x ≡ skipTo (formatAt depth t n) s at
         list-good x f = rw (node-list depth t n z kind a b ek ea eb k, count s at m p o r e .reads) f
 
     -- a choice: byte 0 or byte 1
     module _ (k : kind ≡ 9) (c : ℕ) (e : c ≡ tagAt s at) where
-      pub choice-0 : c ≡ 0 → (x : Skip) → x ≡ skipTo (formatAt (depth - 1) t a) s (at + 1) → x ≡ skipTo (formatAt depth t n) s at
+      pub choice-0 : c ≡ 0 → (x : Skip) → x ≡ skipTo (formatAt (depth - 1) t a) s (at + 1)
+          → x ≡ skipTo (formatAt depth t n) s at
       choice-0 i x f =
           let A = formatAt (depth - 1) t a in
           let B = formatAt (depth - 1) t b in
           rw (node-choice depth t n z kind a b ek ea eb k, the-one A B s at c e i)
           (f ∙ moved s inl (read A (drop (at + 1) s)))
 
-      pub choice-1 : c ≡ 1 → (x : Skip) → x ≡ skipTo (formatAt (depth - 1) t b) s (at + 1) → x ≡ skipTo (formatAt depth t n) s at
+      pub choice-1 : c ≡ 1 → (x : Skip) → x ≡ skipTo (formatAt (depth - 1) t b) s (at + 1)
+          → x ≡ skipTo (formatAt depth t n) s at
       choice-1 i x f =
           let A = formatAt (depth - 1) t a in
           let B = formatAt (depth - 1) t b in
@@ -186,10 +201,13 @@ module _ (depth : ℕ) (t : List ℕ) (n : ℕ) (s : List ℕ) (at : ℕ) where
           let none-read = broken s (read (formatAt (depth - 1) t a) (drop at s)) (sym e ∙ h) in
           nothing s (no-first depth t n s at z kind a b ek ea eb k none-read)
 
-      pub pair-good : (p : ℕ) → r ≡ At p → (x : Skip) → x ≡ skipTo (formatAt (depth - 1) t b) s p → x ≡ skipTo (formatAt depth t n) s at
+      pub pair-good : (p : ℕ) → r ≡ At p → (x : Skip) → x ≡ skipTo (formatAt (depth - 1) t b) s p
+          → x ≡ skipTo (formatAt depth t n) s at
       pair-good p h x f =
           let y = at-place (law (formatAt (depth - 1) t a)) s at p (sym e ∙ h) in
-          rw (node-pair depth t n z kind a b ek ea eb k, y .1) (f ∙ moved s (λ v. (y .0, v)) (read (formatAt (depth - 1) t b) (drop p s)))
+          rw (node-pair depth t n z kind a b ek ea eb k, y .1)
+          (f ∙ moved s (λ v. (y .0, v)) (read (formatAt (depth - 1) t b) (drop p s)))
 
-    pub pass-never : 8 ≤ kind → (kind ≡ 8 → ⊥) → (kind ≡ 9 → ⊥) → (kind ≡ 10 → ⊥) → Broken ≡ skipTo (formatAt depth t n) s at
+    pub pass-never : 8 ≤ kind → (kind ≡ 8 → ⊥) → (kind ≡ 9 → ⊥) → (kind ≡ 10 → ⊥)
+        → Broken ≡ skipTo (formatAt depth t n) s at
     pass-never l z₈ z₉ z₁₀ = nothing s (no-kind depth t n s at z kind a b ek ea eb l z₈ z₉ z₁₀)

@@ -9,7 +9,8 @@ use Prim.Native.Nat.{ℕ, _^_, _<_}
 use lib.IntN.{ℤ}
 use lib.ListN.{length}
 use lib.Dec.{leb, ltb}
-use Rattle.formats.specs.Readers.{Reader, pairW, pairR, mapR, onlyR, constR, choiceW, choiceR, choiceOk, bytesR, manyW, manyR, countedR}
+use Rattle.formats.specs.Readers.{Reader, pairW, pairR, mapR, onlyR, constR, choiceW, choiceR, choiceOk, bytesR}
+use Rattle.formats.specs.Readers.{manyW, manyR, countedR}
 use Rattle.basics.specs.Lists.{All}
 use Rattle.formats.specs.Number.{numberW, numberR, zig, zag, littleW, littleR}
 use Rattle.formats.specs.Class.{Class}

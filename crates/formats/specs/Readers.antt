@@ -41,7 +41,8 @@ choiceW wa wb (inr b) = 1 ∷ wb b
 
 abbrev pub choiceR : {A B : Type 0} → Reader A → Reader B → Reader (A ⊎ B)
 choiceR ra rb [] = none
-choiceR ra rb (b ∷ s) = cond (eqb b 0) (bind (ra s) (λ a t. some (inl a, t))) (cond (eqb b 1) (bind (rb s) (λ b t. some (inr b, t))) none)
+choiceR ra rb (b ∷ s) =
+    cond (eqb b 0) (bind (ra s) (λ a t. some (inl a, t))) (cond (eqb b 1) (bind (rb s) (λ b t. some (inr b, t))) none)
 
 abbrev pub choiceOk : {A B : Type 0} → (A → Type 0) → (B → Type 0) → (A ⊎ B) → Type 0
 choiceOk oka okb (inl a) = oka a

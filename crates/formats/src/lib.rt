@@ -4,7 +4,8 @@ ghost use Prim.Native.Nat.{_+_, _*_, _<_, _≤_};
 ghost use lib.ListN.{length, getD, drop};
 ghost use Rattle.formats.specs.Readers.{bytesR, constR};
 ghost use Rattle.formats.specs.Number.{groupsR, numberR, littleR};
-ghost use Rattle.formats.specs.promises.Outcome.{numbered, skipped, skipTo, skipMany, formatAt, leafFormat, tagAt};
+ghost use Rattle.formats.specs.promises.Outcome.{numbered, skipped, skipTo, skipMany, formatAt, leafFormat};
+ghost use Rattle.formats.specs.promises.Outcome.{tagAt};
 
 // The kinds of nodes in a table.
 pub mod kinds {

@@ -1,4 +1,5 @@
-// A tour of the formats by an example: tickets are judged and shown; one that passes is written again with another number, and with a ride more.
+// A tour of the formats by an example: tickets are judged and shown; one that passes is written again with another
+// number, and with a ride more.
 use formats_judge::Judge;
 use formats_write::Put;
 use libc::STDOUT_FILENO;

@@ -1,4 +1,5 @@
-// A format of one's own, as an example: a ticket of eight fields is passed over and judged with no proof file; its number is read, and it is
+// A format of one's own, as an example: a ticket of eight fields is passed over and judged with no proof file; its
+// number is read, and it is
 // written again with another number and with a ride more.
 use formats::Skip;
 use formats_judge::Judge;

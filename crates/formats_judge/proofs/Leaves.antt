@@ -30,11 +30,13 @@ use Rattle.formats_judge.specs.declared.Judge.the-variants.{At, Broken}
 skip-both : {C : Type 0} {q : ℕ} → skip.Broken ≡ skip.At q → C
 skip-both e = absurd (let z : _≡_ {A = ℕ} 0 1 = cc in omega arith)
 
-judged-bad : {A : Type 0} (p : A → ℕ) (s : List ℕ) (o : Option (A × List ℕ)) (r : Skip) → r ≡ skipped s o → r ≡ skip.Broken → Broken ≡ judged p s o
+judged-bad : {A : Type 0} (p : A → ℕ) (s : List ℕ) (o : Option (A × List ℕ)) (r : Skip) → r ≡ skipped s o
+    → r ≡ skip.Broken → Broken ≡ judged p s o
 judged-bad p s none r e h = refl
 judged-bad p s (some x) r e h = skip-both (sym h ∙ e)
 
-judged-good : {A : Type 0} (s : List ℕ) (o : Option (A × List ℕ)) (r : Skip) (q : ℕ) → r ≡ skipped s o → r ≡ skip.At q → At q 0 ≡ judged (λ v. 0) s o
+judged-good : {A : Type 0} (s : List ℕ) (o : Option (A × List ℕ)) (r : Skip) (q : ℕ) → r ≡ skipped s o → r ≡ skip.At q
+    → At q 0 ≡ judged (λ v. 0) s o
 judged-good s none r q e h = skip-both (sym e ∙ h)
 judged-good s (some x) r q e h = let i : q ≡ length s - length (x .1) = cc in ap (λ n. At n 0) i
 
@@ -70,7 +72,8 @@ module _ (a b : ℕ) (s : List ℕ) (at : ℕ) (o : Numeral) (r : o ≡ numbered
     pub leaf-2 : (y : ℕ) → y ≡ answer 6 (leb a n && leb n b) → kind ≡ 2 → At p y ≡ judgeTo (leafFormat kind a b) s at
     leaf-2 y f k = rw (k, number .reads, place s p (number .within)) (ap (At p) f)
 
-    pub leaf-3 : (y : ℕ) → y ≡ answer 6 (atMost (zag a) (zag n) && atMost (zag n) (zag b)) → kind ≡ 3 → At p y ≡ judgeTo (leafFormat kind a b) s at
+    pub leaf-3 : (y : ℕ) → y ≡ answer 6 (atMost (zag a) (zag n) && atMost (zag n) (zag b)) → kind ≡ 3
+        → At p y ≡ judgeTo (leafFormat kind a b) s at
     leaf-3 y f k = rw (k, number .reads, place s p (number .within)) (ap (At p) f)
 
     pub leaf-4-over : kind ≡ 4 → a < n → Broken ≡ judgeTo (leafFormat kind a b) s at
@@ -88,17 +91,22 @@ module _ (g : List ℕ → ℕ) (s : List ℕ) (p n : ℕ) where
   pub bytes-over : length s - p < n → Broken ≡ judged g s (bytesR n (drop p s))
   bytes-over l = rw (lt-leb n (length (drop p s)) (rw length-drop l)) refl
 
-  pub bytes-good : p ≤ length s → n ≤ length s - p → (y : ℕ) → y ≡ g (take (p + n - p) (drop p s)) → At (p + n) y ≡ judged g s (bytesR n (drop p s))
+  pub bytes-good : p ≤ length s → n ≤ length s - p → (y : ℕ) → y ≡ g (take (p + n - p) (drop p s))
+      → At (p + n) y ≡ judged g s (bytesR n (drop p s))
   bytes-good h l y e =
       let i : p + n - p ≡ n = omega arith in
       let j : length s - length (drop n (drop p s)) ≡ p + n = rw (length-drop, length-drop) (omega arith) in
       rw (le-leb n (length (drop p s)) (rw length-drop l), j) (ap (At (p + n)) (rw i at e))
 
-pub leaf-5 : (a b : ℕ) (s : List ℕ) (at : ℕ) (o : Numeral) → o ≡ numbered s (numberR (drop at s)) → (n p : ℕ) → o ≡ Got n p
+pub leaf-5 : (a b : ℕ) (s : List ℕ) (at : ℕ) (o : Numeral) → o ≡ numbered s (numberR (drop at s)) → (n p : ℕ)
+    → o ≡ Got n p
     → (kind : ℕ) → Numbered kind → (kind ≡ 2 → ⊥) → (kind ≡ 3 → ⊥) → (kind ≡ 4 → ⊥)
-    → (x : Judge) → x ≡ judged (textAnswer a (classOf b)) s (bytesR n (drop p s)) → x ≡ judgeTo (leafFormat kind a b) s at
-leaf-5 a b s at o r n p e kind k z₂ z₃ z₄ x f = rw (is-text kind k z₂ z₃ z₄, got numberLaw s at n p o r e .reads) (f ∙ alike (bytesR n (drop p s)))
+    → (x : Judge) → x ≡ judged (textAnswer a (classOf b)) s (bytesR n (drop p s))
+    → x ≡ judgeTo (leafFormat kind a b) s at
+leaf-5 a b s at o r n p e kind k z₂ z₃ z₄ x f =
+    rw (is-text kind k z₂ z₃ z₄, got numberLaw s at n p o r e .reads) (f ∙ alike (bytesR n (drop p s)))
   where
-    alike : (y : Option (List ℕ × List ℕ)) → judged (textAnswer a (classOf b)) s y ≡ judged (verdict (text a (classOf b))) s y
+    alike : (y : Option (List ℕ × List ℕ))
+        → judged (textAnswer a (classOf b)) s y ≡ judged (verdict (text a (classOf b))) s y
     alike none = refl
     alike (some y) = ap (At (length s - length (y .1))) (sym (text-limit a (classOf b) (y .0)))

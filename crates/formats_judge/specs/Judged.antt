@@ -10,7 +10,8 @@ use lib.ListN.{length, drop}
 use lib.Dec.{leb, eqb}
 use Rattle.formats.specs.Class.{inClass}
 use Rattle.basics.specs.Lists.{all}
-use Rattle.formats.specs.Format.{Format, never, empty, number, signed, small, text, float, constant, list, choice, _&_, Value, read}
+use Rattle.formats.specs.Format.{Format, never, empty, number, signed, small, text, float, constant, list, choice, _&_}
+use Rattle.formats.specs.Format.{Value, read}
 use Rattle.formats_judge.specs.declared.Judge.{Judge}
 use Rattle.formats_judge.specs.declared.Judge.the-variants.{At, Broken}
 

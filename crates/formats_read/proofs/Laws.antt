@@ -58,18 +58,20 @@ module _ {s : List ℕ} {at : ℕ} {r : Numeral} (e : r ≡ numbered s (numberR 
   number-got b = record { value = λ h. let z = got h in cc; next = λ h. let z = got h in cc }
 
 -- a float
-module _ {s : List ℕ} {at n q : ℕ} (h : Here float s at q n) {r : Numeral} (e : r ≡ numbered s (littleR 8 (drop at s))) where
-  bits : r ≡ Got n q
-  bits = e ∙ ap (numbered s) (reads h) ∙ ap (Got n) (place s q (h .within))
+module _ {s : List ℕ} {at n q : ℕ} (h : Here float s at q n) {r : Numeral} (e : r ≡ numbered s (littleR 8 (drop at s)))
+  where
+    bits : r ≡ Got n q
+    bits = e ∙ ap (numbered s) (reads h) ∙ ap (Got n) (place s q (h .within))
 
-  pub float-none : r ≡ Bad → ⊥
-  float-none b = let z = bits in (let z : _≡_ {A = ℕ} 0 1 = cc in omega arith)
+    pub float-none : r ≡ Bad → ⊥
+    float-none b = let z = bits in (let z : _≡_ {A = ℕ} 0 1 = cc in omega arith)
 
-  pub float-got : {m p : ℕ} → r ≡ Got m p → m ≡ n
-  float-got b = let z = bits in cc
+    pub float-got : {m p : ℕ} → r ≡ Got m p → m ≡ n
+    float-got b = let z = bits in cc
 
 -- a signed number
-pub signed-is : {s : List ℕ} {at q n e : ℕ} {lo hi z : ℤ} → Here (signed lo hi) s at q z → ReadsNumber s at n e → zag n ≡ z
+pub signed-is : {s : List ℕ} {at q n e : ℕ} {lo hi z : ℤ} → Here (signed lo hi) s at q z → ReadsNumber s at n e
+    → zag n ≡ z
 signed-is {z} h N = ap zag (N .value (signed-here h)) ∙ zag-zig z
 
 -- a text
@@ -119,6 +121,7 @@ module _ {f : Format} {s : List ℕ} {p q : ℕ} (v : Value (optional f)) (h : H
   pub optional-none : (tagAt s p ≡ 1 → ⊥) → inl tt ≡ v
   optional-none t = sym (first v h t .is)
 
-pub optional-text : {l : ℕ} {c : Class} {s : List ℕ} {p q : ℕ} (v : Value (optional (text l c))) → Here (optional (text l c)) s p q v → tagAt s p ≡ 1
+pub optional-text : {l : ℕ} {c : Class} {s : List ℕ} {p q : ℕ} (v : Value (optional (text l c)))
+    → Here (optional (text l c)) s p q v → tagAt s p ≡ 1
     → (t : Span) → ReadsText s (p + 1) (t .from) (t .to) → (givenText s (Present t) ≡ v) × Inside s (Present t)
 optional-text v h e t T = (optional-some v h _ e (λ x y. T .bytes y), (T .forward, T .within))

@@ -10,7 +10,8 @@ use Rattle.formats.specs.declared.Skip.{Skip}
 use Rattle.formats.specs.declared.Skip.the-variants.{At, Broken}
 use Rattle.formats_read.specs.promises.Fields.{fieldTo, onward}
 
-not-pair : (j kind a b : ℕ) (sub : ℕ → Format) (s : List ℕ) (p : ℕ) → (kind ≡ 10 → ⊥) → Broken ≡ fieldTo (suc j) (nodeFormat kind a b sub) s p
+not-pair : (j kind a b : ℕ) (sub : ℕ → Format) (s : List ℕ) (p : ℕ) → (kind ≡ 10 → ⊥)
+    → Broken ≡ fieldTo (suc j) (nodeFormat kind a b sub) s p
 not-pair j zero a b sub s p z = refl
 not-pair j (suc zero) a b sub s p z = refl
 not-pair j (suc (suc zero)) a b sub s p z = refl
@@ -42,7 +43,8 @@ module _ (j d : ℕ) (t : List ℕ) (n : ℕ) (s : List ℕ) (p : ℕ) {x : Skip
     by-kind =
         let i : d ≡ suc (d - 1) = omega arith in
         let k : j ≡ suc (j - 1) = omega arith in
-        ap (λ d. fieldTo j (formatAt d t n) s p) i ∙ ap (λ j. fieldTo j (formatAt (suc (d - 1)) t n) s p) k ∙ rw (ek, ea, eb) refl
+        ap (λ d. fieldTo j (formatAt d t n) s p) i ∙ ap (λ j. fieldTo j (formatAt (suc (d - 1)) t n) s p) k
+        ∙ rw (ek, ea, eb) refl
 
     pub field-other : (kind ≡ 10 → ⊥) → Broken ≡ x
     field-other k = not-pair (j - 1) kind a b (formatAt (d - 1) t) s p k ∙ sym by-kind ∙ w

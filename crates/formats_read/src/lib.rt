@@ -1,4 +1,5 @@
-// Reads at a place of a lent slice, by the format of the value that stands there. They are total: where no such value stands, they answer something.
+// Reads at a place of a lent slice, by the format of the value that stands there. They are total: where no such
+// value stands, they answer something.
 use formats::Numeral;
 use formats::Skip;
 use formats::kinds;

@@ -61,11 +61,13 @@ pub class-empty : (c : ℕ) (v : List ℕ) → c ≡ 2 → length v ≡ 0 → fa
 class-empty c [] e h = rw e refl
 class-empty c (b ∷ v) e h = absurd (omega arith)
 
-pub class-token : (c : ℕ) (v : List ℕ) (r : Bool) → r ≡ all (allowed (classOf c)) v → c ≡ 2 → (length v ≡ 0 → ⊥) → r ≡ inClass (classOf c) v
+pub class-token : (c : ℕ) (v : List ℕ) (r : Bool) → r ≡ all (allowed (classOf c)) v → c ≡ 2 → (length v ≡ 0 → ⊥)
+    → r ≡ inClass (classOf c) v
 class-token c [] r f e h = absurd (h refl)
 class-token c (b ∷ v) r f e h = f ∙ rw e refl
 
-pub class-utf8 : (c : ℕ) (v : List ℕ) (r : Bool) → r ≡ sequences v [] → (c ≡ 0 → ⊥) → (c ≡ 1 → ⊥) → (c ≡ 2 → ⊥) → r ≡ inClass (classOf c) v
+pub class-utf8 : (c : ℕ) (v : List ℕ) (r : Bool) → r ≡ sequences v [] → (c ≡ 0 → ⊥) → (c ≡ 1 → ⊥) → (c ≡ 2 → ⊥)
+    → r ≡ inClass (classOf c) v
 class-utf8 zero v r f z o t = absurd (z refl)
 class-utf8 (suc zero) v r f z o t = absurd (o refl)
 class-utf8 (suc (suc zero)) v r f z o t = absurd (t refl)

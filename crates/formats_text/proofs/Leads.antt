@@ -41,7 +41,9 @@ alike-is (p ∷ s) [] e = cc
 alike-is (p ∷ s) (q ∷ t) e =
     let (a, f) = parts (eqb (p .0) (q .0)) _ e in
     let (b, g) = parts (eqb (p .1) (q .1)) _ f in
-    ap {B = List Range} (λ r. r ∷ s) (ap {B = Range} (λ n. (n, p .1)) (eqb-true (p .0) (q .0) a) ∙ ap {B = Range} (λ n. (q .0, n)) (eqb-true (p .1) (q .1) b))
+    ap {B = List Range} (λ r. r ∷ s)
+    (ap {B = Range} (λ n. (n, p .1)) (eqb-true (p .0) (q .0) a)
+    ∙ ap {B = Range} (λ n. (q .0, n)) (eqb-true (p .1) (q .1) b))
     ∙ ap (λ t. q ∷ t) (alike-is s t g)
 
 same-is : (x y : Option (List Range)) → same x y ≡ true → x ≡ y

@@ -47,7 +47,8 @@ no-room {l} {r} {at} x e s = record {
 }
 
 -- room for n bytes
-pub room : {l m : List ℕ} {r : Put} {at : ℕ} (n : ℕ) (x : List ℕ) → length x ≡ n → r ≡ At at → at + n ≤ length l → m ≡ pasted l at x → Adds l r m (At (at + n)) x
+pub room : {l m : List ℕ} {r : Put} {at : ℕ} (n : ℕ) (x : List ℕ) → length x ≡ n → r ≡ At at → at + n ≤ length l
+    → m ≡ pasted l at x → Adds l r m (At (at + n)) x
 room {l} {m} {r} {at} n x c e s k = record {
   size = ap length (k ∙ sym (sets-eq x l at (omega arith))) ∙ length-sets l at x;
   full = λ i. at-full (sym e ∙ i);
@@ -56,7 +57,8 @@ room {l} {m} {r} {at} n x c e s k = record {
   over = λ p i h o. let z : at ≡ p = at-at (sym e ∙ i) in absurd (omega arith);
 }
 
-pub byte-in : {l : List ℕ} {r : Put} {at b : ℕ} → r ≡ At at → at < length l → Adds l r (set l at b) (At (at + 1)) (b ∷ [])
+pub byte-in : {l : List ℕ} {r : Put} {at b : ℕ} → r ≡ At at → at < length l
+    → Adds l r (set l at b) (At (at + 1)) (b ∷ [])
 byte-in {l} {at} {b} e s = room 1 (b ∷ []) refl e (omega arith) (sets-eq (b ∷ []) l at (omega arith))
 
 pub byte-out : {l : List ℕ} {r : Put} {at b : ℕ} → r ≡ At at → length l ≤ at → Adds l r l Full (b ∷ [])
@@ -82,10 +84,12 @@ another-fits (suc k) n h l = let e : suc k - 1 ≡ k = omega arith in rw e (omeg
 pub fewer : (k n t : ℕ) → 128 ≤ n → n < top k → k ≡ t → k - 1 < t
 fewer k n t h u e = omega (arith, another k n h u)
 
-pub group-one : {l m : List ℕ} {r q : Put} {b : ℕ} (k n : ℕ) → Adds l r m q (b ∷ []) → n < 128 → b ≡ n → Adds l r m q (groupsW k n)
+pub group-one : {l m : List ℕ} {r q : Put} {b : ℕ} (k n : ℕ) → Adds l r m q (b ∷ []) → n < 128 → b ≡ n
+    → Adds l r m q (groupsW k n)
 group-one k n f h e = same f (rw e (sym (one-group k n h)))
 
-pub group-more : {l m o : List ℕ} {r q p : Put} {b : ℕ} (k n : ℕ) → Adds l r m q (b ∷ []) → Adds m q o p (groupsW (k - 1) (n / 128)) → 128 ≤ n → n < top k → b ≡ 128 + n % 128
+pub group-more : {l m o : List ℕ} {r q p : Put} {b : ℕ} (k n : ℕ) → Adds l r m q (b ∷ [])
+    → Adds m q o p (groupsW (k - 1) (n / 128)) → 128 ≤ n → n < top k → b ≡ 128 + n % 128
     → Adds l r o p (groupsW k n)
 group-more k n f g h u e = same (then f g) (rw e (sym (more-groups k n h (another k n h u))))
 
@@ -93,7 +97,8 @@ group-more k n f g h u e = same (then f g) (rw e (sym (more-groups k n h (anothe
 pub little-none : {l : List ℕ} {r : Put} (k n : ℕ) → k ≡ 0 → Adds l r l r (littleW k n)
 little-none k n e = rw e none
 
-pub little-more : {l m o : List ℕ} {r q p : Put} {b : ℕ} (k n : ℕ) → (k ≡ 0 → ⊥) → Adds l r m q (b ∷ []) → Adds m q o p (littleW (k - 1) (n / 256)) → b ≡ n % 256 → Adds l r o p (littleW k n)
+pub little-more : {l m o : List ℕ} {r q p : Put} {b : ℕ} (k n : ℕ) → (k ≡ 0 → ⊥) → Adds l r m q (b ∷ [])
+    → Adds m q o p (littleW (k - 1) (n / 256)) → b ≡ n % 256 → Adds l r o p (littleW k n)
 little-more zero n z f g e = absurd (z refl)
 little-more (suc k) n z f g e = let i : suc k - 1 ≡ k = omega arith in same (then f g) (rw (i, e) refl)
 
@@ -105,11 +110,14 @@ module _ {l : List ℕ} {r : Put} {at : ℕ} (s : List ℕ) (a e : ℕ) (i : r �
   pub stretch-out : at ≤ length l → length l - at < e - a → Adds l r l Full (slice a e s)
   stretch-out p o = no-room (slice a e s) i (omega (arith, length-slice a e s k))
 
-  pub stretch-in : {m : List ℕ} → at ≤ length l → e - a ≤ length l - at → m ≡ pasted l at (take (e - a) (drop a s)) → Adds l r m (At (at + (e - a))) (slice a e s)
-  stretch-in p o j = room (e - a) (slice a e s) (length-slice a e s k) i (omega arith) (j ∙ ap (pasted l at) (slice-is a e s h k))
+  pub stretch-in : {m : List ℕ} → at ≤ length l → e - a ≤ length l - at → m ≡ pasted l at (take (e - a) (drop a s))
+      → Adds l r m (At (at + (e - a))) (slice a e s)
+  stretch-in p o j =
+      room (e - a) (slice a e s) (length-slice a e s k) i (omega arith) (j ∙ ap (pasted l at) (slice-is a e s h k))
 
 -- a text
-pub text-is : {l m o : List ℕ} {r k j : Put} (s : List ℕ) (a e : ℕ) → a ≤ e → e ≤ length s → Adds l r m k (numberW (e - a)) → (a ≤ e → e ≤ length s → Adds m k o j (slice a e s))
+pub text-is : {l m o : List ℕ} {r k j : Put} (s : List ℕ) (a e : ℕ) → a ≤ e → e ≤ length s
+    → Adds l r m k (numberW (e - a)) → (a ≤ e → e ≤ length s → Adds m k o j (slice a e s))
     → Adds l r o j (textW (slice a e s))
 text-is s a e h k f g = then (same f (ap numberW (sym (length-slice a e s k)))) (g h k)
 
@@ -121,9 +129,12 @@ module _ {B : Type 0} (w : B → List ℕ) {v : Unit {0} ⊎ B} {l m : List ℕ}
   pub absent-is : v ≡ inl tt → Adds l r m q (0 ∷ []) → Adds l r m q (optionalW w v)
   absent-is e f = rw e f
 
-  pub present-is : {o : List ℕ} {p : Put} (b : B) → v ≡ inr b → Adds l r m q (1 ∷ []) → Adds m q o p (w b) → Adds l r o p (optionalW w v)
+  pub present-is : {o : List ℕ} {p : Put} (b : B) → v ≡ inr b → Adds l r m q (1 ∷ []) → Adds m q o p (w b)
+      → Adds l r o p (optionalW w v)
   present-is b e f g = rw e (then f g)
 
-pub present-text : (s : List ℕ) {v : OptionalText} {l m o : List ℕ} {r q p : Put} (t : Span) → v ≡ Present t → Inside s v → Adds l r m q (1 ∷ [])
-    → (t .from ≤ t .to → t .to ≤ length s → Adds m q o p (textW (slice (t .from) (t .to) s))) → Adds l r o p (optionalW textW (givenText s v))
+pub present-text : (s : List ℕ) {v : OptionalText} {l m o : List ℕ} {r q p : Put} (t : Span) → v ≡ Present t
+    → Inside s v → Adds l r m q (1 ∷ [])
+    → (t .from ≤ t .to → t .to ≤ length s → Adds m q o p (textW (slice (t .from) (t .to) s)))
+    → Adds l r o p (optionalW textW (givenText s v))
 present-text s t e h f g = let k : Inside s (Present t) = rw e at h in rw e (then f (g (k .0) (k .1)))

@@ -1,4 +1,5 @@
-// Writers into a lent slice, from its start on, with a room test: each takes the next place and answers the place past what it wrote,
+// Writers into a lent slice, from its start on, with a room test: each takes the next place and answers the place
+// past what it wrote,
 // or that there is no room. So a value's writing is a straight line of calls, with no early return.
 ghost use mathlib.Core.Path.{_≡_};
 ghost use mathlib.Core.List.{[], _∷_};
@@ -9,7 +10,8 @@ ghost use Rattle.formats.specs.Number.{groupsW, numberW, littleW, zig};
 ghost use Rattle.formats.specs.promises.Number.{top};
 ghost use Rattle.formats.specs.Format.{number, signed, float};
 ghost use Rattle.formats_write.specs.promises.Adds.{Adds};
-ghost use Rattle.formats_write.specs.promises.Given.{optionalW, givenNumber, givenSigned, givenText, textW, Inside};
+ghost use Rattle.formats_write.specs.promises.Given.{optionalW, givenNumber, givenSigned, givenText, textW};
+ghost use Rattle.formats_write.specs.promises.Given.{Inside};
 
 // The next place of an output; or what was to be written does not fit.
 pub enum Put {

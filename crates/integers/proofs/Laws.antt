@@ -45,7 +45,8 @@ nat-is : (z : ℤ) → T (nonNeg z) → natAbs z ≡ mag z
 nat-is (pos n) t = refl
 nat-is (negsuc n) t = absurd t
 
-pub natural-fits : (z : ℤ) → SFits w64 z → T (nonNeg z) → T (nonNeg (toZ w64 (ofZ w64 z))) × Fits w64 (natAbs (toZ w64 (ofZ w64 z)))
+pub natural-fits : (z : ℤ) → SFits w64 z → T (nonNeg z)
+    → T (nonNeg (toZ w64 (ofZ w64 z))) × Fits w64 (natAbs (toZ w64 (ofZ w64 z)))
 natural-fits z f t = rw (toZ-ofZ f) (t, nat-fits z f t)
 
 pub natural-is : (z : ℤ) → SFits w64 z → T (nonNeg z) → natAbs (toZ w64 (ofZ w64 z)) ≡ mag z
@@ -65,13 +66,16 @@ above (pos n) e = tt
 above (negsuc n) e = absurd (let z : _≡_ {A = ℕ} 0 1 = cc in omega arith)
 
 module _ (z : ℤ) (f : SFits w64 z) where
-  pub flip-natural : (y : ℤ) → ltZ (toZ w64 (ofZ w64 z)) (pos 0) ≡ true → y ≡ negsuc 0 -ℤ toZ w64 (ofZ w64 z) → T (nonNeg (toZ w64 (ofZ w64 y)))
-  flip-natural y t e′ = let e : y ≡ negsuc 0 -ℤ z = e′ ∙ ap (λ z. negsuc 0 -ℤ z) (toZ-ofZ f) in let g : SFits w64 y = rw e (flip-fits′ z f) in rw (toZ-ofZ g, e, flips z) (below z (rw (toZ-ofZ f) at t))
+  pub flip-natural : (y : ℤ) → ltZ (toZ w64 (ofZ w64 z)) (pos 0) ≡ true → y ≡ negsuc 0 -ℤ toZ w64 (ofZ w64 z)
+      → T (nonNeg (toZ w64 (ofZ w64 y)))
+  flip-natural y t e′ = let e : y ≡ negsuc 0 -ℤ z = e′ ∙ ap (λ z. negsuc 0 -ℤ z) (toZ-ofZ f) in let g : SFits w64 y =
+      rw e (flip-fits′ z f) in rw (toZ-ofZ g, e, flips z) (below z (rw (toZ-ofZ f) at t))
 
   pub above-natural : ltZ (toZ w64 (ofZ w64 z)) (pos 0) ≡ false → T (nonNeg (toZ w64 (ofZ w64 z)))
   above-natural t = rw (toZ-ofZ f) (above z (rw (toZ-ofZ f) at t))
 
-  pub magnitude-neg : (y : ℤ) (n : ℕ) → y ≡ negsuc 0 -ℤ toZ w64 (ofZ w64 z) → n ≡ mag (toZ w64 (ofZ w64 y)) → (n ≡ mag z) × (n < 9223372036854775808)
+  pub magnitude-neg : (y : ℤ) (n : ℕ) → y ≡ negsuc 0 -ℤ toZ w64 (ofZ w64 z) → n ≡ mag (toZ w64 (ofZ w64 y))
+      → (n ≡ mag z) × (n < 9223372036854775808)
   magnitude-neg y n e′ k =
       let e : y ≡ negsuc 0 -ℤ z = e′ ∙ ap (λ z. negsuc 0 -ℤ z) (toZ-ofZ f) in
       let g : SFits w64 y = rw e (flip-fits′ z f) in
@@ -105,7 +109,8 @@ half-fits n h = record { sfits = omega arith }
 pub zagged-even : (n : ℕ) (h : ℤ) → n < 2 ^ 64 → h ≡ pos (n / 2) → n % 2 ≡ 0 → toZ w64 (ofZ w64 h) ≡ zag n
 zagged-even n h l e t = ap (λ h. toZ w64 (ofZ w64 h)) e ∙ toZ-ofZ (half-fits n l) ∙ rw (eq-eqb (n % 2) 0 t) refl
 
-pub zagged-odd : (n : ℕ) (h y : ℤ) → n < 2 ^ 64 → h ≡ pos (n / 2) → (n % 2 ≡ 0 → ⊥) → y ≡ negsuc 0 -ℤ toZ w64 (ofZ w64 h) → toZ w64 (ofZ w64 y) ≡ zag n
+pub zagged-odd : (n : ℕ) (h y : ℤ) → n < 2 ^ 64 → h ≡ pos (n / 2) → (n % 2 ≡ 0 → ⊥)
+    → y ≡ negsuc 0 -ℤ toZ w64 (ofZ w64 h) → toZ w64 (ofZ w64 y) ≡ zag n
 unfolding flipped
 zagged-odd n h y l e t k =
     let b : toZ w64 (ofZ w64 h) ≡ pos (n / 2) = ap (λ h. toZ w64 (ofZ w64 h)) e ∙ toZ-ofZ (half-fits n l) in
@@ -141,12 +146,15 @@ wrapped-one r h = go (eqb r 4294967295) refl
     go false e = omega (arith, eqb-false r 4294967295 e)
 
 both-next : (q r : ℕ) → q < 4294967296 → r < 4294967296
-    → ((q + 1) % 4294967296 + 4294967296 - (r + 1) % 4294967296) % 4294967296 ≡ (4294967295 - r + 4294967296 - (4294967295 - q)) % 4294967296
+    → ((q + 1) % 4294967296 + 4294967296 - (r + 1) % 4294967296) % 4294967296 ≡
+    (4294967295 - r + 4294967296 - (4294967295 - q)) % 4294967296
 both-next q r h k = go (eqb q 4294967295) (eqb r 4294967295) refl refl
   where
     go : (t u : Bool) → eqb q 4294967295 ≡ t → eqb r 4294967295 ≡ u
-        → ((q + 1) % 4294967296 + 4294967296 - (r + 1) % 4294967296) % 4294967296 ≡ (4294967295 - r + 4294967296 - (4294967295 - q)) % 4294967296
-    go true true e f = rw (wrapped-one q h, wrapped-one r k, e, f) (omega (arith, eqb-true q 4294967295 e, eqb-true r 4294967295 f))
+        → ((q + 1) % 4294967296 + 4294967296 - (r + 1) % 4294967296) % 4294967296 ≡
+        (4294967295 - r + 4294967296 - (4294967295 - q)) % 4294967296
+    go true true e f =
+        rw (wrapped-one q h, wrapped-one r k, e, f) (omega (arith, eqb-true q 4294967295 e, eqb-true r 4294967295 f))
     go true false e f = rw (wrapped-one q h, wrapped-one r k, e, f) (omega (arith, eqb-true q 4294967295 e))
     go false true e f = rw (wrapped-one q h, wrapped-one r k, e, f) (omega (arith, eqb-true r 4294967295 f))
     go false false e f = rw (wrapped-one q h, wrapped-one r k, e, f) (omega arith)
@@ -157,17 +165,20 @@ low-difference (pos a) (pos (suc b)) = low-sub a (suc b)
 low-difference (pos a) (negsuc b) = omega arith
 low-difference (negsuc a) (pos zero) = low-sub 0 (suc a) ∙ omega arith
 low-difference (negsuc a) (pos (suc b)) = omega arith
-low-difference (negsuc a) (negsuc b) = low-sub (suc b) (suc a) ∙ rw (next-low a, next-low b) (both-next (b % 4294967296) (a % 4294967296) (omega arith) (omega arith))
+low-difference (negsuc a) (negsuc b) = low-sub (suc b) (suc a)
+    ∙ rw (next-low a, next-low b) (both-next (b % 4294967296) (a % 4294967296) (omega arith) (omega arith))
 
 low-below : (z : ℤ) → low32 z < 4294967296
 low-below (pos n) = omega arith
 low-below (negsuc n) = omega arith
 
 module _ (z : ℤ) (f : SFits w64 z) (n : ℕ) (e : n ≡ mag (toZ w64 (ofZ w64 z))) where
-  pub low-is-neg : ltZ (toZ w64 (ofZ w64 z)) (pos 0) ≡ true → (4294967295 - n % 4294967296 ≡ low32 z) × (4294967295 - n % 4294967296 < 4294967296)
+  pub low-is-neg : ltZ (toZ w64 (ofZ w64 z)) (pos 0) ≡ true
+      → (4294967295 - n % 4294967296 ≡ low32 z) × (4294967295 - n % 4294967296 < 4294967296)
   low-is-neg t = (rw (n-is z f n e) (low-neg z (rw (toZ-ofZ f) at t)), omega arith)
 
-  pub low-is-pos : ltZ (toZ w64 (ofZ w64 z)) (pos 0) ≡ false → (n % 4294967296 ≡ low32 z) × (n % 4294967296 < 4294967296)
+  pub low-is-pos : ltZ (toZ w64 (ofZ w64 z)) (pos 0) ≡ false
+      → (n % 4294967296 ≡ low32 z) × (n % 4294967296 < 4294967296)
   low-is-pos t = (rw (n-is z f n e) (low-pos z (rw (toZ-ofZ f) at t)), omega arith)
 
 -- 32 bits as a signed number
@@ -177,7 +188,8 @@ signed-small n h = rw (lt-ltb n 2147483648 h) refl
 module _ (n : ℕ) (h : 2147483648 ≤ n) (k : n < 4294967296) where
   flipped32 : negsuc 0 -ℤ toZ w32 (4294967295 - n) ≡ negsuc (4294967295 - n)
   unfolding flipped
-  flipped32 = let l : 4294967295 - n < 2147483648 = omega arith in rw (lt-ltb (4294967295 - n) 2147483648 l) (flips (pos (4294967295 - n)))
+  flipped32 = let l : 4294967295 - n < 2147483648 = omega arith in
+      rw (lt-ltb (4294967295 - n) 2147483648 l) (flips (pos (4294967295 - n)))
 
   flipped-fits : SFits w32 (negsuc (4294967295 - n))
   flipped-fits = record { sfits = omega arith }
@@ -189,7 +201,8 @@ module _ (n : ℕ) (h : 2147483648 ≤ n) (k : n < 4294967296) where
   signed-large = ap (λ z. toZ w32 (ofZ w32 z)) flipped32 ∙ toZ-ofZ flipped-fits ∙ rw (le-ltb n 2147483648 h) refl
 
 -- a wrapped difference
-pub difference-is : {t u r : ℤ} {a b : ℕ} → SFits w64 t → SFits w64 u → SFits w32 r → a ≡ low32 (toZ w64 (ofZ w64 t)) → b ≡ low32 (toZ w64 (ofZ w64 u))
+pub difference-is : {t u r : ℤ} {a b : ℕ} → SFits w64 t → SFits w64 u → SFits w32 r → a ≡ low32 (toZ w64 (ofZ w64 t))
+    → b ≡ low32 (toZ w64 (ofZ w64 u))
     → r ≡ signed32 ((a + 4294967296 - b) % 4294967296) → toZ w32 (ofZ w32 r) ≡ wrap32 (t -ℤ u)
 difference-is {t} {u} f g h e k i =
     toZ-ofZ h ∙ i ∙ rw (e, k, toZ-ofZ f, toZ-ofZ g) (ap signed32 (sym (low-difference t u)))

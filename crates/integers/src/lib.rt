@@ -1,4 +1,5 @@
-// Signed numbers as the formats and the times of the journey have them: zigzag codes, a difference wrapped to 32 bits, a bounded sum.
+// Signed numbers as the formats and the times of the journey have them: zigzag codes, a difference wrapped to 32
+// bits, a bounded sum.
 ghost use mathlib.Core.Path.{_≡_};
 ghost use Prim.Native.Nat.{_<_};
 ghost use lib.IntN.{pos, negsuc, _+ℤ_, _-ℤ_};

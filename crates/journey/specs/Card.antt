@@ -3,7 +3,8 @@ use Prim.Native.Nat.{ℕ}
 use mathlib.Core.List.{List}
 use lib.IntN.{ℤ, pos, negsuc}
 use Rattle.formats.specs.Class.{any, utf8}
-use Rattle.formats.specs.Format.{Format, number, signed, small, text, float, constant, list, choice, optional, _&_, Value}
+use Rattle.formats.specs.Format.{Format, number, signed, small, text, float, constant, list, choice, optional, _&_}
+use Rattle.formats.specs.Format.{Value}
 use Rattle.decode.specs.Trip.{id, delay, number32}
 use Rattle.basics.specs.Options.{Maybe}
 
@@ -91,32 +92,35 @@ middleOf (stop, (sa, (sd, (ra, rd)))) = record {
 }
 
 abbrev pub transitOf : Value transit → Transit
-transitOf (m, (s, (r, (t, (d, (f, (o, (fs, (os, (sd, (sa, (rd, (ra, (dd, (da, (c, (la, (lo, (u, (ms, p)))))))))))))))))))) = record {
-  mode = m;
-  short = s;
-  route = r;
-  trip = t;
-  direction = d;
-  from = f;
-  to = o;
-  fromSequence = fs;
-  toSequence = os;
-  scheduledDeparture = sd;
-  scheduledArrival = sa;
-  realtimeDeparture = rd;
-  realtimeArrival = ra;
-  departureDelay = dd;
-  arrivalDelay = da;
-  cancelled = c;
-  latitude = la;
-  longitude = lo;
-  updated = u;
-  middles = ms;
-  payload = p;
-}
+transitOf
+    (m, (s, (r, (t, (d, (f, (o, (fs, (os, (sd, (sa, (rd, (ra, (dd, (da, (c, (la, (lo, (u, (ms, p)))))))))))))))))))) =
+    record {
+      mode = m;
+      short = s;
+      route = r;
+      trip = t;
+      direction = d;
+      from = f;
+      to = o;
+      fromSequence = fs;
+      toSequence = os;
+      scheduledDeparture = sd;
+      scheduledArrival = sa;
+      realtimeDeparture = rd;
+      realtimeArrival = ra;
+      departureDelay = dd;
+      arrivalDelay = da;
+      cancelled = c;
+      latitude = la;
+      longitude = lo;
+      updated = u;
+      middles = ms;
+      payload = p;
+    }
 
 abbrev pub cardOf : Value card → Card
-cardOf (x, (d, (a, (u, (s, (h, l)))))) = record { departure = d; arrival = a; duration = u; status = s; headers = h; legs = l }
+cardOf (x, (d, (a, (u, (s, (h, l)))))) =
+    record { departure = d; arrival = a; duration = u; status = s; headers = h; legs = l }
 
 abbrev pub middleValue : Middle → Value middle
 middleValue m = (m .stop, (m .scheduledArrival, (m .scheduledDeparture, (m .realtimeArrival, m .realtimeDeparture))))

@@ -6,7 +6,8 @@ use mathlib.Core.Logic.{inl, inr}
 use mathlib.Core.Option.{Option, none, some}
 use lib.IntN.{ℤ, pos, _+ℤ_, _-ℤ_}
 use lib.Dec.{eqb}
-use Rattle.decode.specs.Trip.{StopUpdate, Trip, arrivalDelayOf, arrivalTimeOf, departureDelayOf, departureTimeOf, delayOf, cancelledOf}
+use Rattle.decode.specs.Trip.{StopUpdate, Trip, arrivalDelayOf, arrivalTimeOf, departureDelayOf, departureTimeOf}
+use Rattle.decode.specs.Trip.{delayOf, cancelledOf}
 use Rattle.basics.specs.Options.{Maybe, orOther}
 use Rattle.overlay.specs.Lookup.{Found, find-stop-update}
 use Rattle.basics.specs.Integers.{wrap32}

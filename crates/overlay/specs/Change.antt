@@ -12,7 +12,8 @@ use Rattle.maps.specs.Map.{get, put, puts}
 use Rattle.maps.specs.Order.{texts}
 use Rattle.decode.specs.Leaves as leaves
 use Rattle.alerts.specs.Alert.{Alert}
-use Rattle.overlay.specs.State.{Vehicles, Feed, State, timestampOf, countOf, tripsOf, vehiclesOf, alertsOf, updatedOf, versionOf, feedsOf, feedWith, stateWith, noFeed}
+use Rattle.overlay.specs.State.{Vehicles, Feed, State, timestampOf, countOf, tripsOf, vehiclesOf, alertsOf}
+use Rattle.overlay.specs.State.{updatedOf, versionOf, feedsOf, feedWith, stateWith, noFeed}
 
 -- the feed of an id, made where it isn't there yet
 unfoldable pub feedAt : List ℕ → State → Feed
@@ -26,17 +27,21 @@ unfoldable pub afterMessage : List ℕ → Tree → State → State
 afterMessage f m s =
     let F = feedAt f s in
     let trips = leaves.leaves f m (tripsOf F) in
-    putFeed f (feedWith (orOther (leaves.timestampIn m) (timestampOf F)) (leaves.countWithoutAt f trips) trips (vehiclesOf F) (alertsOf F)) (versionOf s) s
+    putFeed f
+    (feedWith (orOther (leaves.timestampIn m) (timestampOf F)) (leaves.countWithoutAt f trips) trips
+    (vehiclesOf F) (alertsOf F)) (versionOf s) s
 
 -- AN ALERT SHEET replaces the alerts
 unfoldable pub afterAlerts : List ℕ → List Alert → State → State
 afterAlerts f alerts s =
-    let F = feedAt f s in putFeed f (feedWith (timestampOf F) (countOf F) (tripsOf F) (vehiclesOf F) alerts) (versionOf s) s
+    let F = feedAt f s in
+    putFeed f (feedWith (timestampOf F) (countOf F) (tripsOf F) (vehiclesOf F) alerts) (versionOf s) s
 
 -- those not updated before the clock's time less 900 seconds
 unfoldable pub withoutStale : ℤ → Vehicles → Vehicles
 withoutStale clock [] = []
-withoutStale clock (e ∷ l) = cond (ltZ (updatedOf (e .1)) (clock -ℤ pos 900)) (withoutStale clock l) (e ∷ withoutStale clock l)
+withoutStale clock (e ∷ l) =
+    cond (ltZ (updatedOf (e .1)) (clock -ℤ pos 900)) (withoutStale clock l) (e ∷ withoutStale clock l)
 
 -- A VEHICLE SHEET: its entries over old ones, then the stale ones go; the count is of all keys, and the version goes
 -- on by one
@@ -44,5 +49,6 @@ unfoldable pub afterVehicles : List ℕ → Vehicles → ℤ → State → State
 afterVehicles f entries clock s =
     let F = feedAt f s in
     putFeed f
-    (feedWith (timestampOf F) (length (tripsOf F)) (tripsOf F) (withoutStale clock (puts texts entries (vehiclesOf F))) (alertsOf F))
+    (feedWith (timestampOf F) (length (tripsOf F)) (tripsOf F) (withoutStale clock (puts texts entries (vehiclesOf F)))
+    (alertsOf F))
     ((versionOf s + 1) % 2 ^ 64) s

@@ -71,7 +71,8 @@ unfoldable pub resolve-trip-rt : Feeds → (trip route : List ℕ) → Maybe ℕ
 resolve-trip-rt B trip route direction date =
     orElse (bindO (B (feed-of trip)) (λ R. inFeed (feed-of trip) (get-trip (feed-of trip) trip (R .trips))))
     (cond (isEmpty route) none
-    (bindO (B (feed-of route)) (λ R. inFeed (feed-of route) (find-trip-by-descriptor (feed-of route) route direction date (R .trips)))))
+    (bindO (B (feed-of route))
+    (λ R. inFeed (feed-of route) (find-trip-by-descriptor (feed-of route) route direction date (R .trips)))))
 
 -- feed f's update has the stop id of the card
 unfoldable pub stop-matches : List ℕ → List ℕ → StopUpdate → Bool

@@ -108,7 +108,8 @@ cardShort L old (message f m new work) = true
 cardShort L old (alertSheet f sheet new work) = true
 cardShort L old (vehicleSheet f sheet clock new work) = true
 cardShort L old (card bytes out work) =
-    ifAny (λ s. ifAny (λ v. leb (length (write cardForm (finished s v))) (L .card)) (whole cardForm bytes)) (stateOf old)
+    ifAny (λ s. ifAny (λ v. leb (length (write cardForm (finished s v))) (L .card)) (whole cardForm bytes))
+    (stateOf old)
 cardShort L old (report f out) = true
 
 -- THE EIGHT ANSWERS

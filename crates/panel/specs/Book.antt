@@ -23,7 +23,8 @@ use Rattle.overlay.specs.Change.{withoutStale}
 use Rattle.journey.specs.Card.{card as cardForm, cardOf, cardValue}
 use Rattle.journey.specs.Enrich.{enrich-with-realtime}
 use Rattle.panel.specs.Questions.{Lengths, whole}
-use Rattle.panel.specs.Calls.{Call, fresh, message, alertSheet, vehicleSheet, card, report, Gave, outOf, run, numbersGiven}
+use Rattle.panel.specs.Calls.{Call, fresh, message, alertSheet, vehicleSheet, card, report, Gave, outOf, run}
+use Rattle.panel.specs.Calls.{numbersGiven}
 
 -- each feed has trip records by key, vehicles by key, and alerts; at first there is no feed
 abbrev pub Book : Type 0
@@ -52,7 +53,8 @@ messageEnters f t bk =
 
 -- an alert sheet replaces the alerts
 abbrev pub alertsEnter : List ℕ → List Alert → Book → Book
-alertsEnter f alerts bk = enter f (record { trips = recordsIn bk f .trips; vehicles = recordsIn bk f .vehicles; alerts = alerts }) bk
+alertsEnter f alerts bk =
+    enter f (record { trips = recordsIn bk f .trips; vehicles = recordsIn bk f .vehicles; alerts = alerts }) bk
 
 -- a vehicle sheet puts its entries in, over old ones, then drops those updated before clock - 900
 abbrev pub vehiclesEnter : List ℕ → Vehicles → ℤ → Book → Book
@@ -68,7 +70,8 @@ abbrev pub entered : Call → Book → Book
 entered (fresh new) bk = noBook
 entered (message f m new work) bk = ifRead (tree feed feedMessage m) bk (λ t. messageEnters f t bk)
 entered (alertSheet f sheet new work) bk = ifRead (whole alertForm sheet) bk (λ v. alertsEnter f (v .1) bk)
-entered (vehicleSheet f sheet clock new work) bk = ifRead (whole vehicleForm sheet) bk (λ v. vehiclesEnter f (v .1) clock bk)
+entered (vehicleSheet f sheet clock new work) bk =
+    ifRead (whole vehicleForm sheet) bk (λ v. vehiclesEnter f (v .1) clock bk)
 entered (card bytes out work) bk = bk
 entered (report f out) bk = bk
 

@@ -85,7 +85,9 @@ unfoldable pub freshOf : Lengths → ℕ → Outcome
 freshOf L new = need (freshFits L new) 1 (accepted (write overlay noState))
 
 unfoldable pub treeOutcome : Lengths → List ℕ → State → Tree → Outcome
-treeOutcome L f s t = need (feedOk f && textsFine rules feedMessage t) 5 (need (numbersFine rules feedMessage t) 6 (changedState (L .overlay) (afterMessage f t s)))
+treeOutcome L f s t =
+    need (feedOk f && textsFine rules feedMessage t) 5
+    (need (numbersFine rules feedMessage t) 6 (changedState (L .overlay) (afterMessage f t s)))
 
 unfoldable pub messageOf : Lengths → List ℕ → List ℕ → List ℕ → ℕ → List ℕ → Outcome
 messageOf L old f m new work =

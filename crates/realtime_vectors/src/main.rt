@@ -1,11 +1,16 @@
 // Messages in hexadecimal, a line each, and what the readers answer of them; a line that begins with '#' is handed on.
-// The lines of `stdin` are the vectors of the wire format and of merging (Protocol Buffers, "Encoding"; document 01, "Wire reader"), and cases of our own at the
-// edges of the questions 4, 5 and 6. Those of `stdout` were written by a model of the two papers that shares nothing with this code, and read by eye.
+// The lines of `stdin` are the vectors of the wire format and of merging (Protocol Buffers, "Encoding"; document 01,
+// "Wire reader"), and cases of our own at the
+// edges of the questions 4, 5 and 6. Those of `stdout` were written by a model of the two papers that shares nothing
+// with this code, and read by eye.
 //
-// A line of the answer: the number of the question that says no, or 0; then whether the message is DIFFERENTIAL, its timestamp, and each entity in brackets:
-// "deleted", or id, start time, start date and route of its trip, whether it is cancelled, its direction and its delay, and each stop time update in brackets:
+// A line of the answer: the number of the question that says no, or 0; then whether the message is DIFFERENTIAL, its
+// timestamp, and each entity in brackets:
+// "deleted", or id, start time, start date and route of its trip, whether it is cancelled, its direction and its
+// delay, and each stop time update in brackets:
 // its sequence, its stop, arrival and departure as delay and time, and whether it is skipped. '-' is absent.
-// What the readers answer is proved in `realtime` and `realtime_views`; the functions here write it out and promise nothing of what was written, so they have no `ensures`.
+// What the readers answer is proved in `realtime` and `realtime_views`; the functions here write it out and promise
+// nothing of what was written, so they have no `ensures`.
 use realtime::FEED_MESSAGE;
 use realtime::Verdict;
 use realtime_views::Delay;

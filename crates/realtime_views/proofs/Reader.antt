@@ -11,18 +11,21 @@ use borrow.Author.Tests.{eq-eqb, ne-eqb}
 use lib.Seq.{take-length}
 use Rattle.realtime.specs.Tree.{Schema, Tree, tree}
 use Rattle.realtime.specs.promises.Steps.{Stepped}
-use Rattle.realtime_views.specs.laws.Fold.{Walked, walk-starts, walk-ends, walk-breaks, walk-number, walk-text, walk-message}
+use Rattle.realtime_views.specs.laws.Fold.{Walked, walk-starts, walk-ends, walk-breaks, walk-number, walk-text}
+use Rattle.realtime_views.specs.laws.Fold.{walk-message}
 use Rattle.realtime_views.specs.promises.Fold.{inside, Takes, folded}
 use Rattle.realtime_views.specs.laws.Reading.{front-rest}
 use Rattle.realtime_views.specs.promises.Reading.{Lens, Ready, Reads}
 use Rattle.realtime_views.specs.laws.Scalars.{nothing, kept-at, along-last, Lasting}
-use Rattle.realtime_views.specs.promises.Scalars.{Slot, fieldOf, at, said, Lying, Lasts, scalars, kept, blank, own, takesAlong}
+use Rattle.realtime_views.specs.promises.Scalars.{Slot, fieldOf, at, said, Lying, Lasts, scalars, kept, blank}
+use Rattle.realtime_views.specs.promises.Scalars.{own, takesAlong}
 use Rattle.realtime_views.specs.declared.Scalar.{Scalar}
 use Rattle.realtime_views.specs.declared.Scalars.{Scalars}
 use Rattle.realtime.specs.declared.Step.{Step}
 
 -- the loop stands at `at` with d, and started at `from` with d₀
-pub record Reading {D B : Type 0} (L : Lens D B) (φ : Takes B) (σ : Schema) (t : ℕ) (s : List ℕ) (from : ℕ) (d₀ : D) (at : ℕ) (d : D) : Type 0 where
+pub record Reading {D B : Type 0} (L : Lens D B) (φ : Takes B) (σ : Schema) (t : ℕ) (s : List ℕ) (from : ℕ) (d₀ : D)
+    (at : ℕ) (d : D) : Type 0 where
   pub walked : Walked φ (L .look s d₀) σ t s from at (L .look s d)
   pub within : L .In at d
   pub inside : at ≤ length s
@@ -39,14 +42,16 @@ module _ {D B : Type 0} {L : Lens D B} {φ : Takes B} {σ : Schema} {t : ℕ} {s
     stops S = record { made = walk-breaks (R .walked) S; within = L .far at (length s) d (R .inside) (R .within) }
 
     -- a field that is taken, or passed over
-    pub on-number : {f k n : ℕ} {r : D} → Stepped σ t s at (Step.Number f k n) → L .look s r ≡ φ .number (L .look s d) f k → (L .In n d → L .In n r) → Reading L φ σ t s from d₀ n r
+    pub on-number : {f k n : ℕ} {r : D} → Stepped σ t s at (Step.Number f k n)
+        → L .look s r ≡ φ .number (L .look s d) f k → (L .In n d → L .In n r) → Reading L φ σ t s from d₀ n r
     on-number {f} {k} {n} {r} S e h = record {
       walked = walk-number (R .walked) S e;
       within = h (L .far at n d (omega (arith, S .forward)) (R .within));
       inside = S .forward .inside;
     }
 
-    pub on-text : {f i l n : ℕ} {r : D} → Stepped σ t s at (Step.Text f i l n) → L .look s r ≡ φ .text (L .look s d) f (take l (drop i s)) → (i + l ≤ n → L .In n d → L .In n r)
+    pub on-text : {f i l n : ℕ} {r : D} → Stepped σ t s at (Step.Text f i l n)
+        → L .look s r ≡ φ .text (L .look s d) f (take l (drop i s)) → (i + l ≤ n → L .In n d → L .In n r)
         → Reading L φ σ t s from d₀ n r
     on-text {f} {i} {l} {n} {r} S e h = record {
       walked = walk-text (R .walked) S e;
@@ -54,7 +59,8 @@ module _ {D B : Type 0} {L : Lens D B} {φ : Takes B} {σ : Schema} {t : ℕ} {s
       inside = S .forward .inside;
     }
 
-    pub past-message : {f u i l n : ℕ} → Stepped σ t s at (Step.Message f u i l n) → ((m : Tree) → L .look s d ≡ φ .message (L .look s d) f m) → Reading L φ σ t s from d₀ n d
+    pub past-message : {f u i l n : ℕ} → Stepped σ t s at (Step.Message f u i l n)
+        → ((m : Tree) → L .look s d ≡ φ .message (L .look s d) f m) → Reading L φ σ t s from d₀ n d
     past-message {f} {u} {i} {l} {n} S e = record {
       walked = walk-message (R .walked) S (λ m h. e m);
       within = L .far at n d (omega (arith, S .forward)) (R .within);
@@ -69,8 +75,10 @@ module _ {D B : Type 0} {L : Lens D B} {φ : Takes B} {σ : Schema} {t : ℕ} {s
     }
 
 -- the messages at field j, read by a reader of their own over d
-module _ {D B : Type 0} {L : Lens D B} (j : ℕ) (φ : Takes B) {σ : Schema} {t : ℕ} {s : List ℕ} {from : ℕ} {d₀ : D} {at : ℕ} {d : D} (R : Reading L (inside j φ) σ t s from d₀ at d) where
-  pub taken : {f u i l n : ℕ} {r : D} (x : List ℕ) → Stepped σ t s at (Step.Message f u i l n) → f ≡ j → x ≡ take n s → Reads L φ σ u x i d r
+module _ {D B : Type 0} {L : Lens D B} (j : ℕ) (φ : Takes B) {σ : Schema} {t : ℕ} {s : List ℕ} {from : ℕ} {d₀ : D}
+    {at : ℕ} {d : D} (R : Reading L (inside j φ) σ t s from d₀ at d) where
+  pub taken : {f u i l n : ℕ} {r : D} (x : List ℕ) → Stepped σ t s at (Step.Message f u i l n) → f ≡ j → x ≡ take n s
+      → Reads L φ σ u x i d r
       → Reading L (inside j φ) σ t s from d₀ n r
   taken {f} {u} {i} {l} {n} {r} x S h e Q =
       let N : n ≤ length s = S .forward .inside in
@@ -82,13 +90,16 @@ module _ {D B : Type 0} {L : Lens D B} (j : ℕ) (φ : Takes B) {σ : Schema} {t
       let b : drop i x ≡ take l (drop i s) = ap (drop i) e ∙ front-rest s n i l (S .forward .ends) N in
       record {
         walked = walk-message (R .walked) S (λ m q.
-            sym vr ∙ Q .made .of m (ap (tree σ u) b ∙ q) ∙ ap (λ v. folded φ v m) vd ∙ ap (λ c. cond c (folded φ (L .look s d) m) (L .look s d)) (sym (eq-eqb f j h)));
+            sym vr ∙ Q .made .of m (ap (tree σ u) b ∙ q) ∙ ap (λ v. folded φ v m) vd
+            ∙ ap (λ c. cond c (folded φ (L .look s d) m) (L .look s d)) (sym (eq-eqb f j h)));
         within = Wr;
         inside = N;
       }
 
-  pub passed : {f u i l n : ℕ} → Stepped σ t s at (Step.Message f u i l n) → (f ≡ j → ⊥) → Reading L (inside j φ) σ t s from d₀ n d
-  passed {f} {u} {i} {l} {n} S h = past-message R S (λ m. ap (λ c. cond c (folded φ (L .look s d) m) (L .look s d)) (sym (ne-eqb f j h)))
+  pub passed : {f u i l n : ℕ} → Stepped σ t s at (Step.Message f u i l n) → (f ≡ j → ⊥)
+      → Reading L (inside j φ) σ t s from d₀ n d
+  passed {f} {u} {i} {l} {n} S h =
+      past-message R S (λ m. ap (λ c. cond c (folded φ (L .look s d) m) (L .look s d)) (sym (ne-eqb f j h)))
 
 -- a scalar is kept at its field
 said-cond : (s : List ℕ) (b : Bool) (x y : Scalar) → said s (cond b x y) ≡ cond b (said s x) (said s y)
@@ -103,17 +114,24 @@ kept-look : (s : List ℕ) (d : Scalars) (f : ℕ) (x : Scalar)
     → _≡_ {A = Lasts} (λ i. said s (at (kept d f x) i)) (λ i. cond (eqb f (fieldOf i)) (said s x) (said s (at d i)))
 kept-look s d f x = λ j i. (ap (said s) (kept-at d f x i) ∙ said-cond s (eqb f (fieldOf i)) x (at d i)) j
 
-kept-within : (n : ℕ) (d : Scalars) (f : ℕ) (x : Scalar) → Lying n x → ((i : Slot) → Lying n (at d i)) → (i : Slot) → Lying n (at (kept d f x) i)
-kept-within n d f x h W i = subst (Lying n) (sym (kept-at d f x i)) (lying-cond n (eqb f (fieldOf i)) x (at d i) h (W i))
+kept-within : (n : ℕ) (d : Scalars) (f : ℕ) (x : Scalar) → Lying n x → ((i : Slot) → Lying n (at d i)) → (i : Slot)
+    → Lying n (at (kept d f x) i)
+kept-within n d f x h W i =
+    subst (Lying n) (sym (kept-at d f x i)) (lying-cond n (eqb f (fieldOf i)) x (at d i) h (W i))
 
-module _ {σ : Schema} {t : ℕ} {s : List ℕ} {from : ℕ} {d₀ : Scalars} {at₀ : ℕ} {d : Scalars} (R : Reading scalars own σ t s from d₀ at₀ d) where
-  pub keep-number : {f k n : ℕ} {r : Scalars} → Stepped σ t s at₀ (Step.Number f k n) → r ≡ kept d f (Scalar.Number k) → Reading scalars own σ t s from d₀ n r
+module _ {σ : Schema} {t : ℕ} {s : List ℕ} {from : ℕ} {d₀ : Scalars} {at₀ : ℕ} {d : Scalars}
+    (R : Reading scalars own σ t s from d₀ at₀ d) where
+  pub keep-number : {f k n : ℕ} {r : Scalars} → Stepped σ t s at₀ (Step.Number f k n) → r ≡ kept d f (Scalar.Number k)
+      → Reading scalars own σ t s from d₀ n r
   keep-number {f} {k} {n} {r} S e =
-      on-number R S (ap (scalars .look s) e ∙ kept-look s d f (Scalar.Number k)) (λ W. subst (scalars .In n) (sym e) (kept-within n d f (Scalar.Number k) tt W))
+      on-number R S (ap (scalars .look s) e ∙ kept-look s d f (Scalar.Number k))
+      (λ W. subst (scalars .In n) (sym e) (kept-within n d f (Scalar.Number k) tt W))
 
-  pub keep-text : {f i l n : ℕ} {r : Scalars} → Stepped σ t s at₀ (Step.Text f i l n) → r ≡ kept d f (Scalar.Text i l) → Reading scalars own σ t s from d₀ n r
+  pub keep-text : {f i l n : ℕ} {r : Scalars} → Stepped σ t s at₀ (Step.Text f i l n) → r ≡ kept d f (Scalar.Text i l)
+      → Reading scalars own σ t s from d₀ n r
   keep-text {f} {i} {l} {n} {r} S e =
-      on-text R S (ap (scalars .look s) e ∙ kept-look s d f (Scalar.Text i l)) (λ h W. subst (scalars .In n) (sym e) (kept-within n d f (Scalar.Text i l) h W))
+      on-text R S (ap (scalars .look s) e ∙ kept-look s d f (Scalar.Text i l))
+      (λ h W. subst (scalars .In n) (sym e) (kept-within n d f (Scalar.Text i l) h W))
 
 -- from nothing on
 pub blank-start : (s : List ℕ) (i : ℕ) → i ≤ length s → Ready scalars s i blank
@@ -138,7 +156,8 @@ blank-nothing s = λ j i. go i j
     go Slot.five = refl
     go Slot.six = refl
 
-pub lasting : {σ : Schema} {t : ℕ} {s x : List ℕ} {i l : ℕ} {d r : Scalars} (ps : List ℕ) → i + l ≤ length s → x ≡ take (i + l) s → d ≡ blank
+pub lasting : {σ : Schema} {t : ℕ} {s x : List ℕ} {i l : ℕ} {d r : Scalars} (ps : List ℕ) → i + l ≤ length s
+    → x ≡ take (i + l) s → d ≡ blank
     → Reads scalars (takesAlong ps) σ t x i d r → Lasting σ t s i l ps r
 lasting {σ} {t} {s} {x} {i} {l} {d} {r} ps h e b Q =
     let Z : length x ≡ i + l = ap length e ∙ length-take (i + l) s ∙ omega arith in
@@ -147,11 +166,13 @@ lasting {σ} {t} {s} {x} {i} {l} {d} {r} ps h e b Q =
     let p : drop i x ≡ take l (drop i s) = ap (drop i) e ∙ front-rest s (i + l) i l refl h in
     record {
       of = λ m q k. ap (λ f. f k)
-          (sym v ∙ Q .made .of m (ap (tree σ t) p ∙ q) ∙ ap (λ o. folded (takesAlong ps) o m) (ap (scalars .look x) b ∙ blank-nothing x) ∙ along-last ps m);
+          (sym v ∙ Q .made .of m (ap (tree σ t) p ∙ q)
+          ∙ ap (λ o. folded (takesAlong ps) o m) (ap (scalars .look x) b ∙ blank-nothing x) ∙ along-last ps m);
       within = scalars .far (i + l) (length s) r h W;
     }
 
-pub lasting-whole : {σ : Schema} {t : ℕ} (s : List ℕ) {d r : Scalars} (ps : List ℕ) → d ≡ blank → Reads scalars (takesAlong ps) σ t s 0 d r → Lasting σ t s 0 (length s) ps r
+pub lasting-whole : {σ : Schema} {t : ℕ} (s : List ℕ) {d r : Scalars} (ps : List ℕ) → d ≡ blank
+    → Reads scalars (takesAlong ps) σ t s 0 d r → Lasting σ t s 0 (length s) ps r
 lasting-whole s ps b Q =
     let z : 0 + length s ≡ length s = omega arith in
     lasting ps (omega arith) (sym (ap (λ n. take n s) z ∙ take-length s)) b Q

@@ -14,7 +14,9 @@ use Rattle.realtime.specs.declared.Step.{Step}
 use Rattle.realtime_views.specs.promises.Fold.{inside}
 use Rattle.realtime_views.specs.promises.Reading.{Lens, Reads}
 use Rattle.realtime_views.specs.promises.Last.{Single, taking}
-use Rattle.realtime_views.specs.promises.Numbers.{plain, spans, sequence, stop, relationship, delay, time, valueOf, noNumber, noNumbers, noSpan, fromStop, EventReads, EventsRead, StopReads}
+use Rattle.realtime_views.specs.promises.Numbers.{plain, spans, sequence, stop, relationship, delay, time}
+use Rattle.realtime_views.specs.promises.Numbers.{valueOf, noNumber, noNumbers, noSpan, fromStop, EventReads}
+use Rattle.realtime_views.specs.promises.Numbers.{EventsRead, StopReads}
 use Rattle.realtime_views.specs.declared.Span.{Span}
 use Rattle.realtime_views.specs.declared.Number.{Number}
 use Rattle.realtime_views.specs.declared.EventNumbers.{EventNumbers}
@@ -23,26 +25,38 @@ use Rattle.realtime_views.proofs.Reader.{Reading, begins, says, on-numb
 use Rattle.realtime_views.proofs.Reader as reader
 
 -- of a field alone
-module _ {D B : Type 0} {L : Lens D B} (o : Single B) {σ : Schema} {t : ℕ} {s : List ℕ} {from : ℕ} {d₀ : D} {at : ℕ} {d : D} (R : Reading L (taking o) σ t s from d₀ at d) where
-  pub mine-number : {f m n : ℕ} {r : D} → Stepped σ t s at (Step.Number f m n) → f ≡ o .field → L .look s r ≡ o .number m → L .In n r → Reading L (taking o) σ t s from d₀ n r
-  mine-number {f} {m} S e q w = on-number R S (q ∙ ap (λ b. cond b (o .number m) (L .look s d)) (sym (eq-eqb f (o .field) e))) (λ W. w)
+module _ {D B : Type 0} {L : Lens D B} (o : Single B) {σ : Schema} {t : ℕ} {s : List ℕ} {from : ℕ} {d₀ : D} {at : ℕ}
+    {d : D} (R : Reading L (taking o) σ t s from d₀ at d) where
+  pub mine-number : {f m n : ℕ} {r : D} → Stepped σ t s at (Step.Number f m n) → f ≡ o .field
+      → L .look s r ≡ o .number m → L .In n r → Reading L (taking o) σ t s from d₀ n r
+  mine-number {f} {m} S e q w =
+      on-number R S (q ∙ ap (λ b. cond b (o .number m) (L .look s d)) (sym (eq-eqb f (o .field) e))) (λ W. w)
 
-  pub other-number : {f m n : ℕ} → Stepped σ t s at (Step.Number f m n) → (f ≡ o .field → ⊥) → Reading L (taking o) σ t s from d₀ n d
-  other-number {f} {m} S e = on-number R S (ap (λ b. cond b (o .number m) (L .look s d)) (sym (ne-eqb f (o .field) e))) (λ W. W)
+  pub other-number : {f m n : ℕ} → Stepped σ t s at (Step.Number f m n) → (f ≡ o .field → ⊥)
+      → Reading L (taking o) σ t s from d₀ n d
+  other-number {f} {m} S e =
+      on-number R S (ap (λ b. cond b (o .number m) (L .look s d)) (sym (ne-eqb f (o .field) e))) (λ W. W)
 
-  pub mine-text : {f i l n : ℕ} {r : D} → Stepped σ t s at (Step.Text f i l n) → f ≡ o .field → L .look s r ≡ o .text (take l (drop i s)) → (i + l ≤ n → L .In n r)
+  pub mine-text : {f i l n : ℕ} {r : D} → Stepped σ t s at (Step.Text f i l n) → f ≡ o .field
+      → L .look s r ≡ o .text (take l (drop i s)) → (i + l ≤ n → L .In n r)
       → Reading L (taking o) σ t s from d₀ n r
-  mine-text {f} {i} {l} S e q w = on-text R S (q ∙ ap (λ b. cond b (o .text (take l (drop i s))) (L .look s d)) (sym (eq-eqb f (o .field) e))) (λ p W. w p)
+  mine-text {f} {i} {l} S e q w =
+      on-text R S (q ∙ ap (λ b. cond b (o .text (take l (drop i s))) (L .look s d)) (sym (eq-eqb f (o .field) e)))
+      (λ p W. w p)
 
-  pub other-text : {f i l n : ℕ} → Stepped σ t s at (Step.Text f i l n) → (f ≡ o .field → ⊥) → Reading L (taking o) σ t s from d₀ n d
-  other-text {f} {i} {l} S e = on-text R S (ap (λ b. cond b (o .text (take l (drop i s))) (L .look s d)) (sym (ne-eqb f (o .field) e))) (λ p W. W)
+  pub other-text : {f i l n : ℕ} → Stepped σ t s at (Step.Text f i l n) → (f ≡ o .field → ⊥)
+      → Reading L (taking o) σ t s from d₀ n d
+  other-text {f} {i} {l} S e =
+      on-text R S (ap (λ b. cond b (o .text (take l (drop i s))) (L .look s d)) (sym (ne-eqb f (o .field) e)))
+      (λ p W. W)
 
   pub no-message : {f u i l n : ℕ} → Stepped σ t s at (Step.Message f u i l n) → Reading L (taking o) σ t s from d₀ n d
   no-message S = past-message R S (λ m. refl)
 
 -- a field is listed as one kind
 pub clash : (t f k : ℕ) → feed t f ≡ some aNumber → feed t k ≡ some aText → f ≡ k → ⊥
-clash t f k p q e = let r : some aNumber ≡ some aText = sym p ∙ ap (feed t) e ∙ q in let z : _≡_ {A = ℕ} 0 1 = cc in omega arith
+clash t f k p q e = let r : some aNumber ≡ some aText = sym p ∙ ap (feed t) e ∙ q in let z : _≡_ {A = ℕ} 0 1 = cc in
+    omega arith
 
 sequence-number : (f : ℕ) → feed stopTimeUpdate f ≡ some aText → f ≡ 1 → ⊥
 unfolding feed fieldRows
@@ -64,7 +78,8 @@ time-number : (f : ℕ) → feed stopTimeEvent f ≡ some aText → f ≡ 2 → 
 unfolding feed fieldRows
 time-number f p e = clash stopTimeEvent 2 f refl p (sym e)
 
-typed : (f u k v : ℕ) → feed stopTimeUpdate f ≡ some (aMessage u) → feed stopTimeUpdate k ≡ some (aMessage v) → f ≡ k → u ≡ v
+typed : (f u k v : ℕ) → feed stopTimeUpdate f ≡ some (aMessage u) → feed stopTimeUpdate k ≡ some (aMessage v) → f ≡ k
+    → u ≡ v
 typed f u k v p q e = let r : some (aMessage u) ≡ some (aMessage v) = sym p ∙ ap (feed stopTimeUpdate) e ∙ q in cc
 
 arrival-event : (f u : ℕ) → feed stopTimeUpdate f ≡ some (aMessage u) → f ≡ 2 → u ≡ stopTimeEvent
@@ -80,8 +95,10 @@ pub record Events (s : List ℕ) (from : ℕ) (b : EventNumbers) (at : ℕ) (e i
   pub delay : Reading (plain valueOf) (taking delay) feed stopTimeEvent s from (b .delay) at e
   pub time : Reading (plain valueOf) (taking time) feed stopTimeEvent s from (b .time) at i
 
-pub event-starts : {s : List ℕ} {from : ℕ} (b : EventNumbers) → from ≤ length s → Events s from b from (b .delay) (b .time)
-event-starts b h = record { delay = begins (record { inside = h; within = tt }); time = begins (record { inside = h; within = tt }) }
+pub event-starts : {s : List ℕ} {from : ℕ} (b : EventNumbers) → from ≤ length s
+    → Events s from b from (b .delay) (b .time)
+event-starts b h =
+    record { delay = begins (record { inside = h; within = tt }); time = begins (record { inside = h; within = tt }) }
 
 module _ {s : List ℕ} {from : ℕ} {b : EventNumbers} {at : ℕ} {e i : Number} (R : Events s from b at e i) where
   pub event-ends : Stepped feed stopTimeEvent s at Step.End → EventReads s from b (record { delay = e; time = i })
@@ -92,16 +109,19 @@ module _ {s : List ℕ} {from : ℕ} {b : EventNumbers} {at : ℕ} {e i : Number
 
   module _ {f m n : ℕ} (S : Stepped feed stopTimeEvent s at (Step.Number f m n)) where
     pub event-delay : f ≡ 1 → Events s from b n (record { given = 1; value = m }) i
-    event-delay h = record { delay = mine-number delay (R .delay) S h refl tt; time = other-number time (R .time) S (λ g. omega arith) }
+    event-delay h =
+        record { delay = mine-number delay (R .delay) S h refl tt; time = other-number time (R .time) S (λ g. omega arith) }
 
     pub event-time : f ≡ 2 → Events s from b n e (record { given = 1; value = m })
-    event-time h = record { delay = other-number delay (R .delay) S (λ g. omega arith); time = mine-number time (R .time) S h refl tt }
+    event-time h =
+        record { delay = other-number delay (R .delay) S (λ g. omega arith); time = mine-number time (R .time) S h refl tt }
 
     pub event-number : (f ≡ 1 → ⊥) → (f ≡ 2 → ⊥) → Events s from b n e i
     event-number h h′ = record { delay = other-number delay (R .delay) S h; time = other-number time (R .time) S h′ }
 
   pub event-text : {f j l n : ℕ} → Stepped feed stopTimeEvent s at (Step.Text f j l n) → Events s from b n e i
-  event-text {f} S = record { delay = other-text delay (R .delay) S (delay-number f (S .typed)); time = other-text time (R .time) S (time-number f (S .typed)) }
+  event-text {f} S =
+      record { delay = other-text delay (R .delay) S (delay-number f (S .typed)); time = other-text time (R .time) S (time-number f (S .typed)) }
 
   pub event-message : {f u j l n : ℕ} → Stepped feed stopTimeEvent s at (Step.Message f u j l n) → Events s from b n e i
   event-message S = record { delay = no-message delay (R .delay) S; time = no-message time (R .time) S }
@@ -111,8 +131,11 @@ pub record Within (j : ℕ) (s : List ℕ) (from at : ℕ) (e : EventNumbers) : 
   pub delay : Reading (plain valueOf) (inside j (taking delay)) feed stopTimeUpdate s from noNumber at (e .delay)
   pub time : Reading (plain valueOf) (inside j (taking time)) feed stopTimeUpdate s from noNumber at (e .time)
 
-within-starts : (j : ℕ) {s : List ℕ} {from : ℕ} {e : EventNumbers} → from ≤ length s → e ≡ noNumbers → Within j s from from e
-within-starts j {s} {from} h p = subst (Within j s from from) (sym p) (record { delay = begins (record { inside = h; within = tt }); time = begins (record { inside = h; within = tt }) })
+within-starts : (j : ℕ) {s : List ℕ} {from : ℕ} {e : EventNumbers} → from ≤ length s → e ≡ noNumbers
+    → Within j s from from e
+within-starts j {s} {from} h p =
+    subst (Within j s from from) (sym p)
+    (record { delay = begins (record { inside = h; within = tt }); time = begins (record { inside = h; within = tt }) })
 
 module _ {j : ℕ} {s : List ℕ} {from at : ℕ} {e : EventNumbers} (R : Within j s from at e) where
   within-ends : Stepped feed stopTimeUpdate s at Step.End → EventsRead j s from e
@@ -127,14 +150,19 @@ module _ {j : ℕ} {s : List ℕ} {from at : ℕ} {e : EventNumbers} (R : Within
   within-text : {f i l n : ℕ} → Stepped feed stopTimeUpdate s at (Step.Text f i l n) → Within j s from n e
   within-text S = record { delay = on-text (R .delay) S refl (λ p h. h); time = on-text (R .time) S refl (λ p h. h) }
 
-  within-passed : {f u i l n : ℕ} → Stepped feed stopTimeUpdate s at (Step.Message f u i l n) → (f ≡ j → ⊥) → Within j s from n e
-  within-passed S h = record { delay = passed j (taking delay) (R .delay) S h; time = passed j (taking time) (R .time) S h }
+  within-passed : {f u i l n : ℕ} → Stepped feed stopTimeUpdate s at (Step.Message f u i l n) → (f ≡ j → ⊥)
+      → Within j s from n e
+  within-passed S h =
+      record { delay = passed j (taking delay) (R .delay) S h; time = passed j (taking time) (R .time) S h }
 
-  within-taken : {f u i l n : ℕ} {r : EventNumbers} (x : List ℕ) → Stepped feed stopTimeUpdate s at (Step.Message f u i l n) → f ≡ j → u ≡ stopTimeEvent → x ≡ take n s
+  within-taken : {f u i l n : ℕ} {r : EventNumbers} (x : List ℕ)
+      → Stepped feed stopTimeUpdate s at (Step.Message f u i l n) → f ≡ j → u ≡ stopTimeEvent → x ≡ take n s
       → EventReads x i e r → Within j s from n r
   within-taken {f} {u} {i} {l} {n} {r} x S h g p Q = record {
-    delay = taken j (taking delay) (R .delay) x S h p (subst (λ v. Reads (plain valueOf) (taking delay) feed v x i (e .delay) (r .delay)) (sym g) (Q .delay));
-    time = taken j (taking time) (R .time) x S h p (subst (λ v. Reads (plain valueOf) (taking time) feed v x i (e .time) (r .time)) (sym g) (Q .time));
+    delay = taken j (taking delay) (R .delay) x S h p
+        (subst (λ v. Reads (plain valueOf) (taking delay) feed v x i (e .delay) (r .delay)) (sym g) (Q .delay));
+    time = taken j (taking time) (R .time) x S h p
+        (subst (λ v. Reads (plain valueOf) (taking time) feed v x i (e .time) (r .time)) (sym g) (Q .time));
   }
 
 -- a message inside starts inside the first bytes up to its end
@@ -149,7 +177,8 @@ pub record Stops (s : List ℕ) (from at q : ℕ) (p : Span) (k : ℕ) (a d : Ev
   pub arrival : Within 2 s from at a
   pub departure : Within 3 s from at d
 
-pub stops-start : {s : List ℕ} {from : ℕ} {a d : EventNumbers} → from ≤ length s → a ≡ noNumbers → d ≡ noNumbers → Stops s from from 0 noSpan 0 a d
+pub stops-start : {s : List ℕ} {from : ℕ} {a d : EventNumbers} → from ≤ length s → a ≡ noNumbers → d ≡ noNumbers
+    → Stops s from from 0 noSpan 0 a d
 stops-start h g g′ = record {
   sequence = begins (record { inside = h; within = tt });
   stop = begins (record { inside = h; within = omega arith });
@@ -159,7 +188,8 @@ stops-start h g g′ = record {
 }
 
 module _ {s : List ℕ} {from at q : ℕ} {p : Span} {k : ℕ} {a d : EventNumbers} (R : Stops s from at q p k a d) where
-  pub stops-end : {r : StopUpdate} → Stepped feed stopTimeUpdate s at Step.End → r ≡ fromStop q p k a d → StopReads s from r
+  pub stops-end : {r : StopUpdate} → Stepped feed stopTimeUpdate s at Step.End → r ≡ fromStop q p k a d
+      → StopReads s from r
   stops-end S e = record {
     q = q;
     p = p;
@@ -174,7 +204,8 @@ module _ {s : List ℕ} {from at q : ℕ} {p : Span} {k : ℕ} {a d : EventNumbe
     departure = within-ends (R .departure) S;
   }
 
-  pub stops-break : {r : StopUpdate} → Stepped feed stopTimeUpdate s at Step.Broken → r ≡ fromStop q p k a d → StopReads s from r
+  pub stops-break : {r : StopUpdate} → Stepped feed stopTimeUpdate s at Step.Broken → r ≡ fromStop q p k a d
+      → StopReads s from r
   stops-break S e = record {
     q = q;
     p = p;
@@ -190,7 +221,8 @@ module _ {s : List ℕ} {from at q : ℕ} {p : Span} {k : ℕ} {a d : EventNumbe
   }
 
   module _ {f m n : ℕ} (S : Stepped feed stopTimeUpdate s at (Step.Number f m n)) where
-    numbered : {q′ k′ : ℕ} → Reading (plain (λ n. n)) (taking sequence) feed stopTimeUpdate s from 0 n q′ → Reading (plain (λ n. n)) (taking relationship) feed stopTimeUpdate s from 0 n k′
+    numbered : {q′ k′ : ℕ} → Reading (plain (λ n. n)) (taking sequence) feed stopTimeUpdate s from 0 n q′
+        → Reading (plain (λ n. n)) (taking relationship) feed stopTimeUpdate s from 0 n k′
         → Stops s from n q′ p k′ a d
     numbered Q K = record {
       sequence = Q;
@@ -201,16 +233,22 @@ module _ {s : List ℕ} {from at q : ℕ} {p : Span} {k : ℕ} {a d : EventNumbe
     }
 
     pub stops-sequence : f ≡ 1 → Stops s from n m p k a d
-    stops-sequence h = numbered (mine-number sequence (R .sequence) S h refl tt) (other-number relationship (R .relationship) S (λ g. omega arith))
+    stops-sequence h =
+        numbered (mine-number sequence (R .sequence) S h refl tt)
+        (other-number relationship (R .relationship) S (λ g. omega arith))
 
     pub stops-relationship : f ≡ 5 → Stops s from n q p m a d
-    stops-relationship h = numbered (other-number sequence (R .sequence) S (λ g. omega arith)) (mine-number relationship (R .relationship) S h refl tt)
+    stops-relationship h =
+        numbered (other-number sequence (R .sequence) S (λ g. omega arith))
+        (mine-number relationship (R .relationship) S h refl tt)
 
     pub stops-number : (f ≡ 1 → ⊥) → (f ≡ 5 → ⊥) → Stops s from n q p k a d
-    stops-number h h′ = numbered (other-number sequence (R .sequence) S h) (other-number relationship (R .relationship) S h′)
+    stops-number h h′ =
+        numbered (other-number sequence (R .sequence) S h) (other-number relationship (R .relationship) S h′)
 
   module _ {f i l n : ℕ} (S : Stepped feed stopTimeUpdate s at (Step.Text f i l n)) where
-    texted : {p′ : Span} → Reading spans (taking stop) feed stopTimeUpdate s from noSpan n p′ → Stops s from n q p′ k a d
+    texted : {p′ : Span} → Reading spans (taking stop) feed stopTimeUpdate s from noSpan n p′
+        → Stops s from n q p′ k a d
     texted P = record {
       sequence = other-text sequence (R .sequence) S (sequence-number f (S .typed));
       stop = P;
@@ -235,11 +273,17 @@ module _ {s : List ℕ} {from at q : ℕ} {p : Span} {k : ℕ} {a d : EventNumbe
       departure = D;
     }
 
-    pub stops-arrival : {r : EventNumbers} (x : List ℕ) → f ≡ 2 → x ≡ take n s → EventReads x i a r → Stops s from n q p k r d
-    stops-arrival x h e Q = messaged (within-taken (R .arrival) x S h (arrival-event f u (S .typed) h) e Q) (within-passed (R .departure) S (λ g. omega arith))
+    pub stops-arrival : {r : EventNumbers} (x : List ℕ) → f ≡ 2 → x ≡ take n s → EventReads x i a r
+        → Stops s from n q p k r d
+    stops-arrival x h e Q =
+        messaged (within-taken (R .arrival) x S h (arrival-event f u (S .typed) h) e Q)
+        (within-passed (R .departure) S (λ g. omega arith))
 
-    pub stops-departure : {r : EventNumbers} (x : List ℕ) → f ≡ 3 → x ≡ take n s → EventReads x i d r → Stops s from n q p k a r
-    stops-departure x h e Q = messaged (within-passed (R .arrival) S (λ g. omega arith)) (within-taken (R .departure) x S h (departure-event f u (S .typed) h) e Q)
+    pub stops-departure : {r : EventNumbers} (x : List ℕ) → f ≡ 3 → x ≡ take n s → EventReads x i d r
+        → Stops s from n q p k a r
+    stops-departure x h e Q =
+        messaged (within-passed (R .arrival) S (λ g. omega arith))
+        (within-taken (R .departure) x S h (departure-event f u (S .typed) h) e Q)
 
     pub stops-message : (f ≡ 2 → ⊥) → (f ≡ 3 → ⊥) → Stops s from n q p k a d
     stops-message h h′ = messaged (within-passed (R .arrival) S h) (within-passed (R .departure) S h′)

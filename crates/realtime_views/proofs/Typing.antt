@@ -18,12 +18,17 @@ use Rattle.realtime_views.specs.laws.Scalars.{Lasting}
 use Rattle.realtime_views.specs.promises.Scalars.{one, two, three, four, five, six, said, Lying}
 use Rattle.realtime_views.specs.laws.Last.{leaf, taking-last}
 use Rattle.realtime_views.specs.promises.Last.{taking}
-use Rattle.realtime_views.specs.promises.Numbers.{orZeroAt, singleText, singleNumber, plain, spans, valueOf, noNumber, noSpan, fromEvent, EventsRead, NumberReady, NumberReads, StopReads}
+use Rattle.realtime_views.specs.promises.Numbers.{orZeroAt, singleText, singleNumber, plain, spans, valueOf}
+use Rattle.realtime_views.specs.promises.Numbers.{noNumber, noSpan, fromEvent, EventsRead, NumberReady}
+use Rattle.realtime_views.specs.promises.Numbers.{NumberReads, StopReads}
 use Rattle.realtime_views.specs.Typed.{uint32, int32, int64, bool, enum, numberIn, textIn, orZero}
 use Rattle.basics.specs.Options.{someAnd}
-use Rattle.realtime_views.specs.promises.Narrow.{toSpan, toTimestamp, toDirection, toDelay, isValue, toHeader, toTrip}
+use Rattle.realtime_views.specs.promises.Narrow.{toSpan, toTimestamp, toDirection, toDelay, isValue, toHeader}
+use Rattle.realtime_views.specs.promises.Narrow.{toTrip}
 use Rattle.realtime_views.specs.Views.{event}
-use Rattle.realtime_views.specs.promises.Views.{spanIn, viewTimestamp, viewDirection, viewDelay, viewTime, viewEvent, SpanInside, HeaderRead, DeletedRead, TripRead, StopRead, SequenceRead}
+use Rattle.realtime_views.specs.promises.Views.{spanIn, viewTimestamp, viewDirection, viewDelay, viewTime}
+use Rattle.realtime_views.specs.promises.Views.{viewEvent, SpanInside, HeaderRead, DeletedRead, TripRead}
+use Rattle.realtime_views.specs.promises.Views.{StopRead, SequenceRead}
 use Rattle.realtime_views.specs.declared.Scalar.{Scalar}
 use Rattle.realtime_views.specs.declared.Scalars.{Scalars}
 use Rattle.realtime_views.specs.declared.Span.{Span}
@@ -68,7 +73,8 @@ span-inside n (Scalar.Text i l) h = h
 span-inside n Scalar.Nothing h = omega arith
 
 -- of a message
-pub header-read : {σ : Schema} {s : List ℕ} {h : Scalars} {r : Header} → Lasting σ feedMessage s 0 (length s) (1 ∷ []) h → r ≡ toHeader h → HeaderRead σ s r
+pub header-read : {σ : Schema} {s : List ℕ} {h : Scalars} {r : Header}
+    → Lasting σ feedMessage s 0 (length s) (1 ∷ []) h → r ≡ toHeader h → HeaderRead σ s r
 header-read {σ} {s} {h} {r} L e = subst (HeaderRead σ s) (sym e) (record {
   of = λ m q.
       let p = L .of m (ap (tree σ feedMessage) (take-length s) ∙ q) in
@@ -78,7 +84,8 @@ header-read {σ} {s} {h} {r} L e = subst (HeaderRead σ s) (sym e) (record {
       };
 })
 
-pub trip-read : {σ : Schema} {s : List ℕ} {i l : ℕ} {d u : Scalars} {r : Trip} → Lasting σ feedEntity s i l (3 ∷ 1 ∷ []) d → Lasting σ feedEntity s i l (3 ∷ []) u
+pub trip-read : {σ : Schema} {s : List ℕ} {i l : ℕ} {d u : Scalars} {r : Trip}
+    → Lasting σ feedEntity s i l (3 ∷ 1 ∷ []) d → Lasting σ feedEntity s i l (3 ∷ []) u
     → r ≡ toTrip d u → TripRead σ s i l r
 trip-read {σ} {s} {i} {l} {d} {u} {r} L U e = subst (TripRead σ s i l) (sym e) (record {
   of = λ m q.
@@ -99,7 +106,8 @@ trip-read {σ} {s} {i} {l} {d} {u} {r} L U e = subst (TripRead σ s i l) (sym e)
 })
 
 -- an answer in the first bytes of s, up to the message's end, says what the whole's tree makes
-module _ {D B : Type 0} {L : Lens D B} {φ : Takes B} {t : ℕ} (s : List ℕ) {x : List ℕ} (i l : ℕ) {d r : D} (h : i + l ≤ length s) (e : x ≡ take (i + l) s) (Q : Reads L φ feed t x i d r) where
+module _ {D B : Type 0} {L : Lens D B} {φ : Takes B} {t : ℕ} (s : List ℕ) {x : List ℕ} (i l : ℕ) {d r : D}
+    (h : i + l ≤ length s) (e : x ≡ take (i + l) s) (Q : Reads L φ feed t x i d r) where
   room : L .In (i + l) r
   room = subst (λ k. L .In k r) (ap length e ∙ length-take (i + l) s ∙ omega arith) (Q .within)
 
@@ -108,7 +116,8 @@ module _ {D B : Type 0} {L : Lens D B} {φ : Takes B} {t : ℕ} (s : List ℕ) {
 
   pub made-of : (m : Tree) → tree feed t (take l (drop i s)) ≡ some m → L .look s r ≡ folded φ (L .look x d) m
   made-of m q =
-      sym (ap (λ y. L .look y r) e ∙ L .front s (i + l) r h room) ∙ Q .made .of m (ap (tree feed t) (ap (drop i) e ∙ front-rest s (i + l) i l refl h) ∙ q)
+      sym (ap (λ y. L .look y r) e ∙ L .front s (i + l) r h room)
+      ∙ Q .made .of m (ap (tree feed t) (ap (drop i) e ∙ front-rest s (i + l) i l refl h) ∙ q)
 
 -- of the numbers and the text of a stop_time_update
 leaf-zero : (k : ℕ) (o : Option Leaf) → leaf (orZeroAt k) 0 o ≡ orZero (numberIn o)
@@ -130,62 +139,80 @@ value-given : (o : Option ℕ) → eqb (enum (orZero o)) 1 ≡ someAnd (λ n. eq
 value-given none = refl
 value-given (some n) = refl
 
-delay-view : (b : Bool) (n : ℕ) → viewDelay (cond b (Delay.Given (int32 n)) Delay.Absent) ≡ Option·map int32 (cond b (some n) none)
+delay-view : (b : Bool) (n : ℕ)
+    → viewDelay (cond b (Delay.Given (int32 n)) Delay.Absent) ≡ Option·map int32 (cond b (some n) none)
 delay-view true n = refl
 delay-view false n = refl
 
-time-view : (b : Bool) (n : ℕ) → viewTime (cond b (Time.Given (int64 n)) Time.Absent) ≡ Option·map int64 (cond b (some n) none)
+time-view : (b : Bool) (n : ℕ) → viewTime (cond b (Time.Given (int64 n)) Time.Absent) ≡
+    Option·map int64 (cond b (some n) none)
 time-view true n = refl
 time-view false n = refl
 
-zero-of : (t k : ℕ) (s : List ℕ) {x : List ℕ} (i l : ℕ) → i + l ≤ length s → x ≡ take (i + l) s → (m : Tree) → tree feed t (take l (drop i s)) ≡ some m → {r : ℕ}
+zero-of : (t k : ℕ) (s : List ℕ) {x : List ℕ} (i l : ℕ) → i + l ≤ length s → x ≡ take (i + l) s → (m : Tree)
+    → tree feed t (take l (drop i s)) ≡ some m → {r : ℕ}
     → NumberReads x i t k r → r ≡ orZero (numberIn (last k m))
 zero-of t k s i l h e m q Q = made-of s i l h e Q m q ∙ taking-last (orZeroAt k) 0 m ∙ leaf-zero k (last k m)
 
-module _ (s : List ℕ) {x : List ℕ} (i l : ℕ) (h : i + l ≤ length s) (e : x ≡ take (i + l) s) (m : Tree) (q : tree feed stopTimeUpdate (take l (drop i s)) ≡ some m) where
-  text-of : (k : ℕ) {r : Span} → Reads spans (taking (singleText k)) feed stopTimeUpdate x i noSpan r → spanIn s r ≡ textIn (last k m)
+module _ (s : List ℕ) {x : List ℕ} (i l : ℕ) (h : i + l ≤ length s) (e : x ≡ take (i + l) s) (m : Tree)
+    (q : tree feed stopTimeUpdate (take l (drop i s)) ≡ some m) where
+  text-of : (k : ℕ) {r : Span} → Reads spans (taking (singleText k)) feed stopTimeUpdate x i noSpan r
+      → spanIn s r ≡ textIn (last k m)
   text-of k Q = made-of s i l h e Q m q ∙ taking-last (singleText k) [] m ∙ leaf-text k (last k m)
 
-  given-of : (j k : ℕ) {r : Number} → Reads (plain valueOf) (inside j (taking (singleNumber k))) feed stopTimeUpdate x i noNumber r → valueOf r ≡ numberIn (last k (sub j m))
+  given-of : (j k : ℕ) {r : Number}
+      → Reads (plain valueOf) (inside j (taking (singleNumber k))) feed stopTimeUpdate x i noNumber r
+      → valueOf r ≡ numberIn (last k (sub j m))
   given-of j k Q =
-      made-of s i l h e Q m q ∙ inside-sub j (taking (singleNumber k)) none m ∙ taking-last (singleNumber k) none (sub j m) ∙ leaf-given k (last k (sub j m))
+      made-of s i l h e Q m q ∙ inside-sub j (taking (singleNumber k)) none m
+      ∙ taking-last (singleNumber k) none (sub j m) ∙ leaf-given k (last k (sub j m))
 
   event-of : (j : ℕ) {r : EventNumbers} → EventsRead j x i r → viewEvent (fromEvent r) ≡ event (sub j m)
   event-of j {r} E = λ z. record {
-    delay = (delay-view (eqb (r .delay .given) 1) (r .delay .value) ∙ ap (Option·map int32) (given-of j 1 (E .delay))) z;
+    delay = (delay-view (eqb (r .delay .given) 1) (r .delay .value) ∙ ap (Option·map int32) (given-of j 1 (E .delay)))
+        z;
     time = (time-view (eqb (r .time .given) 1) (r .time .value) ∙ ap (Option·map int64) (given-of j 2 (E .time))) z;
   }
 
-pub stop-read : (s : List ℕ) {x : List ℕ} (i l : ℕ) {r : StopUpdate} → i + l ≤ length s → x ≡ take (i + l) s → StopReads x i r → StopRead feed s i l r
+pub stop-read : (s : List ℕ) {x : List ℕ} (i l : ℕ) {r : StopUpdate} → i + l ≤ length s → x ≡ take (i + l) s
+    → StopReads x i r → StopRead feed s i l r
 stop-read s i l h e R = subst (StopRead feed s i l) (sym (R .is)) (record {
   of = λ m q. λ z. record {
     sequence = ap uint32 (zero-of stopTimeUpdate 1 s i l h e m q (R .sequence)) z;
     stop = text-of s i l h e m q 4 (R .stop) z;
     arrival = event-of s i l h e m q 2 (R .arrival) z;
     departure = event-of s i l h e m q 3 (R .departure) z;
-    skipped = (ap (λ k. eqb (enum k) 1) (zero-of stopTimeUpdate 5 s i l h e m q (R .relationship)) ∙ value-given (numberIn (last 5 m))) z;
+    skipped =
+        (ap (λ k. eqb (enum k) 1) (zero-of stopTimeUpdate 5 s i l h e m q (R .relationship))
+        ∙ value-given (numberIn (last 5 m))) z;
   };
   stop = room-far s i l h e (R .stop);
 })
 
-pub sequence-read : (s : List ℕ) {x : List ℕ} (i l : ℕ) {n r : ℕ} → i + l ≤ length s → x ≡ take (i + l) s → NumberReads x i stopTimeUpdate 1 n → r ≡ uint32 n → SequenceRead feed s i l r
+pub sequence-read : (s : List ℕ) {x : List ℕ} (i l : ℕ) {n r : ℕ} → i + l ≤ length s → x ≡ take (i + l) s
+    → NumberReads x i stopTimeUpdate 1 n → r ≡ uint32 n → SequenceRead feed s i l r
 sequence-read s i l h e Q g = record { of = λ m q. g ∙ ap uint32 (zero-of stopTimeUpdate 1 s i l h e m q Q) }
 
 mark-given : (o : Option ℕ) → bool (orZero o) ≡ someAnd bool o
 mark-given none = refl
 mark-given (some n) = refl
 
-pub deleted-read : (s : List ℕ) {x : List ℕ} (i l : ℕ) {n : ℕ} {r : Bool} → i + l ≤ length s → x ≡ take (i + l) s → NumberReads x i feedEntity 2 n → r ≡ bool n → DeletedRead feed s i l r
-deleted-read s i l h e Q g = record { of = λ m q. g ∙ ap bool (zero-of feedEntity 2 s i l h e m q Q) ∙ mark-given (numberIn (last 2 m)) }
+pub deleted-read : (s : List ℕ) {x : List ℕ} (i l : ℕ) {n : ℕ} {r : Bool} → i + l ≤ length s → x ≡ take (i + l) s
+    → NumberReads x i feedEntity 2 n → r ≡ bool n → DeletedRead feed s i l r
+deleted-read s i l h e Q g =
+    record { of = λ m q. g ∙ ap bool (zero-of feedEntity 2 s i l h e m q Q) ∙ mark-given (numberIn (last 2 m)) }
 
 -- what the two readers of one number ask
-number-ready : (t k : ℕ) (s : List ℕ) {x : List ℕ} (i l : ℕ) → feed t k ≡ some aNumber → i + l ≤ length s → x ≡ take (i + l) s → NumberReady x i t k
+number-ready : (t k : ℕ) (s : List ℕ) {x : List ℕ} (i l : ℕ) → feed t k ≡ some aNumber → i + l ≤ length s
+    → x ≡ take (i + l) s → NumberReady x i t k
 number-ready t k s i l g h e = record { inside = omega (arith, ap length e, length-take (i + l) s); listed = g }
 
-pub deleted-ready : (s : List ℕ) {x : List ℕ} (i l : ℕ) → i + l ≤ length s → x ≡ take (i + l) s → NumberReady x i feedEntity 2
+pub deleted-ready : (s : List ℕ) {x : List ℕ} (i l : ℕ) → i + l ≤ length s → x ≡ take (i + l) s
+    → NumberReady x i feedEntity 2
 unfolding feed fieldRows
 deleted-ready s i l = number-ready feedEntity 2 s i l refl
 
-pub sequence-ready : (s : List ℕ) {x : List ℕ} (i l : ℕ) → i + l ≤ length s → x ≡ take (i + l) s → NumberReady x i stopTimeUpdate 1
+pub sequence-ready : (s : List ℕ) {x : List ℕ} (i l : ℕ) → i + l ≤ length s → x ≡ take (i + l) s
+    → NumberReady x i stopTimeUpdate 1
 unfolding feed fieldRows
 sequence-ready s i l = number-ready stopTimeUpdate 1 s i l refl

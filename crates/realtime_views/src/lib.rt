@@ -19,11 +19,15 @@ ghost use lib.ListN.{length};
 ghost use mathlib.Core.Bool.{cond};
 ghost use Rattle.realtime.specs.Schema.{feed};
 ghost use Rattle.realtime_views.specs.promises.Reading.{Ready, Reads};
-ghost use Rattle.realtime_views.specs.promises.Scalars.{TripReads, TripReady, UpdateReads, blank, kept, own, scalars, takesAlong};
-ghost use Rattle.realtime_views.specs.promises.Narrow.{isValue, toDelay, toDirection, toHeader, toSpan, toTimestamp, toTrip};
-ghost use Rattle.realtime_views.specs.promises.Numbers.{EventReads, NumberReads, NumberReady, StopReads, fromDelay, fromEvent, fromStop, fromTime, noNumbers};
+ghost use Rattle.realtime_views.specs.promises.Scalars.{TripReads, TripReady, UpdateReads, blank, kept, own};
+ghost use Rattle.realtime_views.specs.promises.Scalars.{scalars, takesAlong};
+ghost use Rattle.realtime_views.specs.promises.Narrow.{isValue, toDelay, toDirection, toHeader, toSpan};
+ghost use Rattle.realtime_views.specs.promises.Narrow.{toTimestamp, toTrip};
+ghost use Rattle.realtime_views.specs.promises.Numbers.{EventReads, NumberReads, NumberReady, StopReads};
+ghost use Rattle.realtime_views.specs.promises.Numbers.{fromDelay, fromEvent, fromStop, fromTime, noNumbers};
 ghost use Rattle.realtime_views.specs.Typed as typed;
-ghost use Rattle.realtime_views.specs.promises.Walks.{NextEntity, NextUpdate, SoundWalk, Walks, Yields, met, typeOf};
+ghost use Rattle.realtime_views.specs.promises.Walks.{NextEntity, NextUpdate, SoundWalk, Walks, Yields, met};
+ghost use Rattle.realtime_views.specs.promises.Walks.{typeOf};
 ghost use Rattle.realtime_views.specs.promises.Starts.{atMerged, atPlain};
 ghost use Rattle.realtime_views.specs.promises.Views.{DeletedRead, HeaderRead, SequenceRead, StopRead, TripRead};
 
@@ -378,7 +382,8 @@ fn trip_from(d: Scalars, u: Scalars) -> Trip
     }
 }
 
-// A number that may be absent: `given` is 0 or 1. Plain words, where an enum would be copied with the bytes between its parts,
+// A number that may be absent: `given` is 0 or 1. Plain words, where an enum would be copied with the bytes between
+// its parts,
 // which takes longer than the reading.
 pub struct Number {
     pub given: u64,
@@ -589,7 +594,8 @@ pub fn sequence_at(s: &[u8], start: usize, len: usize) -> u32
     uint32(last_number(update, start, STOP_TIME_UPDATE, sequence))
 }
 
-// A walk over the messages at a repeated field, of all the messages at another field merged: the next place outside, and what is left of the message that is open.
+// A walk over the messages at a repeated field, of all the messages at another field merged: the next place outside,
+// and what is left of the message that is open.
 pub struct Walk {
     pub outer: usize,
     pub end: usize,

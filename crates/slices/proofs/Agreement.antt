@@ -30,7 +30,8 @@ abbrev same-at : List ℕ → List ℕ → ℕ → Bool
 same-at a b i = eqb (getD a i 0) (getD b i 0)
 
 pub alike-eight : (a b : List ℕ) (i : ℕ)
-    → (same-at a b i && same-at a b (i + 1) && same-at a b (i + 2) && same-at a b (i + 3) && same-at a b (i + 4) && same-at a b (i + 5) && same-at a b (i + 6) && same-at a b (i + 7))
+    → (same-at a b i && same-at a b (i + 1) && same-at a b (i + 2) && same-at a b (i + 3) && same-at a b (i + 4)
+    && same-at a b (i + 5) && same-at a b (i + 6) && same-at a b (i + 7))
     ≡ alikeFrom 8 a b i
 alike-eight a b i = rw (add-zero i)
 
@@ -42,11 +43,14 @@ module _ {a b : List ℕ} where
       rw (add-one i, drop-cons a i 0 p, drop-cons b i 0 q, eq-eqb (getD a i 0) (getD b i 0) e) in
       record { left = omega arith; right = omega arith; rest = omega (arith, C .rest) }
 
-  pub common-alike : (n i : ℕ) → Common a b i → i + n ≤ length a → i + n ≤ length b → alikeFrom n a b i ≡ true → Common a b (i + n)
+  pub common-alike : (n i : ℕ) → Common a b i → i + n ≤ length a → i + n ≤ length b → alikeFrom n a b i ≡ true
+      → Common a b (i + n)
   common-alike zero i C p q e = rw (add-zero i) C
   common-alike (suc n) i C p q e =
       let t = eqb (getD a (i + n) 0) (getD b (i + n) 0) in
-      let next = common-more (common-alike n i C (omega arith) (omega arith) (and-left (alikeFrom n a b i) t e)) (omega arith) (omega arith)
+      let next =
+      common-more (common-alike n i C (omega arith) (omega arith) (and-left (alikeFrom n a b i) t e)) (omega arith)
+      (omega arith)
       (eqb-true (getD a (i + n) 0) (getD b (i + n) 0) (and-right (alikeFrom n a b i) t e)) in
       let same : i + n + 1 ≡ i + suc n = omega arith in
       rw same at next
@@ -60,9 +64,11 @@ module _ {a b : List ℕ} where
   unfolding commonOf
   common-right {i} C p h = sym (C .rest ∙ rw (drop-cons a i 0 p, drop-of-length-le b h) (omega arith))
 
-  pub common-differ : {i : ℕ} → Common a b i → i < length a → i < length b → (getD a i 0 ≡ getD b i 0 → ⊥) → i ≡ commonOf a b
+  pub common-differ : {i : ℕ} → Common a b i → i < length a → i < length b → (getD a i 0 ≡ getD b i 0 → ⊥)
+      → i ≡ commonOf a b
   unfolding commonOf
-  common-differ {i} C p q e = sym (C .rest ∙ rw (drop-cons a i 0 p, drop-cons b i 0 q, ne-eqb (getD a i 0) (getD b i 0) e) (omega arith))
+  common-differ {i} C p q e =
+      sym (C .rest ∙ rw (drop-cons a i 0 p, drop-cons b i 0 q, ne-eqb (getD a i 0) (getD b i 0) e) (omega arith))
 
 common-self : (a : List ℕ) → commonOf a a ≡ length a
 unfolding commonOf
@@ -104,7 +110,8 @@ lex-common [] b = refl
 lex-common (x ∷ a) [] = refl
 lex-common (x ∷ a) (y ∷ b) = go (lex-common a b) (eqb x y) refl
   where
-    go : lexOf a b ≡ lexOf (drop (commonOf a b) a) (drop (commonOf a b) b) → (t : Bool) → eqb x y ≡ t → lexOf (x ∷ a) (y ∷ b)
+    go : lexOf a b ≡ lexOf (drop (commonOf a b) a) (drop (commonOf a b) b) → (t : Bool) → eqb x y ≡ t
+        → lexOf (x ∷ a) (y ∷ b)
         ≡ lexOf (drop (cond t (suc (commonOf a b)) 0) (x ∷ a)) (drop (cond t (suc (commonOf a b)) 0) (y ∷ b))
     go ih true e =
         let h : x ≡ y = eqb-true x y e in
@@ -112,13 +119,16 @@ lex-common (x ∷ a) (y ∷ b) = go (lex-common a b) (eqb x y) refl
     go ih false e = refl
 
 -- what stands behind it differs
-common-next : (a b : List ℕ) → commonOf a b < length a → commonOf a b < length b → getD a (commonOf a b) 0 ≡ getD b (commonOf a b) 0 → ⊥
+common-next : (a b : List ℕ) → commonOf a b < length a → commonOf a b < length b
+    → getD a (commonOf a b) 0 ≡ getD b (commonOf a b) 0 → ⊥
 unfolding commonOf
 common-next [] b p q e = absurd (omega arith)
 common-next (x ∷ a) [] p q e = absurd (omega arith)
 common-next (x ∷ a) (y ∷ b) p q e = go (common-next a b) (eqb x y) refl p q e
   where
-    go : (commonOf a b < length a → commonOf a b < length b → getD a (commonOf a b) 0 ≡ getD b (commonOf a b) 0 → ⊥) → (t : Bool) → eqb x y ≡ t → cond t (suc (commonOf a b)) 0 < suc (length a) → cond t (suc (commonOf a b)) 0 < suc (length b)
+    go : (commonOf a b < length a → commonOf a b < length b → getD a (commonOf a b) 0 ≡ getD b (commonOf a b) 0 → ⊥)
+        → (t : Bool) → eqb x y ≡ t → cond t (suc (commonOf a b)) 0 < suc (length a)
+        → cond t (suc (commonOf a b)) 0 < suc (length b)
         → getD (x ∷ a) (cond t (suc (commonOf a b)) 0) 0 ≡ getD (y ∷ b) (cond t (suc (commonOf a b)) 0) 0 → ⊥
     go ih true h p₁ q₁ e₁ = ih (omega arith) (omega arith) e₁
     go ih false h p₁ q₁ e₁ = eqb-false x y h e₁
@@ -147,4 +157,5 @@ module _ (a b : List ℕ) (n : ℕ) (c : n ≡ commonOf a b) where
   unfolding lexOf
   lex-more p q l =
       let other : getD a n 0 ≡ getD b n 0 → ⊥ = rw c (common-next a b (omega arith) (omega arith)) in
-      sym (behind ∙ rw (drop-cons a n 0 p, drop-cons b n 0 q, le-ltb (getD a n 0) (getD b n 0) l, lt-ltb (getD b n 0) (getD a n 0) (omega (arith, other))))
+      sym (behind
+      ∙ rw (drop-cons a n 0 p, drop-cons b n 0 q, le-ltb (getD a n 0) (getD b n 0) l, lt-ltb (getD b n 0) (getD a n 0) (omega (arith, other))))

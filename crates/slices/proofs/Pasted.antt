@@ -6,7 +6,8 @@ use native.Mathlib.Numerals.{add-one}
 use native.Mathlib.Nat.{add-assoc}
 use native.Mathlib.Omega.{arith}
 use lib.ListN.{length, getD, take, drop, set, length-set, length-drop}
-use lib.Seq.{length-take-le, getD-set-other, getD-set-same, paste, paste-zero, paste-suc, length-paste, take-paste, drop-paste, take-add, take-length, drop-drop}
+use lib.Seq.{length-take-le, getD-set-other, getD-set-same, paste, paste-zero, paste-suc, length-paste, take-paste}
+use lib.Seq.{drop-paste, take-add, take-length, drop-drop}
 use borrow.Author.Count.{below-more}
 use Rattle.slices.specs.Lists.{pasted}
 
@@ -26,7 +27,8 @@ module _ {d₀ : List ℕ} {at : ℕ} {s : List ℕ} {i : ℕ} {d : List ℕ} (P
     room = P .room;
     within = omega arith;
     long = length-set d (at + i) (getD s i 0) ∙ P .long;
-    is = ap (λ l. set l (at + i) (getD s i 0)) (P .is) ∙ paste-suc d₀ at s i 0 (omega (arith, P .room)) h ∙ ap (paste d₀ at s) (sym (add-one i));
+    is = ap (λ l. set l (at + i) (getD s i 0)) (P .is) ∙ paste-suc d₀ at s i 0 (omega (arith, P .room)) h
+        ∙ ap (paste d₀ at s) (sym (add-one i));
   }
 
   -- k more, as a part of their own
@@ -37,8 +39,10 @@ module _ {d₀ : List ℕ} {at : ℕ} {s : List ℕ} {i : ℕ} {d : List ℕ} (P
       let within = P .within in
       let m₁ : i + k - i ≡ k = omega arith in
       let m₂ : at + i + k - (at + i) ≡ k = omega arith in
-      let front : take (at + i) d ≡ take at d₀ ++ take i s = ap (take (at + i)) (P .is) ∙ take-paste d₀ at s i (omega arith) within in
-      let back : drop (at + i) d ≡ drop (at + i) d₀ = ap (drop (at + i)) (P .is) ∙ drop-paste d₀ at s i (omega arith) within in
+      let front : take (at + i) d ≡ take at d₀ ++ take i s =
+      ap (take (at + i)) (P .is) ∙ take-paste d₀ at s i (omega arith) within in
+      let back : drop (at + i) d ≡ drop (at + i) d₀ =
+      ap (drop (at + i)) (P .is) ∙ drop-paste d₀ at s i (omega arith) within in
       let eq : take (at + i) d ++ (b ++ drop (at + i + k - (at + i)) (drop (at + i) d)) ≡ paste d₀ at s (i + k) =
       rw (e, m₁, m₂, front, back, drop-drop k (at + i) d₀, add-assoc at i k, take-add i k s) (simp append-assoc) in
       record {
@@ -73,7 +77,8 @@ pub record Copied (s : List ℕ) (n i : ℕ) (d : List ℕ) : Type 0 where
 pub copied-none : {s : List ℕ} {n : ℕ} {d : List ℕ} → length d ≡ n → Copied s n 0 d
 copied-none h = record { within = omega arith; long = h; same = λ k l. absurd (omega arith) }
 
-pub copied-more : {s : List ℕ} {n i : ℕ} {d : List ℕ} → Copied s n i d → i < n → Copied s n (i + 1) (set d i (getD s i 0))
+pub copied-more : {s : List ℕ} {n i : ℕ} {d : List ℕ} → Copied s n i d → i < n
+    → Copied s n (i + 1) (set d i (getD s i 0))
 copied-more {s} {n} {i} {d} C h = record {
   within = omega arith;
   long = length-set d i (getD s i 0) ∙ C .long;

@@ -60,12 +60,17 @@ pub number-out : {c : Coordinate} {x : Float} {n : ℕ} → c ≡ Number x → n
 number-out e h = h ∙ sym (ap bitsOf e)
 
 -- a place that is read, and one that is written
-pub place-is : {a b : Coordinate} {m n x y : ℕ} {u z : ℤ} → a ≡ coordinateOf m → b ≡ coordinateOf n → m ≡ x → n ≡ y → u ≡ z → SFits w64 u
+pub place-is : {a b : Coordinate} {m n x y : ℕ} {u z : ℤ} → a ≡ coordinateOf m → b ≡ coordinateOf n → m ≡ x → n ≡ y
+    → u ≡ z → SFits w64 u
     → _≡_ {A = VehiclePlace} (record { latitude = a; longitude = b; updated = toZ w64 (ofZ w64 u) }) (placeOf x y z)
 place-is e f g h i s = rw (e, f, g, h, toZ-ofZ s, i) refl
 
-pub place-out : (v : VehiclePlace) {m n : ℕ} → m ≡ bitsOf (v .latitude) → n ≡ bitsOf (v .longitude) → SFits w64 (v .updated)
-    → {l o p q : List ℕ} {r i j k : Put} → Adds l r o i (optionalW (littleW 8) (inr m)) → Adds o i p j (optionalW (littleW 8) (inr n))
+pub place-out : (v : VehiclePlace) {m n : ℕ} → m ≡ bitsOf (v .latitude) → n ≡ bitsOf (v .longitude)
+    → SFits w64 (v .updated)
+    → {l o p q : List ℕ} {r i j k : Put} → Adds l r o i (optionalW (littleW 8) (inr m))
+    → Adds o i p j (optionalW (littleW 8) (inr n))
     → Adds p j q k (optionalW (λ z. numberW (zig z)) (inr (toZ w64 (ofZ w64 (v .updated))))) → Adds l r q k (placeW v)
 place-out v e f s a b c =
-    then (same a (ap (λ n. optionalW (littleW 8) (inr n)) e)) (then (same b (ap (λ n. optionalW (littleW 8) (inr n)) f)) (same c (ap (λ z. optionalW (λ z. numberW (zig z)) (inr z)) (toZ-ofZ s))))
+    then (same a (ap (λ n. optionalW (littleW 8) (inr n)) e))
+    (then (same b (ap (λ n. optionalW (littleW 8) (inr n)) f))
+    (same c (ap (λ z. optionalW (λ z. numberW (zig z)) (inr z)) (toZ-ofZ s))))

@@ -4,7 +4,8 @@ use mathlib.Core.Path.{_≡_, sym}
 use mathlib.Core.List.{List}
 use lib.ListN.{drop}
 use Rattle.wire.specs.promises.Places.{keyAt, skippedAt}
-use Rattle.wire.specs.laws.At.{place, key-read, key-broken, skipped-read, skipped-broken, field-read, field-broken-key, field-broken-value}
+use Rattle.wire.specs.laws.At.{place, key-read, key-broken, skipped-read, skipped-broken, field-read, field-broken-key}
+use Rattle.wire.specs.laws.At.{field-broken-value}
 use Rattle.wire.specs.declared.Cursor.{Cursor}
 use Rattle.wire.specs.declared.GotKey.{GotKey}
 use Rattle.wire.specs.declared.Skipped.{Skipped}
@@ -22,4 +23,5 @@ module _ (s : List ℕ) (at : ℕ) where
     pub end-past : (d : Cursor) → Skipped.Past d ≡ skippedAt s (c .at) n w 16 → d .at ≡ fieldEnd s at
     end-past d h =
         let Q = skipped-read s (c .at) n w 16 d h in
-        rw (field-read s at 16 _ (c .at) (Q .0) (d .at) (key-read s at n w c e) (Q .1)) (sym (place s (d .at) (Q .1 .inside)))
+        rw (field-read s at 16 _ (c .at) (Q .0) (d .at) (key-read s at n w c e) (Q .1))
+        (sym (place s (d .at) (Q .1 .inside)))

@@ -43,7 +43,8 @@ module _ (s : List ℕ) (acc at : ℕ) (inv : Passed s acc at) where
     pub xor-more : Passed s (bitXor acc n) (c .at)
     xor-more =
         inv
-        ∙ ap (xorOf acc) (many-step varint reader-varint varint-nil (drop at s) n (drop (c .at) s) (number-read s at n c e .same))
+        ∙ ap (xorOf acc)
+        (many-step varint reader-varint varint-nil (drop at s) n (drop (c .at) s) (number-read s at n c e .same))
         ∙ go (many varint (length (drop (c .at) s)) (drop (c .at) s))
       where
         go : (o : Option (List ℕ)) → xorOf acc (Option·map (λ l. n ∷ l) o) ≡ xorOf (bitXor acc n) o

@@ -1,4 +1,5 @@
--- `alerts::characters_end` meets its contract. The invariant: the characters are the bytes passed and those that are left.
+-- `alerts::characters_end` meets its contract. The invariant: the characters are the bytes passed and those that are
+-- left.
 use mathlib.Core.Path.{sym, _∙_}
 use Prim.Native.Nat.{_-_}
 use native.Mathlib.Omega.{arith}
@@ -27,7 +28,8 @@ goes-on-requires c κs = search needs
 
 returns : tie.Need-returns Inv-loop μ-loop
 returns c =
-    stops _ _ _ _ (c .before .before .before .before .before .loop .inv) (c .before .before .before .before .loop-test .taken)
+    stops _ _ _ _ (c .before .before .before .before .before .loop .inv)
+    (c .before .before .before .before .loop-test .taken)
     (sym (c .before .before .goes-on .ensures) ∙ not-true _ (c .before .if1 .taken)) (c .if2 .taken)
 
 sub-left : tie.Need-sub-left Inv-loop μ-loop

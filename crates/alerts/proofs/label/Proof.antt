@@ -13,7 +13,9 @@ characters-end-requires c κs = search needs
 
 slice-aggregate-result : tie.Need-slice-aggregate-result
 slice-aggregate-result c =
-    sym (length-take-le (c .before .characters-end .result) (c .before .before .before .before .before .args .description .now) (c .before .characters-end .ensures .within))
+    sym (length-take-le (c .before .characters-end .result)
+    (c .before .before .before .before .before .args .description .now)
+    (c .before .characters-end .ensures .within))
 
 returns-2 : tie.Need-returns-2
 returns-2 c = rw (c .before .before .if1 .left) (c .before .characters-end .ensures .taken)

@@ -8,7 +8,9 @@ use borrow.Author.Tests.{eqb-true, eq-eqb}
 use Rattle.basics.specs.Lists.{any, member, concatMap}
 use Rattle.basics.specs.Texts.{same}
 use Rattle.alerts.specs.Alert.{Alert, informed-trip-ids, informed-route-ids, informed-stop-ids}
-use Rattle.alerts.specs.Index.{undated, tripKeys, idKeys, Map, push, numbersAt, pushAll, indexed, rebuild-alert-index, legTrips, legRoutes, legStops, distinct, alert-candidates-for-leg, meets, numbersWhere, search}
+use Rattle.alerts.specs.Index.{undated, tripKeys, idKeys, Map, push, numbersAt, pushAll, indexed}
+use Rattle.alerts.specs.Index.{rebuild-alert-index, legTrips, legRoutes, legStops, distinct}
+use Rattle.alerts.specs.Index.{alert-candidates-for-leg, meets, numbersWhere, search}
 use Rattle.basics.specs.laws.Lists.{any-append, any-same, any-join, any-swap}
 use Rattle.basics.specs.laws.Texts.{same-true}
 use Rattle.basics.specs.laws.Booleans.{and-no, false-true, or-false, or-assoc, or-comm, both-ways}
@@ -33,7 +35,8 @@ member-distinct j seen (i ∷ l) =
     distinct-step j i seen l (member i seen) refl (member-distinct j seen l) (member-distinct j (i ∷ seen) l)
 
 -- what a push leaves at a key
-get-push : (k k′ : List ℕ) (i : ℕ) (m : Map) → numbersAt k (push k′ i m) ≡ cond (same k k′) (numbersAt k m ++ (i ∷ [])) (numbersAt k m)
+get-push : (k k′ : List ℕ) (i : ℕ) (m : Map)
+    → numbersAt k (push k′ i m) ≡ cond (same k k′) (numbersAt k m ++ (i ∷ [])) (numbersAt k m)
 get-push k k′ i [] = refl
 get-push k k′ i (e ∷ m) = go (same k′ (e .0)) refl (same k (e .0)) refl (get-push k k′ i m)
   where
@@ -51,10 +54,12 @@ get-push k k′ i (e ∷ m) = go (same k′ (e .0)) refl (same k (e .0)) refl (g
     go false g true h ih = rw (g, h, other g h (same k k′) refl) refl
     go false g false h ih = rw (g, h) ih
 
-member-push : (j : ℕ) (k k′ : List ℕ) (i : ℕ) (m : Map) → member j (numbersAt k (push k′ i m)) ≡ member j (numbersAt k m) || same k k′ && eqb j i
+member-push : (j : ℕ) (k k′ : List ℕ) (i : ℕ) (m : Map)
+    → member j (numbersAt k (push k′ i m)) ≡ member j (numbersAt k m) || same k k′ && eqb j i
 member-push j k k′ i m = ap (member j) (get-push k k′ i m) ∙ go (same k k′)
   where
-    go : (t : Bool) → member j (cond t (numbersAt k m ++ (i ∷ [])) (numbersAt k m)) ≡ member j (numbersAt k m) || t && eqb j i
+    go : (t : Bool) → member j (cond t (numbersAt k m ++ (i ∷ [])) (numbersAt k m)) ≡ member j (numbersAt k m) || t
+        && eqb j i
     go true = any-append (eqb j) (numbersAt k m) (i ∷ []) ∙ ap (λ x. member j (numbersAt k m) || x) (or-false (eqb j i))
     go false = sym (or-false (member j (numbersAt k m)))
 
@@ -75,17 +80,24 @@ member-pushAll j k (k′ ∷ ks) i m =
 
 -- the index gives at a key the numbers of the alerts that have it
 member-indexed : (j : ℕ) (k : List ℕ) (keys : Alert → List (List ℕ)) (i : ℕ) (l : List Alert) (m : Map)
-    → member j (numbersAt k (indexed keys i l m)) ≡ member j (numbersAt k m) || member j (numbersWhere (λ a. any (same k) (keys a)) i l)
+    → member j (numbersAt k (indexed keys i l m)) ≡ member j (numbersAt k m)
+    || member j (numbersWhere (λ a. any (same k) (keys a)) i l)
 member-indexed j k keys i [] m = sym (or-false (member j (numbersAt k m)))
 member-indexed j k keys i (a ∷ l) m =
     member-indexed j k keys (suc i) l (pushAll (keys a) i m)
     ∙ ap (λ x. x || member j (numbersWhere (λ a. any (same k) (keys a)) (suc i) l)) (member-pushAll j k (keys a) i m)
     ∙ go (any (same k) (keys a))
   where
-    go : (t : Bool) → member j (numbersAt k m) || t && eqb j i || member j (numbersWhere (λ a. any (same k) (keys a)) (suc i) l)
-        ≡ member j (numbersAt k m) || member j (cond t (i ∷ numbersWhere (λ a. any (same k) (keys a)) (suc i) l) (numbersWhere (λ a. any (same k) (keys a)) (suc i) l))
-    go true = or-assoc (member j (numbersAt k m)) (eqb j i) (member j (numbersWhere (λ a. any (same k) (keys a)) (suc i) l))
-    go false = ap (λ x. x || member j (numbersWhere (λ a. any (same k) (keys a)) (suc i) l)) (or-false (member j (numbersAt k m)))
+    go : (t : Bool) → member j (numbersAt k m) || t && eqb j i
+        || member j (numbersWhere (λ a. any (same k) (keys a)) (suc i) l)
+        ≡ member j (numbersAt k m) || member j
+        (cond t (i ∷ numbersWhere (λ a. any (same k) (keys a)) (suc i) l)
+        (numbersWhere (λ a. any (same k) (keys a)) (suc i) l))
+    go true =
+        or-assoc (member j (numbersAt k m)) (eqb j i) (member j (numbersWhere (λ a. any (same k) (keys a)) (suc i) l))
+    go false =
+        ap (λ x. x || member j (numbersWhere (λ a. any (same k) (keys a)) (suc i) l))
+        (or-false (member j (numbersAt k m)))
 
 -- the numbers that one of two tests takes, and that one of several takes
 numbers-or : (j : ℕ) (p q : Alert → Bool) (i : ℕ) (l : List Alert)
@@ -93,16 +105,21 @@ numbers-or : (j : ℕ) (p q : Alert → Bool) (i : ℕ) (l : List Alert)
 numbers-or j p q i [] = refl
 numbers-or j p q i (a ∷ l) = go (p a) (q a) (numbers-or j p q (suc i) l)
   where
-    go : (t u : Bool) → member j (numbersWhere (λ a. p a || q a) (suc i) l) ≡ member j (numbersWhere p (suc i) l) || member j (numbersWhere q (suc i) l)
-        → member j (cond (t || u) (i ∷ numbersWhere (λ a. p a || q a) (suc i) l) (numbersWhere (λ a. p a || q a) (suc i) l))
-        ≡ member j (cond t (i ∷ numbersWhere p (suc i) l) (numbersWhere p (suc i) l)) || member j (cond u (i ∷ numbersWhere q (suc i) l) (numbersWhere q (suc i) l))
+    go : (t u : Bool) → member j (numbersWhere (λ a. p a || q a) (suc i) l) ≡ member j (numbersWhere p (suc i) l)
+        || member j (numbersWhere q (suc i) l)
+        → member j
+        (cond (t || u) (i ∷ numbersWhere (λ a. p a || q a) (suc i) l) (numbersWhere (λ a. p a || q a) (suc i) l))
+        ≡ member j (cond t (i ∷ numbersWhere p (suc i) l) (numbersWhere p (suc i) l))
+        || member j (cond u (i ∷ numbersWhere q (suc i) l) (numbersWhere q (suc i) l))
     go true true ih = rw ih (once (eqb j i) (member j (numbersWhere p (suc i) l)) (member j (numbersWhere q (suc i) l)))
       where
         once : (e x y : Bool) → e || (x || y) ≡ e || x || (e || y)
         once true x y = refl
         once false x y = refl
-    go true false ih = rw ih (sym (or-assoc (eqb j i) (member j (numbersWhere p (suc i) l)) (member j (numbersWhere q (suc i) l))))
-    go false true ih = rw ih (past (eqb j i) (member j (numbersWhere p (suc i) l)) (member j (numbersWhere q (suc i) l)))
+    go true false ih =
+        rw ih (sym (or-assoc (eqb j i) (member j (numbersWhere p (suc i) l)) (member j (numbersWhere q (suc i) l))))
+    go false true ih =
+        rw ih (past (eqb j i) (member j (numbersWhere p (suc i) l)) (member j (numbersWhere q (suc i) l)))
       where
         past : (e x y : Bool) → e || (x || y) ≡ x || (e || y)
         past true true y = refl
@@ -121,25 +138,31 @@ numbers-any j p (k ∷ ks) i l =
     ap (λ x. member j (numbersWhere (p k) i l) || x) (numbers-any j p ks i l)
     ∙ sym (numbers-or j (p k) (λ a. any (λ k. p k a) ks) i l)
 
-numbers-same : (p q : Alert → Bool) → ((a : Alert) → p a ≡ q a) → (i : ℕ) (l : List Alert) → numbersWhere p i l ≡ numbersWhere q i l
+numbers-same : (p q : Alert → Bool) → ((a : Alert) → p a ≡ q a) → (i : ℕ) (l : List Alert)
+    → numbersWhere p i l ≡ numbersWhere q i l
 numbers-same p q h i [] = refl
 numbers-same p q h i (a ∷ l) = rw (h a, numbers-same p q h (suc i) l) refl
 
 -- one of the three maps, looked up by a leg's keys
-member-lookup : (j : ℕ) (ks : List (List ℕ)) (keys : List ℕ → List (List ℕ)) (ids : Alert → List (List ℕ)) (l : List Alert)
+member-lookup : (j : ℕ) (ks : List (List ℕ)) (keys : List ℕ → List (List ℕ)) (ids : Alert → List (List ℕ))
+    (l : List Alert)
     → member j (concatMap (λ k. numbersAt k (indexed (λ a. concatMap keys (ids a)) 0 l [])) ks)
     ≡ member j (numbersWhere (λ a. any (λ x. meets ks (keys x)) (ids a)) 0 l)
 member-lookup j ks keys ids l =
     any-join (eqb j) (λ k. numbersAt k (indexed (λ a. concatMap keys (ids a)) 0 l [])) ks
     ∙ any-same _ _ (λ k. member-indexed j k (λ a. concatMap keys (ids a)) 0 l []) ks
     ∙ numbers-any j (λ k a. any (same k) (concatMap keys (ids a))) ks 0 l
-    ∙ ap (member j) (numbers-same _ _ (λ a. any-same _ _ (λ k. any-join (same k) keys (ids a)) ks ∙ any-swap (λ k x. any (same k) (keys x)) ks (ids a)) 0 l)
+    ∙ ap (member j)
+    (numbers-same _ _
+    (λ a. any-same _ _ (λ k. any-join (same k) keys (ids a)) ks
+    ∙ any-swap (λ k x. any (same k) (keys x)) ks (ids a)) 0 l)
 
 -- the keys of a trip id are the id and the undated one
 meets-trip : (ks : List (List ℕ)) (t : List ℕ) → meets ks (tripKeys t) ≡ meets ks (t ∷ undated t ∷ [])
 meets-trip ks t = any-same _ _ (λ k. go k (same (undated t) t) refl) ks
   where
-    go : (k : List ℕ) (e : Bool) → same (undated t) t ≡ e → any (same k) (undated t ∷ cond e [] (t ∷ [])) ≡ any (same k) (t ∷ undated t ∷ [])
+    go : (k : List ℕ) (e : Bool) → same (undated t) t ≡ e
+        → any (same k) (undated t ∷ cond e [] (t ∷ [])) ≡ any (same k) (t ∷ undated t ∷ [])
     go k true h = rw (same-true (undated t) t h) (once (same k t))
       where
         once : (x : Bool) → x || false ≡ x || (x || false)
@@ -154,7 +177,8 @@ meets-trip ks t = any-same _ _ (λ k. go k (same (undated t) t) refl) ks
         turned false false = refl
 
 module _ (l : List Alert) (trip route from to : List ℕ) where
-  pub search-is-index : (j : ℕ) → member j (alert-candidates-for-leg l trip route from to) ≡ member j (search l trip route from to)
+  pub search-is-index : (j : ℕ) → member j (alert-candidates-for-leg l trip route from to) ≡
+      member j (search l trip route from to)
   search-is-index j =
       let x = rebuild-alert-index l in
       let trips = concatMap (λ k. numbersAt k (x .by-trip)) (legTrips trip) in
@@ -163,7 +187,8 @@ module _ (l : List Alert) (trip route from to : List ℕ) where
       let byTrip : Alert → Bool = λ a. any (λ t. meets (legTrips trip) (t ∷ undated t ∷ [])) (informed-trip-ids a) in
       let byRoute : Alert → Bool = λ a. any (λ r. meets (legRoutes route) (idKeys r)) (informed-route-ids a) in
       let byStop : Alert → Bool = λ a. any (λ s. meets (legStops from to) (idKeys s)) (informed-stop-ids a) in
-      let each : member j trips || member j routes || member j stops ≡ member j (numbersWhere (λ a. byTrip a || byRoute a || byStop a) 0 l) =
+      let each : member j trips || member j routes || member j stops ≡
+      member j (numbersWhere (λ a. byTrip a || byRoute a || byStop a) 0 l) =
       rw (
         member-lookup j (legTrips trip) tripKeys informed-trip-ids l,
         member-lookup j (legRoutes route) idKeys informed-route-ids l,
@@ -189,7 +214,8 @@ any-member : (p : ℕ → Bool) (l : List ℕ) → any p l ≡ true → (j : ℕ
 any-member p [] h = false-true h
 any-member p (i ∷ l) h = go (p i) refl (any-member p l)
   where
-    go : (t : Bool) → p i ≡ t → (any p l ≡ true → (j : ℕ) × (member j l ≡ true) × (p j ≡ true)) → (j : ℕ) × (member j (i ∷ l) ≡ true) × (p j ≡ true)
+    go : (t : Bool) → p i ≡ t → (any p l ≡ true → (j : ℕ) × (member j l ≡ true) × (p j ≡ true))
+        → (j : ℕ) × (member j (i ∷ l) ≡ true) × (p j ≡ true)
     go true x ih = (i, rw (eq-eqb i i refl) refl, x)
     go false x ih =
         let (j, m, e) = ih (sym (ap (λ t. t || any p l) x) ∙ h) in
@@ -202,6 +228,8 @@ any-members p l m h = both-ways (any p l) (any p m) (half l m h) (half m l (λ j
     half l m h e = let (j, g, x) = any-member p l e in member-any p m j (sym (h j) ∙ g) x
 
 module _ (l : List Alert) (trip route from to : List ℕ) where
-  pub any-candidates : (p : ℕ → Bool) → any p (alert-candidates-for-leg l trip route from to) ≡ any p (search l trip route from to)
+  pub any-candidates : (p : ℕ → Bool)
+      → any p (alert-candidates-for-leg l trip route from to) ≡ any p (search l trip route from to)
   any-candidates p =
-      any-members p (alert-candidates-for-leg l trip route from to) (search l trip route from to) (search-is-index l trip route from to)
+      any-members p (alert-candidates-for-leg l trip route from to) (search l trip route from to)
+      (search-is-index l trip route from to)

@@ -82,7 +82,8 @@ pub rsplit-joined : (c : ℕ) (s x y : List ℕ) → rsplit-once c s ≡ some (x
 rsplit-joined c [] x y e = none-some e
 rsplit-joined c (b ∷ s) x y e = go (rsplit-once c s) refl (eqb b c) refl e (rsplit-joined c s)
   where
-    go : (o : Option (List ℕ × List ℕ)) → rsplit-once c s ≡ o → (t : Bool) → eqb b c ≡ t → splitOff t b s o ≡ some (x, y)
+    go : (o : Option (List ℕ × List ℕ)) → rsplit-once c s ≡ o → (t : Bool) → eqb b c ≡ t
+        → splitOff t b s o ≡ some (x, y)
         → ((x y : List ℕ) → rsplit-once c s ≡ some (x, y) → s ≡ x ++ (c ∷ y)) → b ∷ s ≡ x ++ (c ∷ y)
     go (some p) eo t et e ih = found (λ x y. b ∷ s ≡ x ++ (c ∷ y)) e (headed refl (ih (p .0) (p .1) eo))
     go none eo true et e ih = found (λ x y. b ∷ s ≡ x ++ (c ∷ y)) e (headed (eqb-true b c et) refl)

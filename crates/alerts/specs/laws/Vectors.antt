@@ -10,7 +10,8 @@ use Prim.Native.String.{String}
 use Rattle.alerts.specs.Text.{text}
 use Rattle.alerts.specs.Alert.{Alert}
 use Rattle.alerts.specs.Index.{alert-candidates-for-leg}
-use Rattle.alerts.specs.Applies.{product-code-token, fold-alert-blob, commercial-lines-in-text, is-road-traffic-alert, alert-applies-to-leg-with-mode}
+use Rattle.alerts.specs.Applies.{product-code-token, fold-alert-blob, commercial-lines-in-text}
+use Rattle.alerts.specs.Applies.{is-road-traffic-alert, alert-applies-to-leg-with-mode}
 use Rattle.alerts.specs.Label.{label}
 
 -- an alert with a header, by its ids
@@ -28,7 +29,8 @@ abbrev lines : String → List (List ℕ)
 lines s = commercial-lines-in-text (fold-alert-blob (text s))
 
 -- another date of the trip is a candidate, and doesn't apply
-other-date : (candidates (saying "Retard" ("f:1@20260101" ∷ []) [] []) ≡ 0 ∷ []) × (applied (saying "Retard" ("f:1@20260101" ∷ []) [] []) ≡ false)
+other-date : (candidates (saying "Retard" ("f:1@20260101" ∷ []) [] []) ≡ 0 ∷ [])
+    × (applied (saying "Retard" ("f:1@20260101" ∷ []) [] []) ≡ false)
 other-date = (refl, refl)
 
 -- a trip id without its feed reaches no leg; a stop id without it does
@@ -39,7 +41,8 @@ bare-stop : candidates (saying "Travaux" [] [] ("A" ∷ [])) ≡ 0 ∷ []
 bare-stop = refl
 
 -- a stop id of other case is no candidate, and applies to one
-other-case : (candidates (saying "Travaux" [] [] ("f:a" ∷ [])) ≡ []) × (applied (saying "Travaux" [] [] ("f:a" ∷ [])) ≡ true)
+other-case : (candidates (saying "Travaux" [] [] ("f:a" ∷ [])) ≡ [])
+    × (applied (saying "Travaux" [] [] ("f:a" ∷ [])) ≡ true)
 other-case = (refl, refl)
 
 -- an alert of the route that speaks of another line doesn't apply
@@ -54,11 +57,13 @@ advised-line : applied (saying "RER D interrompu. Reportez-vous sur le RER B." [
 advised-line = refl
 
 -- lines by parts of words: 1 in 14, B in "Préférer bus", A in "opérera"
-lines-named : (lines "Metro 14" ≡ text "1" ∷ text "14" ∷ []) × (lines "Tram T3a interrompu" ≡ text "T3" ∷ []) × (lines "Préférer bus" ≡ text "B" ∷ []) × (lines "opérera" ≡ text "A" ∷ [])
+lines-named : (lines "Metro 14" ≡ text "1" ∷ text "14" ∷ []) × (lines "Tram T3a interrompu" ≡ text "T3" ∷ [])
+    × (lines "Préférer bus" ≡ text "B" ∷ []) × (lines "opérera" ≡ text "A" ∷ [])
 lines-named = (refl, refl, refl, refl)
 
 -- accents aren't folded where road traffic is looked for
-accented-road : (is-road-traffic-alert (saying "arrêt déplacé circulation" [] [] []) ≡ false) × (is-road-traffic-alert (saying "Arret Deplace Circulation" [] [] []) ≡ true)
+accented-road : (is-road-traffic-alert (saying "arrêt déplacé circulation" [] [] []) ≡ false)
+    × (is-road-traffic-alert (saying "Arret Deplace Circulation" [] [] []) ≡ true)
 accented-road = (refl, refl)
 
 -- a header that is empty gives no label
@@ -66,6 +71,7 @@ empty-header : label (saying "" [] [] []) ≡ []
 empty-header = refl
 
 -- the row P of the ride checks: what is a product code
-pub product-codes : (product-code-token (text "C017") ≡ none) × (product-code-token (text "c0174") ≡ some (text "C0174"))
+pub product-codes : (product-code-token (text "C017") ≡ none)
+    × (product-code-token (text "c0174") ≡ some (text "C0174"))
     × (product-code-token (text "C0174212") ≡ some (text "C0174212")) × (product-code-token (text "C01742123") ≡ none)
 product-codes = (refl, refl, refl, refl)

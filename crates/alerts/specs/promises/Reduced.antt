@@ -12,7 +12,9 @@ use Rattle.alerts.specs.Text.{text, begins, ends, upper, sameIgnoringCas
 use Rattle.basics.specs.Texts.{same}
 use Rattle.alerts.specs.Alert.{Alert, informed-trip-ids, informed-route-ids, informed-stop-ids}
 use Rattle.alerts.specs.Index.{undated}
-use Rattle.alerts.specs.Applies.{isCode, isNone, segment, stop-tail, decided, hasText, roadBlob, is-rail-like-mode, around, names, commercial-lines-in-text, anyMarker, advised, legBlob}
+use Rattle.alerts.specs.Applies.{isCode, isNone, segment, stop-tail, decided, hasText, roadBlob}
+use Rattle.alerts.specs.Applies.{is-rail-like-mode, around, names, commercial-lines-in-text, anyMarker, advised}
+use Rattle.alerts.specs.Applies.{legBlob}
 
 abbrev pub firstToken : List (List ℕ) → Option (List ℕ)
 firstToken [] = none
@@ -24,7 +26,8 @@ token x = firstToken (split (λ b. not (alphanumeric b)) x)
 abbrev pub refs : List ℕ → List ℕ → Bool
 refs q r =
     not (isEmpty q || isEmpty r)
-    && (same q r || decided (token q) (token r) (leb 3 (length (segment q)) && sameIgnoringCase (segment q) (segment r)))
+    && (same q r || decided (token q) (token r)
+    (leb 3 (length (segment q)) && sameIgnoringCase (segment q) (segment r)))
 
 abbrev pub named : List ℕ → List ℕ → Bool
 named short r = sameIgnoringCase short (trim (segment r)) && isNone (token r) && leb (length (segment r)) 4
@@ -40,7 +43,8 @@ hitsTrip a trip =
 
 abbrev pub hitsStop : Alert → List ℕ → Bool
 hitsStop a stop =
-    not (isEmpty stop) && any (λ s. same s stop || sameIgnoringCase (stop-tail s) (stop-tail stop)) (informed-stop-ids a)
+    not (isEmpty stop) && any (λ s. same s stop || sameIgnoringCase (stop-tail s) (stop-tail stop))
+    (informed-stop-ids a)
 
 abbrev pub road : List ℕ → Bool
 road blob =
@@ -54,7 +58,8 @@ adviceMarkers =
 
 abbrev pub secondary : List ℕ → List ℕ → Bool
 secondary blob short =
-    advised adviceMarkers blob short || anyMarker adviceMarkers blob && (hasText blob "RER " || hasText blob "TRAVAUX SUR")
+    advised adviceMarkers blob short || anyMarker adviceMarkers blob
+    && (hasText blob "RER " || hasText blob "TRAVAUX SUR")
 
 abbrev pub subjectRows : List (String × String)
 subjectRows =

@@ -36,7 +36,8 @@ okAt s n e = textOk (take n s) (commercial-lines-in-text (take n s)) (take (e - 
 
 -- the answers of the text test, for a trimmed short name, and of the road test
 abbrev pub fitsOf : List ℕ → List ℕ → List ℕ → Bool
-fitsOf h d short = let b = fold-alert-blob (h ++ text " " ++ d) in isEmpty short || textOk b (commercial-lines-in-text b) (upper short)
+fitsOf h d short = let b = fold-alert-blob (h ++ text " " ++ d) in
+    isEmpty short || textOk b (commercial-lines-in-text b) (upper short)
 
 abbrev pub roadOf : List ℕ → List ℕ → List ℕ → Bool
 roadOf h d c = road (upper (h ++ text " " ++ d ++ text " " ++ c))

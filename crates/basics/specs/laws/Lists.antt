@@ -25,16 +25,19 @@ module _ {A : Type 0} where
   any-same p q h [] = refl
   any-same p q h (a ∷ l) = rw (h a, any-same p q h l) refl
 
-  pub any-implies : (p q : A → Bool) → ((a : A) → p a ≡ true → q a ≡ true) → (l : List A) → any p l ≡ true → any q l ≡ true
+  pub any-implies : (p q : A → Bool) → ((a : A) → p a ≡ true → q a ≡ true) → (l : List A) → any p l ≡ true
+      → any q l ≡ true
   any-implies p q h [] e = e
   any-implies p q h (a ∷ l) e =
       ⊎-elim (λ x. rw (h a x) refl) (λ x. rw (any-implies p q h l x) (or-comm (q a) true)) (or-true (p a) (any p l) e)
 
-pub any-join : {A B : Type 0} (p : B → Bool) (f : A → List B) (l : List A) → any p (concatMap f l) ≡ any (λ a. any p (f a)) l
+pub any-join : {A B : Type 0} (p : B → Bool) (f : A → List B) (l : List A)
+    → any p (concatMap f l) ≡ any (λ a. any p (f a)) l
 any-join p f [] = refl
 any-join p f (a ∷ l) = any-append p (f a) (concatMap f l) ∙ ap (λ x. any p (f a) || x) (any-join p f l)
 
-pub any-swap : {A B : Type 0} (r : A → B → Bool) (l : List A) (m : List B) → any (λ a. any (r a) m) l ≡ any (λ b. any (λ a. r a b) l) m
+pub any-swap : {A B : Type 0} (r : A → B → Bool) (l : List A) (m : List B)
+    → any (λ a. any (r a) m) l ≡ any (λ b. any (λ a. r a b) l) m
 any-swap r [] m = sym (any-none m)
 any-swap r (a ∷ l) m = ap (λ x. any (r a) m || x) (any-swap r l m) ∙ sym (any-or (r a) (λ b. any (λ a. r a b) l) m)
 

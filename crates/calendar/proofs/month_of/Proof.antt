@@ -1,6 +1,7 @@
 -- `calendar::month_of` meets its contract: what is left decides, month after month. Assumes nothing.
 use Prim.Native.Nat.{_-_}
-use Rattle.calendar.proofs.Counting.{Months, months-none, months-more, month-here, month-last, month-days, month-short, leap-small}
+use Rattle.calendar.proofs.Counting.{Months, months-none, months-more, month-here, month-last, month-days}
+use Rattle.calendar.proofs.Counting.{month-short, leap-small}
 use borrow.Author.Needs.{needs}
 use mathlib.Core.Path.{_∙_}
 use native.Mathlib.Omega.{arith}
@@ -25,8 +26,10 @@ month-of-spec =
     (λ c. search needs)
     (λ c. search needs)
     (λ c. search needs)
-    (λ c. omega (arith, c .if1 .taken, month-short (c .before .before .before .before .args .at .year) (c .before .before .before .leap-day .result) (c .before .before .loop .month) (c .before .before .before .leap-day .ensures)))
-    (λ c. month-here (c .before .before .loop .inv) (search needs) (c .if1 .taken) ∙ month-days _ _ _ (c .before .before .before .leap-day .ensures))
+    (λ c. omega
+    (arith, c .if1 .taken, month-short (c .before .before .before .before .args .at .year) (c .before .before .before .leap-day .result) (c .before .before .loop .month) (c .before .before .before .leap-day .ensures)))
+    (λ c. month-here (c .before .before .loop .inv) (search needs) (c .if1 .taken)
+    ∙ month-days _ _ _ (c .before .before .before .leap-day .ensures))
     (λ c. search needs)
     (λ c. search needs)
     (λ c. search needs)

@@ -12,4 +12,5 @@ paris-date-spec =
     (λ c κs. search needs)
     (λ c κs. search needs)
     (λ c κs. search needs)
-    (λ c. c .month-of .ensures ∙ ap monthOf (c .before .year-of .ensures ∙ ap yearOf (c .before .before .paris-day .ensures))))
+    (λ c. c .month-of .ensures ∙ ap monthOf
+    (c .before .year-of .ensures ∙ ap yearOf (c .before .before .paris-day .ensures))))

@@ -14,4 +14,5 @@ paris-day-spec =
     (λ c κs. search needs)
     (λ c. omega (arith, c .offset .ensures, offset-small (c .before .args .s)))
     (λ c. omega (arith, c .offset .ensures, offset-small (c .before .args .s)))
-    (λ c. day-behind (c .before .args .s) (c .offset .result) ∙ ap (λ k. (c .before .args .s + k) / 86400) (c .offset .ensures)))
+    (λ c. day-behind (c .before .args .s) (c .offset .result)
+    ∙ ap (λ k. (c .before .args .s + k) / 86400) (c .offset .ensures)))

@@ -20,4 +20,6 @@ summer-spec =
     (λ c. omega (arith, c .before .leap-day .ensures, leap-small (c .before .before .before .year-of .result .year)))
     (λ c κs. search needs)
     (λ c. early _ (c .if1 .taken))
-    (λ c. between _ _ _ _ _ (c .before .before .before .before .before .year-of .ensures) (c .before .before .before .leap-day .ensures) (c .before .before .last-sunday .ensures) (c .before .last-sunday2 .ensures) (c .if1 .left)))
+    (λ c. between _ _ _ _ _ (c .before .before .before .before .before .year-of .ensures)
+    (c .before .before .before .leap-day .ensures) (c .before .before .last-sunday .ensures)
+    (c .before .last-sunday2 .ensures) (c .if1 .left)))

@@ -38,10 +38,22 @@ pub +decimal-spec : {M : Type 1} → statement M
     (λ c κs. search needs)
     (λ c κs. omega arith)
     (λ c. written-whole (c .before .before .add-byte .ensures))
-    (λ c. let a = c .before .before .before .before .before .before .before .before .args in added-digit (a .k) (a .n) (c .before .before .before .before .before .before .if1 .left) (c .before .before .before .before .before .if2 .taken) (c .before .before .before .digit .ensures) (c .before .before .add-byte .ensures))
+    (λ c. let a = c .before .before .before .before .before .before .before .before .args in
+    added-digit (a .k) (a .n) (c .before .before .before .before .before .before .if1 .left)
+    (c .before .before .before .before .before .if2 .taken) (c .before .before .before .digit .ensures)
+    (c .before .before .add-byte .ensures))
     (λ c. omega arith)
     (λ c κs. (omega arith, omega arith))
     (λ c κs. omega arith)
-    (λ c κs. let a = c .before .before .before .before .before .before .before .before .before .args in omega (arith, c .before .before .before .before .decimal .ensures .next, decimal-short (a .k - 1) (a .n / 10), written-whole (c .before .before .before .before .decimal .ensures)))
-    (λ c. written-whole (then (c .before .before .before .before .before .before .before .decimal .ensures) (c .before .before .add-byte2 .ensures)))
-    (λ c. let a = c .before .before .before .before .before .before .before .before .before .before .before .before .args in added-more (a .k) (a .n) (c .before .before .before .before .before .before .before .before .before .before .if1 .left) (c .before .before .before .before .before .before .before .before .before .if2 .left) (c .before .before .before .before .before .before .before .decimal .ensures) (c .before .before .before .digit2 .ensures) (c .before .before .add-byte2 .ensures))
+    (λ c κs. let a = c .before .before .before .before .before .before .before .before .before .args in
+    omega (arith, c .before .before .before .before .decimal .ensures .next, decimal-short (a .k - 1) (a .n / 10), written-whole (c .before .before .before .before .decimal .ensures)))
+    (λ c. written-whole
+    (then (c .before .before .before .before .before .before .before .decimal .ensures)
+    (c .before .before .add-byte2 .ensures)))
+    (λ c. let a =
+    c .before .before .before .before .before .before .before .before .before .before .before .before .args in
+    added-more (a .k) (a .n)
+    (c .before .before .before .before .before .before .before .before .before .before .if1 .left)
+    (c .before .before .before .before .before .before .before .before .before .if2 .left)
+    (c .before .before .before .before .before .before .before .decimal .ensures)
+    (c .before .before .before .digit2 .ensures) (c .before .before .add-byte2 .ensures))

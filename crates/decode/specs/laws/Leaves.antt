@@ -15,5 +15,6 @@ abbrev pub left : List ℕ → List ℕ → Trips → Option Trips
 left feed bytes old = Option·map (λ m. leaves feed m old) (tree schema.feed feedMessage bytes)
 
 -- ADDED FIELDS leave what a message leaves
-pub gains-left : {x y : List ℕ} (feed : List ℕ) (old : Trips) → Gains schema.feed feedMessage x y → left feed y old ≡ left feed x old
+pub gains-left : {x y : List ℕ} (feed : List ℕ) (old : Trips) → Gains schema.feed feedMessage x y
+    → left feed y old ≡ left feed x old
 gains-left feed old g = ap (Option·map (λ m. leaves feed m old)) (gains-same-tree g)

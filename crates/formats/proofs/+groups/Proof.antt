@@ -3,7 +3,8 @@ use native.Mathlib.Omega.{arith}
 use borrow.Author.Needs.{needs}
 use borrow.Fn.Kinds.{In}
 use borrow.Fn.PlainCycle.{Measures, is, falls, and}
-use Rattle.formats.proofs.Numbers.{at-end, last-good, last-bad, low-good, more-bad, more-zero, more-good, more-below}
+use Rattle.formats.proofs.Numbers.{at-end, last-good, last-bad, low-good, more-bad, more-zero, more-good}
+use Rattle.formats.proofs.Numbers.{more-below}
 use Rattle.formats.proofs.groups.Reads as groups
 use Rattle.formats.proofs.groups.Kinds as groups-kinds
 use Rattle.formats.proofs.+groups.Lts-groups as groups-lts

@@ -24,6 +24,9 @@ leaf-spec =
     (λ c. search (leaf-bad, begins))
     (λ c. search leaf-4-over)
     (λ c. search leaf-4)
-    (λ c κs. count-within (c .before .before .before .before .before .before .before .before .before .before .before .args .s .now) (c .before .before .before .before .before .before .before .before .before .before .before .args .at) _ _ _ (c .before .before .before .before .before .number .ensures) (c .before .before .before .n .given .1))
+    (λ c κs. count-within
+    (c .before .before .before .before .before .before .before .before .before .before .before .args .s .now)
+    (c .before .before .before .before .before .before .before .before .before .before .before .args .at) _ _ _
+    (c .before .before .before .before .before .number .ensures) (c .before .before .before .n .given .1))
     (λ c. search leaf-5)
     (λ c. search (leaf-23, begins)))

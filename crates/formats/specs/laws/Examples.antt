@@ -17,18 +17,21 @@ pub not-shortest : _≡_ {A = Found (number 0 999)} (read (number 0 999) (0x80 �
 not-shortest = refl
 
 pub largest :
-    _≡_ {A = Found (number 0 999)} (read (number 0 999) (0xFF ∷ 0xFF ∷ 0xFF ∷ 0xFF ∷ 0xFF ∷ 0xFF ∷ 0xFF ∷ 0xFF ∷ 0xFF ∷ 0x01 ∷ []))
+    _≡_ {A = Found (number 0 999)}
+    (read (number 0 999) (0xFF ∷ 0xFF ∷ 0xFF ∷ 0xFF ∷ 0xFF ∷ 0xFF ∷ 0xFF ∷ 0xFF ∷ 0xFF ∷ 0x01 ∷ []))
     (some (2 ^ 64 - 1, []))
 largest = refl
 
 pub too-large :
-    _≡_ {A = Found (number 0 999)} (read (number 0 999) (0xFF ∷ 0xFF ∷ 0xFF ∷ 0xFF ∷ 0xFF ∷ 0xFF ∷ 0xFF ∷ 0xFF ∷ 0xFF ∷ 0x02 ∷ [])) none
+    _≡_ {A = Found (number 0 999)}
+    (read (number 0 999) (0xFF ∷ 0xFF ∷ 0xFF ∷ 0xFF ∷ 0xFF ∷ 0xFF ∷ 0xFF ∷ 0xFF ∷ 0xFF ∷ 0x02 ∷ [])) none
 too-large = refl
 
 pub minus-one : _≡_ {A = Found (signed (zag 0) (zag 9))} (read (signed (zag 0) (zag 9)) (1 ∷ [])) (some (negsuc 0, []))
 minus-one = refl
 
-pub two-values : _≡_ {A = Found (list 9 (number 0 9))} (read (list 9 (number 0 9)) (2 ∷ 7 ∷ 8 ∷ 9 ∷ [])) (some (7 ∷ 8 ∷ [], 9 ∷ []))
+pub two-values : _≡_ {A = Found (list 9 (number 0 9))} (read (list 9 (number 0 9)) (2 ∷ 7 ∷ 8 ∷ 9 ∷ []))
+    (some (7 ∷ 8 ∷ [], 9 ∷ []))
 two-values = refl
 
 -- a value of a list takes a byte

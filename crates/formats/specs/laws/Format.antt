@@ -11,11 +11,13 @@ use lib.Dec.{leb}
 use borrow.Author.Tests.{ltb-true}
 use Rattle.formats.specs.Readers.{bytesR, manyW, manyR}
 use Rattle.basics.specs.Lists.{All}
-use Rattle.formats.specs.laws.Law.{Law, emptyLaw, pairLaw, mapLaw, onlyLaw, constLaw, choiceLaw, bytesLaw, manyLaw, countedLaw}
+use Rattle.formats.specs.laws.Law.{Law, emptyLaw, pairLaw, mapLaw, onlyLaw, constLaw, choiceLaw, bytesLaw}
+use Rattle.formats.specs.laws.Law.{manyLaw, countedLaw}
 use Rattle.basics.specs.laws.Options.{none-some}
 use Rattle.formats.specs.Number.{zig, zag}
 use Rattle.formats.specs.laws.Number.{numberLaw, number-some, zag-zig, zig-zag, littleLaw}
-use Rattle.formats.specs.Format.{Format, never, empty, number, signed, small, text, float, constant, list, choice, _&_, Value, write, takes, read, Fits}
+use Rattle.formats.specs.Format.{Format, never, empty, number, signed, small, text, float, constant, list, choice}
+use Rattle.formats.specs.Format.{_&_, Value, write, takes, read, Fits}
 use Rattle.formats.specs.promises.Outcome.{element}
 
 -- the bytes of a text: one fact over their number
@@ -45,11 +47,13 @@ elementLaw f = onlyLaw (takes f) (law f)
 pub read-write : (f : Format) (v : Value f) (rest : List ℕ) → Fits f v → read f (write f v ++ rest) ≡ some (v, rest)
 read-write f = law f .there
 
-pub write-read : (f : Format) (s : List ℕ) (v : Value f) (rest : List ℕ) → read f s ≡ some (v, rest) → (s ≡ write f v ++ rest) × Fits f v
+pub write-read : (f : Format) (s : List ℕ) (v : Value f) (rest : List ℕ) → read f s ≡ some (v, rest)
+    → (s ≡ write f v ++ rest) × Fits f v
 write-read f = law f .back
 
 -- a list has no more values than bytes: a count above the bytes that are left is never read
-taken : (f : Format) (v : List (Value f)) → All (λ x. Fits f x × (takes f x ≡ true)) v → length v ≤ length (manyW (write f) v)
+taken : (f : Format) (v : List (Value f)) → All (λ x. Fits f x × (takes f x ≡ true)) v
+    → length v ≤ length (manyW (write f) v)
 taken f [] h = omega arith
 taken f (x ∷ v) h = rw length-append (omega (arith, taken f v (h .1), ltb-true 0 (length (write f x)) (h .0 .1)))
 
@@ -60,7 +64,8 @@ count-over f n s l = go (manyR (element f) n s) refl
     go none e = refl
     go (some p) e =
         let b = manyLaw (elementLaw f) n .back s (p .0) (p .1) e in
-        absurd (omega (arith, taken f (p .0) (b .1 .1), b .1 .0, ap length (b .0), length-append (manyW (write f) (p .0)) (p .1)))
+        absurd (omega
+        (arith, taken f (p .0) (b .1 .1), b .1 .0, ap length (b .0), length-append (manyW (write f) (p .0)) (p .1)))
 
 -- a format whose every value takes a byte: what a list is made of
 abbrev pub nonempty : Format → Bool
@@ -94,4 +99,5 @@ takes-nonempty (choice a b) (inl v) e = omega arith
 takes-nonempty (choice a b) (inr v) e = omega arith
 takes-nonempty (a & b) v e =
     rw length-append
-    (⊎-elim (λ h. omega (arith, takes-nonempty a (v .0) h)) (λ h. omega (arith, takes-nonempty b (v .1) h)) (either (nonempty a) (nonempty b) e))
+    (⊎-elim (λ h. omega (arith, takes-nonempty a (v .0) h)) (λ h. omega (arith, takes-nonempty b (v .1) h))
+    (either (nonempty a) (nonempty b) e))

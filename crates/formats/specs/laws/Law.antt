@@ -11,7 +11,8 @@ use lib.ListN.{length, length-append, take-append-drop}
 use lib.Seq.{take-append-seam, drop-append-seam, length-take-le}
 use lib.Dec.{leb, eqb}
 use borrow.Author.Tests.{le-leb, leb-true, eqb-true, eq-eqb}
-use Rattle.formats.specs.Readers.{Reader, bind, pairW, pairR, mapR, onlyR, constR, choiceW, choiceR, choiceOk, bytesR, manyW, manyR, countedR}
+use Rattle.formats.specs.Readers.{Reader, bind, pairW, pairR, mapR, onlyR, constR, choiceW, choiceR, choiceOk}
+use Rattle.formats.specs.Readers.{bytesR, manyW, manyR, countedR}
 use Rattle.basics.specs.Lists.{All}
 use Rattle.basics.specs.laws.Lists.{headed}
 use Rattle.basics.specs.laws.Options.{none-some}
@@ -33,7 +34,8 @@ unsome : {A : Type 0} {a b : A} → some a ≡ some b → a ≡ b
 unsome {a} {b} e = cc
 
 -- what holds of what was found holds of what the outcome says
-pub found : {A : Type 0} {x v : A} {t rest : List ℕ} (P : A → List ℕ → Type 0) → _≡_ {A = Option (A × List ℕ)} (some (x, t)) (some (v, rest)) → P x t → P v rest
+pub found : {A : Type 0} {x v : A} {t rest : List ℕ} (P : A → List ℕ → Type 0)
+    → _≡_ {A = Option (A × List ℕ)} (some (x, t)) (some (v, rest)) → P x t → P v rest
 found {A} P e p = subst (λ (q : A × List ℕ). P (q .0) (q .1)) (unsome e) p
 
 -- nothing at all
@@ -43,12 +45,16 @@ emptyLaw = record {
   back = λ s v rest e. found (λ v rest. (s ≡ [] ++ rest) × Unit {0}) e (refl, tt);
 }
 
-module _ {A B : Type 0} {wa : A → List ℕ} {wb : B → List ℕ} {ra : Reader A} {rb : Reader B} {oka : A → Type 0} {okb : B → Type 0}
+module _ {A B : Type 0} {wa : A → List ℕ} {wb : B → List ℕ} {ra : Reader A} {rb : Reader B} {oka : A → Type 0}
+    {okb : B → Type 0}
     (la : Law wa ra oka) (lb : Law wb rb okb) where
-  pair-there : (v : A × B) (rest : List ℕ) → (oka (v .0) × okb (v .1)) → pairR ra rb (pairW wa wb v ++ rest) ≡ some (v, rest)
-  pair-there v rest ok = rw (append-assoc, la .there (v .0) (wb (v .1) ++ rest) (ok .0), lb .there (v .1) rest (ok .1)) refl
+  pair-there : (v : A × B) (rest : List ℕ) → (oka (v .0) × okb (v .1))
+      → pairR ra rb (pairW wa wb v ++ rest) ≡ some (v, rest)
+  pair-there v rest ok =
+      rw (append-assoc, la .there (v .0) (wb (v .1) ++ rest) (ok .0), lb .there (v .1) rest (ok .1)) refl
 
-  pair-back : (s : List ℕ) (v : A × B) (rest : List ℕ) → pairR ra rb s ≡ some (v, rest) → (s ≡ pairW wa wb v ++ rest) × (oka (v .0) × okb (v .1))
+  pair-back : (s : List ℕ) (v : A × B) (rest : List ℕ) → pairR ra rb s ≡ some (v, rest)
+      → (s ≡ pairW wa wb v ++ rest) × (oka (v .0) × okb (v .1))
   pair-back s v rest e =
       let (p, ea, e′) = bind-some (ra s) _ _ e in
       let (q, eb, e″) = bind-some (rb (p .1)) _ _ e′ in
@@ -65,7 +71,8 @@ module _ {A B : Type 0} {w : A → List ℕ} {r : Reader A} {ok : A → Type 0} 
   map-there : (v : B) (rest : List ℕ) → ok (from v) → mapR to r (w (from v) ++ rest) ≡ some (v, rest)
   map-there v rest h = rw (l .there (from v) rest h, left v) refl
 
-  map-back : (s : List ℕ) (v : B) (rest : List ℕ) → mapR to r s ≡ some (v, rest) → (s ≡ w (from v) ++ rest) × ok (from v)
+  map-back : (s : List ℕ) (v : B) (rest : List ℕ) → mapR to r s ≡ some (v, rest)
+      → (s ≡ w (from v) ++ rest) × ok (from v)
   map-back s v rest e =
       let (p, ea, e′) = bind-some (r s) _ _ e in
       found (λ v rest. (s ≡ w (from v) ++ rest) × ok (from v)) e′ (rw right (l .back s (p .0) (p .1) ea))
@@ -77,7 +84,8 @@ module _ {A : Type 0} {w : A → List ℕ} {r : Reader A} {ok : A → Type 0} (t
   only-there : (v : A) (rest : List ℕ) → (ok v × (test v ≡ true)) → onlyR test r (w v ++ rest) ≡ some (v, rest)
   only-there v rest h = rw (l .there v rest (h .0), h .1) refl
 
-  only-back : (s : List ℕ) (v : A) (rest : List ℕ) → onlyR test r s ≡ some (v, rest) → (s ≡ w v ++ rest) × (ok v × (test v ≡ true))
+  only-back : (s : List ℕ) (v : A) (rest : List ℕ) → onlyR test r s ≡ some (v, rest)
+      → (s ≡ w v ++ rest) × (ok v × (test v ≡ true))
   only-back s v rest e =
       let (p, ea, e′) = bind-some (r s) _ _ e in
       let ha = l .back s (p .0) (p .1) ea in
@@ -90,7 +98,8 @@ module _ {A : Type 0} {w : A → List ℕ} {r : Reader A} {ok : A → Type 0} (t
 const-there : (c : ℕ) (v : Unit {0}) (rest : List ℕ) → Unit {0} → constR c ((c ∷ []) ++ rest) ≡ some (v, rest)
 const-there c v rest h = rw (eq-eqb c c refl) refl
 
-const-back : (c : ℕ) (s : List ℕ) (v : Unit {0}) (rest : List ℕ) → constR c s ≡ some (v, rest) → (s ≡ (c ∷ []) ++ rest) × Unit {0}
+const-back : (c : ℕ) (s : List ℕ) (v : Unit {0}) (rest : List ℕ) → constR c s ≡ some (v, rest)
+    → (s ≡ (c ∷ []) ++ rest) × Unit {0}
 const-back c [] v rest e = none-some e
 const-back c (b ∷ s) v rest e =
     ⊎-elim (λ h. found (λ v rest. (b ∷ s ≡ (c ∷ []) ++ rest) × Unit {0}) (h .1) (rw (eqb-true b c (h .0)) refl, tt))
@@ -99,13 +108,16 @@ const-back c (b ∷ s) v rest e =
 pub constLaw : (c : ℕ) → Law (λ v. c ∷ []) (constR c) (λ v. Unit {0})
 constLaw c = record { there = const-there c; back = const-back c }
 
-module _ {A B : Type 0} {wa : A → List ℕ} {wb : B → List ℕ} {ra : Reader A} {rb : Reader B} {oka : A → Type 0} {okb : B → Type 0}
+module _ {A B : Type 0} {wa : A → List ℕ} {wb : B → List ℕ} {ra : Reader A} {rb : Reader B} {oka : A → Type 0}
+    {okb : B → Type 0}
     (la : Law wa ra oka) (lb : Law wb rb okb) where
-  choice-there : (v : A ⊎ B) (rest : List ℕ) → choiceOk oka okb v → choiceR ra rb (choiceW wa wb v ++ rest) ≡ some (v, rest)
+  choice-there : (v : A ⊎ B) (rest : List ℕ) → choiceOk oka okb v
+      → choiceR ra rb (choiceW wa wb v ++ rest) ≡ some (v, rest)
   choice-there (inl a) rest ok = rw (la .there a rest ok) refl
   choice-there (inr b) rest ok = rw (lb .there b rest ok) refl
 
-  choice-back : (s : List ℕ) (v : A ⊎ B) (rest : List ℕ) → choiceR ra rb s ≡ some (v, rest) → (s ≡ choiceW wa wb v ++ rest) × choiceOk oka okb v
+  choice-back : (s : List ℕ) (v : A ⊎ B) (rest : List ℕ) → choiceR ra rb s ≡ some (v, rest)
+      → (s ≡ choiceW wa wb v ++ rest) × choiceOk oka okb v
   choice-back [] v rest e = none-some e
   choice-back (c ∷ s) v rest e =
       let P : A ⊎ B → List ℕ → Type 0 = λ v rest. (c ∷ s ≡ choiceW wa wb v ++ rest) × choiceOk oka okb v in
@@ -140,15 +152,19 @@ pub bytesLaw : (n : ℕ) → Law (λ v. v) (bytesR n) (λ v. length v ≡ n)
 bytesLaw n = record { there = bytes-there n; back = bytes-back n }
 
 module _ {A : Type 0} {w : A → List ℕ} {r : Reader A} {ok : A → Type 0} (l : Law w r ok) where
-  many-there : (n : ℕ) (v : List A) (rest : List ℕ) → ((length v ≡ n) × All ok v) → manyR r n (manyW w v ++ rest) ≡ some (v, rest)
+  many-there : (n : ℕ) (v : List A) (rest : List ℕ) → ((length v ≡ n) × All ok v)
+      → manyR r n (manyW w v ++ rest) ≡ some (v, rest)
   many-there zero [] rest h = refl
   many-there zero (a ∷ v) rest h = absurd (omega (arith, h .0))
   many-there (suc n) [] rest h = absurd (omega (arith, h .0))
   many-there (suc n) (a ∷ v) rest h =
-      rw (append-assoc, l .there a (manyW w v ++ rest) (h .1 .0), many-there n v rest (omega (arith, h .0), h .1 .1)) refl
+      rw (append-assoc, l .there a (manyW w v ++ rest) (h .1 .0), many-there n v rest (omega (arith, h .0), h .1 .1))
+      refl
 
-  many-back : (n : ℕ) (s : List ℕ) (v : List A) (rest : List ℕ) → manyR r n s ≡ some (v, rest) → (s ≡ manyW w v ++ rest) × ((length v ≡ n) × All ok v)
-  many-back zero s v rest e = found (λ v rest. (s ≡ manyW w v ++ rest) × ((length v ≡ 0) × All ok v)) e (refl, (refl, tt))
+  many-back : (n : ℕ) (s : List ℕ) (v : List A) (rest : List ℕ) → manyR r n s ≡ some (v, rest)
+      → (s ≡ manyW w v ++ rest) × ((length v ≡ n) × All ok v)
+  many-back zero s v rest e =
+      found (λ v rest. (s ≡ manyW w v ++ rest) × ((length v ≡ 0) × All ok v)) e (refl, (refl, tt))
   many-back (suc n) s v rest e =
       let (p, ea, e′) = bind-some (r s) _ _ e in
       let (q, eb, e″) = bind-some (manyR r n (p .1)) _ _ e′ in
@@ -161,11 +177,15 @@ module _ {A : Type 0} {w : A → List ℕ} {r : Reader A} {ok : A → Type 0} (l
   manyLaw n = record { there = many-there n; back = many-back n }
 
 module _ {A : Type 0} {wn : ℕ → List ℕ} {rn : Reader ℕ} {okn : ℕ → Type 0} (ln : Law wn rn okn)
-    {w : A → List ℕ} {r : ℕ → Reader A} {ok : A → Type 0} (size : A → ℕ) (l : (n : ℕ) → Law w (r n) (λ v. (size v ≡ n) × ok v)) where
-  counted-there : (v : A) (rest : List ℕ) → (okn (size v) × ok v) → countedR rn r ((wn (size v) ++ w v) ++ rest) ≡ some (v, rest)
-  counted-there v rest h = rw (append-assoc, ln .there (size v) (w v ++ rest) (h .0), l (size v) .there v rest (refl, h .1)) refl
+    {w : A → List ℕ} {r : ℕ → Reader A} {ok : A → Type 0} (size : A → ℕ)
+    (l : (n : ℕ) → Law w (r n) (λ v. (size v ≡ n) × ok v)) where
+  counted-there : (v : A) (rest : List ℕ) → (okn (size v) × ok v)
+      → countedR rn r ((wn (size v) ++ w v) ++ rest) ≡ some (v, rest)
+  counted-there v rest h =
+      rw (append-assoc, ln .there (size v) (w v ++ rest) (h .0), l (size v) .there v rest (refl, h .1)) refl
 
-  counted-back : (s : List ℕ) (v : A) (rest : List ℕ) → countedR rn r s ≡ some (v, rest) → (s ≡ (wn (size v) ++ w v) ++ rest) × (okn (size v) × ok v)
+  counted-back : (s : List ℕ) (v : A) (rest : List ℕ) → countedR rn r s ≡ some (v, rest)
+      → (s ≡ (wn (size v) ++ w v) ++ rest) × (okn (size v) × ok v)
   counted-back s v rest e =
       let (p, ea, e′) = bind-some (rn s) _ _ e in
       let ha = ln .back s (p .0) (p .1) ea in

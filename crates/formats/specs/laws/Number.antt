@@ -26,7 +26,8 @@ more-written : (k b h : ℕ) → 128 ≤ b → b < 256 → (h ≡ 0 → ⊥) →
 more-written k b h l u z =
     rw (le-ltb (b - 128 + 128 * h) 128 (omega arith)) (headed (omega arith) (ap (groupsW k) (omega arith)))
 
-more-read : (k n : ℕ) (rest : List ℕ) → 128 ≤ n → groupsR k (groupsW k (n / 128) ++ rest) ≡ some (n / 128, rest) → groupsR (suc k) (groupsW (suc k) n ++ rest) ≡ some (n, rest)
+more-read : (k n : ℕ) (rest : List ℕ) → 128 ≤ n → groupsR k (groupsW k (n / 128) ++ rest) ≡ some (n / 128, rest)
+    → groupsR (suc k) (groupsW (suc k) n ++ rest) ≡ some (n, rest)
 more-read k n rest big ih =
     rw (
       le-ltb n 128 big,
@@ -41,11 +42,13 @@ there : (k n : ℕ) (rest : List ℕ) → n < top k → groupsR k (groupsW k n +
 there zero n rest h = rw (lt-ltb n 2 h) refl
 there (suc k) n rest h = go (ltb n 128) refl (there k (n / 128) rest (omega arith))
   where
-    go : (t : Bool) → ltb n 128 ≡ t → groupsR k (groupsW k (n / 128) ++ rest) ≡ some (n / 128, rest) → groupsR (suc k) (groupsW (suc k) n ++ rest) ≡ some (n, rest)
+    go : (t : Bool) → ltb n 128 ≡ t → groupsR k (groupsW k (n / 128) ++ rest) ≡ some (n / 128, rest)
+        → groupsR (suc k) (groupsW (suc k) n ++ rest) ≡ some (n, rest)
     go true e ih = rw (e, e) refl
     go false e ih = more-read k n rest (ltb-false n 128 e) ih
 
-back : (k : ℕ) (s : List ℕ) (n : ℕ) (rest : List ℕ) → groupsR k s ≡ some (n, rest) → (s ≡ groupsW k n ++ rest) × (n < top k)
+back : (k : ℕ) (s : List ℕ) (n : ℕ) (rest : List ℕ) → groupsR k s ≡ some (n, rest)
+    → (s ≡ groupsW k n ++ rest) × (n < top k)
 back zero [] n rest e = none-some e
 back zero (b ∷ s) n rest e =
     ⊎-elim (λ h. found (λ n rest. (b ∷ s ≡ n ∷ rest) × (n < 2)) (h .1) (refl, ltb-true b 2 (h .0)))
@@ -61,7 +64,8 @@ back (suc k) (b ∷ s) n rest e =
     let ih = back k s (p .0) (p .1) ek in
     ⊎-elim (λ z. none-some (z .1))
     (λ z. found P (z .1) (
-      rw (more-written k b (p .0) (ltb-false b 128 (h .0)) (ltb-true b 256 (j .0)) (eqb-false (p .0) 0 (z .0))) (headed refl (ih .0)),
+      rw (more-written k b (p .0) (ltb-false b 128 (h .0)) (ltb-true b 256 (j .0)) (eqb-false (p .0) 0 (z .0)))
+          (headed refl (ih .0)),
       omega (arith, ltb-true b 256 (j .0), ih .1),
     ))
     (cond-some (eqb (p .0) 0) _ _ _ e′))
@@ -98,7 +102,8 @@ little-there (suc k) n rest h =
     rw (lt-ltb (n % 256) 256 (omega arith), little-there k (n / 256) rest (omega (arith, pow-succ' 256 k)))
     (ap {B = Option (ℕ × List ℕ)} (λ x. some (x, rest)) (omega arith))
 
-little-back : (k : ℕ) (s : List ℕ) (n : ℕ) (rest : List ℕ) → littleR k s ≡ some (n, rest) → (s ≡ littleW k n ++ rest) × (n < 256 ^ k)
+little-back : (k : ℕ) (s : List ℕ) (n : ℕ) (rest : List ℕ) → littleR k s ≡ some (n, rest)
+    → (s ≡ littleW k n ++ rest) × (n < 256 ^ k)
 little-back zero s n rest e = found (λ n rest. (s ≡ rest) × (n < 1)) e (refl, omega arith)
 little-back (suc k) [] n rest e = none-some e
 little-back (suc k) (b ∷ s) n rest e =

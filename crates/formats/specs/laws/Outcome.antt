@@ -14,8 +14,10 @@ use Rattle.formats.specs.promises.Outcome.{skipped}
 -- what is left is the whole past a place
 pub suffix : (p : ℕ) (s x rest : List ℕ) → drop p s ≡ x ++ rest → rest ≡ drop (length s - length rest) s
 suffix p s x rest e =
-    let whole : s ≡ (take p s ++ x) ++ rest = rw append-assoc (sym (take-append-drop p s) ∙ ap (λ l. take p s ++ l) e) in
-    let n : length s - length rest ≡ length (take p s ++ x) = omega (arith, ap length whole, length-append (take p s ++ x) rest) in
+    let whole : s ≡ (take p s ++ x) ++ rest =
+    rw append-assoc (sym (take-append-drop p s) ∙ ap (λ l. take p s ++ l) e) in
+    let n : length s - length rest ≡ length (take p s ++ x) =
+    omega (arith, ap length whole, length-append (take p s ++ x) rest) in
     sym (ap (λ k. drop k s) n ∙ ap (drop (length (take p s ++ x))) whole ∙ drop-append-seam (take p s ++ x) rest)
 
 -- an outcome taken apart
@@ -34,7 +36,8 @@ broken s (some p) e = at-broken e
 
 -- a reader whose outcome is a place: some value was read, and what is left is the whole past that place
 module _ {A : Type 0} {w : A → List ℕ} {r : Reader A} {ok : A → Type 0} (l : Law w r ok) (s : List ℕ) (p : ℕ) where
-  at-go : (o : Option (A × List ℕ)) → r (drop p s) ≡ o → (q : ℕ) → skipped s o ≡ At q → (a : A) × (r (drop p s) ≡ some (a, drop q s))
+  at-go : (o : Option (A × List ℕ)) → r (drop p s) ≡ o → (q : ℕ) → skipped s o ≡ At q
+      → (a : A) × (r (drop p s) ≡ some (a, drop q s))
   at-go none e q h = broken-at h
   at-go (some x) e q h =
       (x .0, e ∙ ap {B = Option (A × List ℕ)} (λ t. some (x .0, t)) (suffix p s (w (x .0)) (x .1) (l .back (drop p s) (x .0) (x .1) e .0) ∙ ap (λ n. drop n s) (unAt h)))

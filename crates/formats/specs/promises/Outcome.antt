@@ -8,7 +8,8 @@ use lib.Dec.{ltb}
 use Rattle.formats.specs.Readers.{manyR, Reader, onlyR}
 use Rattle.formats.specs.Number.{zag}
 use Rattle.formats.specs.Class.{Class, any, printable, token, utf8}
-use Rattle.formats.specs.Format.{Format, never, empty, number, signed, small, text, float, constant, list, choice, _&_, read, Value, takes}
+use Rattle.formats.specs.Format.{Format, never, empty, number, signed, small, text, float, constant, list, choice}
+use Rattle.formats.specs.Format.{_&_, read, Value, takes}
 use Rattle.formats.specs.declared.Numeral.{Numeral}
 use Rattle.formats.specs.declared.Numeral.the-variants.{Got, Bad}
 use Rattle.formats.specs.declared.Skip.{Skip}
@@ -39,7 +40,8 @@ classOf (suc zero) = printable
 classOf (suc (suc zero)) = token
 classOf (suc (suc (suc n))) = utf8
 
--- the format of a node: four words to a node, the kind and two more, and one to spare. A signed number's bounds stand as they are written
+-- the format of a node: four words to a node, the kind and two more, and one to spare. A signed number's bounds
+-- stand as they are written
 abbrev pub nodeFormat : ℕ → ℕ → ℕ → (ℕ → Format) → Format
 nodeFormat zero a b sub = never
 nodeFormat (suc zero) a b sub = empty

@@ -15,7 +15,8 @@ use Rattle.formats.specs.Readers.{manyW}
 use Rattle.basics.specs.Lists.{All, all}
 use Rattle.formats.specs.Number.{groupsW, numberW, zig, littleW}
 use Rattle.formats.specs.Class.{Class, any, printable, token, utf8, allowed, sequences, inClass}
-use Rattle.formats.specs.Format.{Format, never, empty, number, signed, small, text, float, constant, list, choice, _&_, optional, Value, write, takes, Fits}
+use Rattle.formats.specs.Format.{Format, never, empty, number, signed, small, text, float, constant, list, choice, _&_}
+use Rattle.formats.specs.Format.{optional, Value, write, takes, Fits}
 use Rattle.formats_judge.specs.Judged.{atMost, forQuestion, ok}
 
 -- how many bytes a number takes
@@ -47,7 +48,8 @@ groups-mono : (k m n : ℕ) → m ≤ n → length (groupsW k m) ≤ length (gro
 groups-mono zero m n h = omega arith
 groups-mono (suc k) m n h = go (ltb m 128) (ltb n 128) refl refl (groups-mono k (m / 128) (n / 128) (omega arith))
   where
-    go : (t u : Bool) → ltb m 128 ≡ t → ltb n 128 ≡ u → length (groupsW k (m / 128)) ≤ length (groupsW k (n / 128)) → length (groupsW (suc k) m) ≤ length (groupsW (suc k) n)
+    go : (t u : Bool) → ltb m 128 ≡ t → ltb n 128 ≡ u → length (groupsW k (m / 128)) ≤ length (groupsW k (n / 128))
+        → length (groupsW (suc k) m) ≤ length (groupsW (suc k) n)
     go true true e f ih = rw (e, f) (omega arith)
     go true false e f ih = rw (e, f) (omega arith)
     go false true e f ih = absurd (omega (arith, ltb-false m 128 e, ltb-true n 128 f))
@@ -80,7 +82,8 @@ right true y e = e
 right false y e = absurd (false≢true e)
 
 -- between two signed numbers, the code is at most that of one of them
-signed-size : (lo hi z : ℤ) → atMost lo z ≡ true → atMost z hi ≡ true → size (zig z) ≤ larger (size (zig lo)) (size (zig hi))
+signed-size : (lo hi z : ℤ) → atMost lo z ≡ true → atMost z hi ≡ true
+    → size (zig z) ≤ larger (size (zig lo)) (size (zig hi))
 signed-size lo (pos m) (pos n) a b =
     omega (arith, size-mono (2 * n) (2 * m) (omega (arith, leb-true n m b)), larger-right (size (zig lo)) (size (2 * m)))
 signed-size lo (negsuc m) (pos n) a b = absurd (false≢true b)
@@ -94,7 +97,8 @@ little-size (suc k) n = ap suc (little-size k (n / 256))
 
 -- values of one format that are at most so long each
 many-size : (f : Format) (c : ℕ) → ((x : Value f) → Fits f x → Keeps f x → length (write f x) ≤ c)
-    → (v : List (Value f)) → All (λ x. Fits f x × (takes f x ≡ true)) v → ((q : ℕ) → 5 ≤ q → q ≤ 7 → all (ok q f) v ≡ true) → length (manyW (write f) v) ≤ length v * c
+    → (v : List (Value f)) → All (λ x. Fits f x × (takes f x ≡ true)) v
+    → ((q : ℕ) → 5 ≤ q → q ≤ 7 → all (ok q f) v ≡ true) → length (manyW (write f) v) ≤ length v * c
 many-size f c bound [] h k = omega arith
 many-size f c bound (x ∷ v) h k =
     let a = bound x (h .0 .0) (λ q l m. left (ok q f x) (all (ok q f) v) (k q l m)) in
@@ -104,7 +108,8 @@ many-size f c bound (x ∷ v) h k =
 pub capacity-bounds : (f : Format) (v : Value f) → Fits f v → Keeps f v → length (write f v) ≤ capacity f
 capacity-bounds never v h k = absurd v
 capacity-bounds empty v h k = omega arith
-capacity-bounds (number lo hi) v h k = size-mono v hi (leb-true v hi (right (leb lo v) (leb v hi) (k 6 (omega arith) (omega arith))))
+capacity-bounds (number lo hi) v h k =
+    size-mono v hi (leb-true v hi (right (leb lo v) (leb v hi) (k 6 (omega arith) (omega arith))))
 capacity-bounds (signed lo hi) v h k =
     let e = k 6 (omega arith) (omega arith) in
     signed-size lo hi v (left (atMost lo v) (atMost v hi) e) (right (atMost lo v) (atMost v hi) e)
@@ -116,10 +121,12 @@ capacity-bounds float v h k = omega (arith, little-size 8 v)
 capacity-bounds (constant c) v h k = omega arith
 capacity-bounds (list l f) v h k =
     let n = leb-true (length v) l (left (leb (length v) l) (all (ok 7 f) v) (k 7 (omega arith) (omega arith))) in
-    let b = many-size f (capacity f) (capacity-bounds f) v (h .1) (λ q i j. right (forQuestion q 7 (leb (length v) l)) (all (ok q f) v) (k q i j)) in
+    let b = many-size f (capacity f) (capacity-bounds f) v (h .1)
+    (λ q i j. right (forQuestion q 7 (leb (length v) l)) (all (ok q f) v) (k q i j)) in
     rw length-append (omega (arith, b, mul-le-mul-right (capacity f) n, size-mono (length v) l n))
 capacity-bounds (choice a b) (inl x) h k = omega (arith, capacity-bounds a x h k, larger-left (capacity a) (capacity b))
-capacity-bounds (choice a b) (inr y) h k = omega (arith, capacity-bounds b y h k, larger-right (capacity a) (capacity b))
+capacity-bounds (choice a b) (inr y) h k =
+    omega (arith, capacity-bounds b y h k, larger-right (capacity a) (capacity b))
 capacity-bounds (a & b) v h k =
     rw length-append
     (omega (
@@ -207,23 +214,29 @@ largest-signed lo hi e = go (leb (size (zig lo)) (size (zig hi))) refl
     high = ltb-true (zig hi) (2 ^ 64) (right (ltb (zig lo) (2 ^ 64)) _ (right (atMost lo hi) _ e))
 
     go : (t : Bool) → leb (size (zig lo)) (size (zig hi)) ≡ t → Largest (signed lo hi)
-    go true t = record { value = hi; fits = high; keeps = λ q l m. put-yes q 6 _ (both _ _ order (at-most-same hi)); long = rw t refl }
-    go false t = record { value = lo; fits = low; keeps = λ q l m. put-yes q 6 _ (both _ _ (at-most-same lo) order); long = rw t refl }
+    go true t =
+        record { value = hi; fits = high; keeps = λ q l m. put-yes q 6 _ (both _ _ order (at-most-same hi)); long = rw t refl }
+    go false t =
+        record { value = lo; fits = low; keeps = λ q l m. put-yes q 6 _ (both _ _ (at-most-same lo) order); long = rw t refl }
 
 largest-text : (l : ℕ) (c : Class) (v : List ℕ) → length v ≡ l → inClass c v ≡ true → l < 2 ^ 64 → Largest (text l c)
 largest-text l c v s i h = record {
   value = v;
   fits = (rw s h, tt);
-  keeps = λ q m n. put-yes q 5 (leb (length v) l && inClass c v) (both (leb (length v) l) (inClass c v) (rw s (le-leb l l (omega arith))) i);
+  keeps = λ q m n. put-yes q 5 (leb (length v) l && inClass c v)
+      (both (leb (length v) l) (inClass c v) (rw s (le-leb l l (omega arith))) i);
   long = rw (length-append, s) refl;
 }
 
-largest-choice : (a b : Format) → (attained a ≡ true → Largest a) → (attained b ≡ true → Largest b) → attained (choice a b) ≡ true → Largest (choice a b)
+largest-choice : (a b : Format) → (attained a ≡ true → Largest a) → (attained b ≡ true → Largest b)
+    → attained (choice a b) ≡ true → Largest (choice a b)
 largest-choice a b la lb e = go (leb (capacity a) (capacity b)) refl
   where
     go : (t : Bool) → leb (capacity a) (capacity b) ≡ t → Largest (choice a b)
-    go true t = let x = lb (rw t at e) in record { value = inr (x .value); fits = x .fits; keeps = x .keeps; long = rw t (omega (arith, x .long)) }
-    go false t = let x = la (rw t at e) in record { value = inl (x .value); fits = x .fits; keeps = x .keeps; long = rw t (omega (arith, x .long)) }
+    go true t = let x = lb (rw t at e) in
+        record { value = inr (x .value); fits = x .fits; keeps = x .keeps; long = rw t (omega (arith, x .long)) }
+    go false t = let x = la (rw t at e) in
+        record { value = inl (x .value); fits = x .fits; keeps = x .keeps; long = rw t (omega (arith, x .long)) }
 
 pub capacity-met : (f : Format) → attained f ≡ true → Largest f
 capacity-met never e = absurd (false≢true e)
@@ -235,9 +248,11 @@ capacity-met (number lo hi) e = record {
   long = refl;
 }
 capacity-met (signed lo hi) e = largest-signed lo hi e
-capacity-met (small k) e = record { value = k; fits = (ltb-true k (2 ^ 64) e, le-leb k k (omega arith)); keeps = λ q l m. refl; long = refl }
+capacity-met (small k) e =
+    record { value = k; fits = (ltb-true k (2 ^ 64) e, le-leb k k (omega arith)); keeps = λ q l m. refl; long = refl }
 capacity-met (text l c) e =
-    largest-text l c (replicate l 97) (length-replicate l 97) (class-letters c l (right (ltb l (2 ^ 64)) _ e)) (ltb-true l (2 ^ 64) (left (ltb l (2 ^ 64)) _ e))
+    largest-text l c (replicate l 97) (length-replicate l 97) (class-letters c l (right (ltb l (2 ^ 64)) _ e))
+    (ltb-true l (2 ^ 64) (left (ltb l (2 ^ 64)) _ e))
 capacity-met float e = record { value = 0; fits = omega arith; keeps = λ q l m. refl; long = refl }
 capacity-met (constant c) e = record { value = tt; fits = tt; keeps = λ q l m. refl; long = refl }
 capacity-met (list n f) e =
@@ -247,7 +262,8 @@ capacity-met (list n f) e =
     record {
       value = replicate n (x .value);
       fits = (rw s (ltb-true n (2 ^ 64) (left (ltb n (2 ^ 64)) _ e)), every-same (x .value) (λ y. Fits f y × (takes f y ≡ true)) (x .fits, some) n);
-      keeps = λ q l m. both _ _ (put-yes q 7 _ (rw s (le-leb n n (omega arith)))) (all-same (x .value) (ok q f) (x .keeps q l m) n);
+      keeps = λ q l m. both _ _ (put-yes q 7 _ (rw s (le-leb n n (omega arith))))
+          (all-same (x .value) (ok q f) (x .keeps q l m) n);
       long = rw (length-append, s, many-same (x .value) (write f) n, x .long) refl;
     }
 capacity-met (choice a b) e = largest-choice a b (capacity-met a) (capacity-met b) e
@@ -265,5 +281,6 @@ capacity-met (a & b) e =
 abbrev ids : Format
 ids = list 32 (text 64 printable)
 
-pub alert-capacity : capacity (optional (text 512 utf8) & optional (text 2_048 utf8) & optional (text 64 utf8) & ids & ids & ids) ≡ 8_875
+pub alert-capacity : capacity
+    (optional (text 512 utf8) & optional (text 2_048 utf8) & optional (text 64 utf8) & ids & ids & ids) ≡ 8_875
 alert-capacity = refl

@@ -13,7 +13,8 @@ use Rattle.formats.specs.Readers.{choiceOk}
 use Rattle.basics.specs.Lists.{All, all}
 use Rattle.formats.specs.Number.{zig}
 use Rattle.formats.specs.Class.{inClass}
-use Rattle.formats.specs.Format.{Format, never, empty, number, signed, small, text, float, constant, list, choice, _&_, Value, write, takes, Fits}
+use Rattle.formats.specs.Format.{Format, never, empty, number, signed, small, text, float, constant, list, choice, _&_}
+use Rattle.formats.specs.Format.{Value, write, takes, Fits}
 use Rattle.formats.specs.laws.Format.{nonempty, takes-nonempty}
 use Rattle.formats_judge.specs.Judged.{atMost, forQuestion, ok}
 use Rattle.formats_capacity.specs.laws.Capacity.{Keeps, capacity, capacity-bounds, left, right}
@@ -45,14 +46,16 @@ Formed (list l f) = λ v. All (Formed f) v
 Formed (choice a b) = choiceOk (Formed a) (Formed b)
 Formed (a & b) = λ v. Formed a (v .0) × Formed b (v .1)
 
-signed-fits : (lo hi z : ℤ) → zig lo < 2 ^ 64 → zig hi < 2 ^ 64 → atMost lo z ≡ true → atMost z hi ≡ true → zig z < 2 ^ 64
+signed-fits : (lo hi z : ℤ) → zig lo < 2 ^ 64 → zig hi < 2 ^ 64 → atMost lo z ≡ true → atMost z hi ≡ true
+    → zig z < 2 ^ 64
 signed-fits lo (pos m) (pos n) a b c d = omega (arith, leb-true n m d)
 signed-fits lo (negsuc m) (pos n) a b c d = absurd (false≢true d)
 signed-fits (pos m) hi (negsuc n) a b c d = absurd (false≢true c)
 signed-fits (negsuc m) hi (negsuc n) a b c d = omega (arith, leb-true n m c)
 
 many-fit : (f : Format) → ((x : Value f) → Formed f x → Keeps f x → Fits f x) → nonempty f ≡ true
-    → (v : List (Value f)) → All (Formed f) v → ((q : ℕ) → 5 ≤ q → q ≤ 7 → all (ok q f) v ≡ true) → All (λ x. Fits f x × (takes f x ≡ true)) v
+    → (v : List (Value f)) → All (Formed f) v → ((q : ℕ) → 5 ≤ q → q ≤ 7 → all (ok q f) v ≡ true)
+    → All (λ x. Fits f x × (takes f x ≡ true)) v
 many-fit f fit e [] h k = tt
 many-fit f fit e (x ∷ v) h k = (
   (
@@ -91,10 +94,13 @@ keeps-fits (list l f) e v h k =
 keeps-fits (choice a b) e (inl x) h k = keeps-fits a (left (sensible a) (sensible b) e) x h k
 keeps-fits (choice a b) e (inr y) h k = keeps-fits b (right (sensible a) (sensible b) e) y h k
 keeps-fits (a & b) e v h k = (
-  keeps-fits a (left (sensible a) (sensible b) e) (v .0) (h .0) (λ q l m. left (ok q a (v .0)) (ok q b (v .1)) (k q l m)),
-  keeps-fits b (right (sensible a) (sensible b) e) (v .1) (h .1) (λ q l m. right (ok q a (v .0)) (ok q b (v .1)) (k q l m)),
+  keeps-fits a (left (sensible a) (sensible b) e) (v .0) (h .0)
+      (λ q l m. left (ok q a (v .0)) (ok q b (v .1)) (k q l m)),
+  keeps-fits b (right (sensible a) (sensible b) e) (v .1) (h .1)
+      (λ q l m. right (ok q a (v .0)) (ok q b (v .1)) (k q l m)),
 )
 
 -- so that no value that keeps them is longer than the capacity
-pub keeps-bounds : (f : Format) → sensible f ≡ true → (v : Value f) → Formed f v → Keeps f v → length (write f v) ≤ capacity f
+pub keeps-bounds : (f : Format) → sensible f ≡ true → (v : Value f) → Formed f v → Keeps f v
+    → length (write f v) ≤ capacity f
 keeps-bounds f e v h k = capacity-bounds f v (keeps-fits f e v h k) k

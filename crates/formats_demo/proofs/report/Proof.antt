@@ -23,11 +23,19 @@ report-spec =
     (λ c κs. search needs)
     (λ c. search needs)
     (λ c κs. search needs)
-    (λ c. Laws.all-yes (c .before .before .before .before .before .before .before .before .before .before .before .before .before .judge .ensures) (c .before .before .before .before .before .before .before .before .before .before .before .end .given .1) (c .before .before .if1 .taken))
+    (λ c. Laws.all-yes
+    (c .before .before .before .before .before .before .before .before .before .before .before .before .before
+    .judge .ensures)
+    (c .before .before .before .before .before .before .before .before .before .before .before .end .given .1)
+    (c .before .before .if1 .taken))
     (λ c. search needs)
     (λ c κs. search needs)
     (λ c. search needs)
     (λ c κs. search needs)
     (λ c. search needs)
     (λ c κs. search needs)
-    (λ c. Laws.some-no (c .before .before .before .before .before .before .before .before .before .before .before .before .before .before .before .before .judge .ensures) (c .before .before .before .before .before .before .before .before .before .before .before .before .before .before .end .given .1) (c .before .before .before .before .before .if1 .left)))
+    (λ c. Laws.some-no
+    (c .before .before .before .before .before .before .before .before .before .before .before .before .before
+    .before .before .before .judge .ensures)
+    (c .before .before .before .before .before .before .before .before .before .before .before .before .before
+    .before .end .given .1) (c .before .before .before .before .before .if1 .left)))

@@ -20,4 +20,14 @@ edit-spec =
     (λ c κs. search needs)
     (λ c κs. search needs)
     (λ c. search needs)
-    (λ c. Edited.edits (c .before .before .before .before .before .before .before .before .before .before .before .before .before .before .before .before .before .before .before .before .number .ensures) (c .before .before .before .before .before .before .before .before .before .before .before .before .before .before .before .before .before .nth .ensures) (c .before .before .before .before .before .before .before .before .before .before .before .before .before .before .before .before .nth2 .ensures) (c .before .before .before .before .before .before .before .before .before .before .before .before .before .before .number2 .ensures) (c .before .before .before .before .before .before .before .before .before .before .stretch .ensures) (c .before .before .before .before .before .before .stretch2 .ensures) (c .before .before .stretch3 .ensures)))
+    (λ c. Edited.edits
+    (c .before .before .before .before .before .before .before .before .before .before .before .before .before
+    .before .before .before .before .before .before .before .number .ensures)
+    (c .before .before .before .before .before .before .before .before .before .before .before .before .before
+    .before .before .before .before .nth .ensures)
+    (c .before .before .before .before .before .before .before .before .before .before .before .before .before
+    .before .before .before .nth2 .ensures)
+    (c .before .before .before .before .before .before .before .before .before .before .before .before .before
+    .before .number2 .ensures)
+    (c .before .before .before .before .before .before .before .before .before .before .stretch .ensures)
+    (c .before .before .before .before .before .before .stretch2 .ensures) (c .before .before .stretch3 .ensures)))

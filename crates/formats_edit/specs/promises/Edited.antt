@@ -18,6 +18,8 @@ abbrev pub inserted : {A : Type 0} → ℕ → A → List A → List A
 inserted i v vs = edited i 0 (v ∷ []) vs
 
 -- what an edit promises: of the list vs that stands from p to q, and of the values us whose bytes are `new`
-pub record Edits (f : Format) (s : List ℕ) (p q i k count : ℕ) (new l : List ℕ) (r : Put) (m : List ℕ) (j : Put) : Type 0 where
-  pub adds : {c : ℕ} {vs : List (Value f)} (us : List (Value f)) → Here (list c f) s p q vs → i + k ≤ length vs → length us ≡ count → length vs - k + count < 18446744073709551616
+pub record Edits (f : Format) (s : List ℕ) (p q i k count : ℕ) (new l : List ℕ) (r : Put) (m : List ℕ) (j : Put) : Type
+    0 where
+  pub adds : {c : ℕ} {vs : List (Value f)} (us : List (Value f)) → Here (list c f) s p q vs → i + k ≤ length vs
+      → length us ≡ count → length vs - k + count < 18446744073709551616
       → new ≡ manyW (write f) us → Adds l r m j (write (list c f) (edited i k us vs))

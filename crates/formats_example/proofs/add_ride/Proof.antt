@@ -20,4 +20,13 @@ add-ride-spec =
     (λ c κs. search needs)
     (λ c κs. search needs)
     (λ c. search needs)
-    (λ c. λ v x e z w f. let s = c .before .before .before .before .before .before .before .before .before .before .before .before .before .before .before .before .before .before .before .args .s .now in wrote (ride-in x (c .before .before .before .before .before .before .before .before .before .before .before .before .before .before .before .field .ensures tt v (length s) (whole-here ticket s v e)) (c .before .before .before .before .before .before .before .before .before .before .before .before .before .past .ensures) z w f (c .before .before .before .before .before .before .before .before .before .before .before .stretch .ensures) (c .before .before .before .before .before .before .insert .ensures) (c .before .before .stretch2 .ensures))))
+    (λ c. λ v x e z w f. let s =
+    c .before .before .before .before .before .before .before .before .before .before .before .before .before
+    .before .before .before .before .before .before .args .s .now in
+    wrote (ride-in x
+    (c .before .before .before .before .before .before .before .before .before .before .before .before .before
+    .before .before .field .ensures tt v (length s) (whole-here ticket s v e))
+    (c .before .before .before .before .before .before .before .before .before .before .before .before .before
+    .past .ensures) z w f
+    (c .before .before .before .before .before .before .before .before .before .before .before .stretch .ensures)
+    (c .before .before .before .before .before .before .insert .ensures) (c .before .before .stretch2 .ensures))))

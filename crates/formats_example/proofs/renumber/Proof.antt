@@ -19,4 +19,17 @@ renumber-spec =
     (λ c κs. search needs)
     (λ c κs. search needs)
     (λ c. search needs)
-    (λ c. λ v e. let s = c .before .before .before .before .before .before .before .before .before .before .before .before .before .before .before .before .args .s .now in let n = c .before .before .before .before .before .before .before .before .before .before .before .before .before .before .before .before .args .n in let h = whole-here ticket s v e in let a = c .before .before .before .before .before .before .before .before .before .before .before .before .before .field .ensures tt v (length s) h in let b = c .before .before .before .before .before .before .before .before .before .before .before .before .field2 .ensures tt v (length s) h in wrote (changed a (c .before .before .before .before .before .before .before .before .before .before .stretch .ensures) (n, tail 2 ticket tt v) (then (c .before .before .before .before .before .before .number .ensures) (kept (b .here) (c .before .before .stretch2 .ensures))))))
+    (λ c. λ v e. let s =
+    c .before .before .before .before .before .before .before .before .before .before .before .before .before
+    .before .before .before .args .s .now in let n =
+    c .before .before .before .before .before .before .before .before .before .before .before .before .before
+    .before .before .before .args .n in let h = whole-here ticket s v e in let a =
+    c .before .before .before .before .before .before .before .before .before .before .before .before .before
+    .field .ensures tt v (length s) h in let b =
+    c .before .before .before .before .before .before .before .before .before .before .before .before .field2
+    .ensures tt v (length s) h in
+    wrote (changed a
+    (c .before .before .before .before .before .before .before .before .before .before .stretch .ensures)
+    (n, tail 2 ticket tt v)
+    (then (c .before .before .before .before .before .before .number .ensures)
+    (kept (b .here) (c .before .before .stretch2 .ensures))))))

@@ -13,7 +13,8 @@ use Rattle.formats_judge.specs.declared.Judge.the-variants.{At}
 use Rattle.formats_example.specs.promises.Ticket.{ticket}
 
 bytes : List ℕ
-bytes = 1 ∷ 0xac ∷ 0x02 ∷ 2 ∷ 65 ∷ 66 ∷ 1 ∷ 1 ∷ 7 ∷ 2 ∷ 1 ∷ 97 ∷ 5 ∷ 1 ∷ 98 ∷ 41 ∷ 1 ∷ 0 ∷ 0 ∷ 0 ∷ 0 ∷ 0 ∷ 0 ∷ 0xf8 ∷ 0x3f ∷ 59 ∷ []
+bytes = 1 ∷ 0xac ∷ 0x02 ∷ 2 ∷ 65 ∷ 66 ∷ 1 ∷ 1 ∷ 7 ∷ 2 ∷ 1 ∷ 97 ∷ 5 ∷ 1 ∷ 98 ∷ 41 ∷ 1 ∷ 0 ∷ 0 ∷ 0 ∷ 0 ∷ 0 ∷ 0 ∷ 0xf8
+    ∷ 0x3f ∷ 59 ∷ []
 
 -- number 300, seat 7, two rides, a fare of 1.5, valid from half an hour before midnight
 value : Value ticket
@@ -41,5 +42,6 @@ long : skipTo ticket (1 ∷ 0x87 ∷ 0 ∷ 0 ∷ 1 ∷ 1 ∷ 7 ∷ 0 ∷ 0 ∷ 0
 long = refl
 
 -- a list that says 2^63 rides
-huge : skipTo ticket (1 ∷ 7 ∷ 0 ∷ 1 ∷ 1 ∷ 7 ∷ 0x80 ∷ 0x80 ∷ 0x80 ∷ 0x80 ∷ 0x80 ∷ 0x80 ∷ 0x80 ∷ 0x80 ∷ 0x80 ∷ 1 ∷ 0 ∷ 0 ∷ []) 0 ≡ Broken
+huge : skipTo ticket
+    (1 ∷ 7 ∷ 0 ∷ 1 ∷ 1 ∷ 7 ∷ 0x80 ∷ 0x80 ∷ 0x80 ∷ 0x80 ∷ 0x80 ∷ 0x80 ∷ 0x80 ∷ 0x80 ∷ 0x80 ∷ 1 ∷ 0 ∷ 0 ∷ []) 0 ≡ Broken
 huge = refl

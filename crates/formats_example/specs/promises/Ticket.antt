@@ -3,7 +3,8 @@ use mathlib.Core.List.{List}
 use Prim.Native.Nat.{ℕ}
 use lib.IntN.{pos, negsuc}
 use Rattle.formats.specs.Class.{printable}
-use Rattle.formats.specs.Format.{Format, number, signed, small, text, float, constant, list, choice, _&_, optional, Value}
+use Rattle.formats.specs.Format.{Format, number, signed, small, text, float, constant, list, choice, _&_, optional}
+use Rattle.formats.specs.Format.{Value}
 use Rattle.formats_read.specs.promises.Fields.{tail, with}
 use Rattle.formats_edit.specs.promises.Edited.{inserted}
 
@@ -11,7 +12,8 @@ use Rattle.formats_edit.specs.promises.Edited.{inserted}
 abbrev pub ride : Format
 ride = text 32 printable & number 0 40
 
--- its version, its number, the passenger, a kind, a seat by name or by number, the rides, a fare, and from which minute of the day it is valid
+-- its version, its number, the passenger, a kind, a seat by name or by number, the rides, a fare, and from which
+-- minute of the day it is valid
 abbrev pub ticket : Format
 ticket =
     constant 1 & number 0 999999 & text 64 printable & small 2 & choice (text 16 printable) (number 1 200)

@@ -8,7 +8,9 @@ use borrow.Fn.PlainCycle.{Measures, is, falls, and}
 use Rattle.formats.specs.promises.Outcome.{formatAt}
 use Rattle.formats.proofs.Parts.{count-within, tag-within}
 use Rattle.formats_judge.specs.promises.Judged.{judgeMany, judgedAfter}
-use Rattle.formats_judge.proofs.Judging.{value-none, value-leaf, list-bad, list-over, list-good, choice-0, choice-1, choice-2, pair-bad, pair-bad-2, pair-good, value-never, judged-in, many-none, many-bad, many-flat, many-more}
+use Rattle.formats_judge.proofs.Judging.{value-none, value-leaf, list-bad, list-over, list-good, choice-0}
+use Rattle.formats_judge.proofs.Judging.{choice-1, choice-2, pair-bad, pair-bad-2, pair-good, value-never}
+use Rattle.formats_judge.proofs.Judging.{judged-in, many-none, many-bad, many-flat, many-more}
 use Rattle.formats_judge.proofs.judge_many.Reads as judge-many
 use Rattle.formats_judge.proofs.judge_many.Kinds as judge-many-kinds
 use Rattle.formats_judge.proofs.+judge_many+judge_value.Lts-judge_many as judge-many-lts
@@ -48,7 +50,9 @@ judge-value-below t =
 
 abbrev Inv-loop : judge-many-lts.InvT-loop
 Inv-loop t depth node n s at x p₀ left₀ found₀ p left found =
-    (p ≤ length s) × (judgedAfter found (judgeMany (formatAt depth t node) left s p) ≡ judgedAfter x (judgeMany (formatAt depth t node) n s at))
+    (p ≤ length s)
+    × (judgedAfter found (judgeMany (formatAt depth t node) left s p) ≡
+    judgedAfter x (judgeMany (formatAt depth t node) n s at))
 
 abbrev μ-loop : judge-many-lts.MeasureT-loop
 μ-loop t depth node n s at x p₀ left₀ found₀ p left found = left
@@ -106,7 +110,8 @@ pub +judge-many+judge-value-spec : {M : Type 1} → statement M
     (λ c. search needs)
     (λ c. search needs)
     (λ c. search list-bad)
-    (λ c. omega (arith, count-within (c .before .before .before .before .before .before .before .before .before .before .before .before .args .s .now) (c .before .before .before .before .before .before .before .before .before .before .before .before .args .at) _ _ _ (c .before .before .before .number .ensures) (c .before .n .given .1)))
+    (λ c. omega
+    (arith, count-within (c .before .before .before .before .before .before .before .before .before .before .before .before .args .s .now) (c .before .before .before .before .before .before .before .before .before .before .before .before .args .at) _ _ _ (c .before .before .before .number .ensures) (c .before .n .given .1)))
     (λ c. search list-over)
     (λ c κs. search needs)
     (λ c κs. (omega arith, count-within (c .before .before .before .before .before .before .before .before .before .before .before .before .before .before .args .s .now) (c .before .before .before .before .before .before .before .before .before .before .before .before .before .before .args .at) _ _ _ (c .before .before .before .before .before .number .ensures) (c .before .before .before .n .given .1)))

@@ -16,7 +16,8 @@ use Rattle.formats_judge.specs.Judged.{ok, answer, firstFailing, verdict
 use Rattle.formats_judge.specs.promises.Judged.{textAnswer, verdicts, sooner}
 
 -- the verdict of two parts is the sooner of their verdicts
-pub first-both : (a b c x y z : Bool) → sooner (firstFailing a b c) (firstFailing x y z) ≡ firstFailing (a && x) (b && y) (c && z)
+pub first-both : (a b c x y z : Bool)
+    → sooner (firstFailing a b c) (firstFailing x y z) ≡ firstFailing (a && x) (b && y) (c && z)
 first-both false b c false y z = refl
 first-both false b c true false z = refl
 first-both false b c true true false = refl
@@ -43,11 +44,15 @@ sooner-assoc (suc x) (suc y) zero = go (leb (suc x) (suc y)) refl
     go false e = rw e refl
 sooner-assoc (suc x) (suc y) (suc z) = go (leb (suc x) (suc y)) (leb (suc y) (suc z)) refl refl
   where
-    go : (t u : Bool) → leb (suc x) (suc y) ≡ t → leb (suc y) (suc z) ≡ u → sooner (suc x) (sooner (suc y) (suc z)) ≡ sooner (sooner (suc x) (suc y)) (suc z)
-    go true true e f = rw (e, f, e, le-leb (suc x) (suc z) (omega (arith, leb-true (suc x) (suc y) e, leb-true (suc y) (suc z) f))) refl
+    go : (t u : Bool) → leb (suc x) (suc y) ≡ t → leb (suc y) (suc z) ≡ u
+        → sooner (suc x) (sooner (suc y) (suc z)) ≡ sooner (sooner (suc x) (suc y)) (suc z)
+    go true true e f =
+        rw (e, f, e, le-leb (suc x) (suc z) (omega (arith, leb-true (suc x) (suc y) e, leb-true (suc y) (suc z) f)))
+        refl
     go true false e f = rw (e, f) refl
     go false true e f = rw (e, f, e) refl
-    go false false e f = rw (e, f, lt-leb (suc x) (suc z) (omega (arith, leb-false (suc x) (suc y) e, leb-false (suc y) (suc z) f))) refl
+    go false false e f =
+        rw (e, f, lt-leb (suc x) (suc z) (omega (arith, leb-false (suc x) (suc y) e, leb-false (suc y) (suc z) f))) refl
 
 -- "Texts of different length limits share one fact over the limit": the verdict on a text, for every limit and class
 pub text-limit : (limit : ℕ) (c : Class) (v : List ℕ) → verdict (text limit c) v ≡ textAnswer limit c v
@@ -55,12 +60,15 @@ text-limit limit c v = refl
 
 -- the verdict on two parts, on one value more, and on a list, is the sooner of the parts' verdicts
 pub verdict-pair : (a b : Format) (v : Value (a & b)) → sooner (verdict a (v .0)) (verdict b (v .1)) ≡ verdict (a & b) v
-verdict-pair a b v = first-both (ok 5 a (v .0)) (ok 6 a (v .0)) (ok 7 a (v .0)) (ok 5 b (v .1)) (ok 6 b (v .1)) (ok 7 b (v .1))
+verdict-pair a b v =
+    first-both (ok 5 a (v .0)) (ok 6 a (v .0)) (ok 7 a (v .0)) (ok 5 b (v .1)) (ok 6 b (v .1)) (ok 7 b (v .1))
 
-pub verdict-more : (f : Format) (x : Value f) (v : List (Value f)) → sooner (verdict f x) (verdicts f v) ≡ verdicts f (x ∷ v)
+pub verdict-more : (f : Format) (x : Value f) (v : List (Value f))
+    → sooner (verdict f x) (verdicts f v) ≡ verdicts f (x ∷ v)
 verdict-more f x v = first-both (ok 5 f x) (ok 6 f x) (ok 7 f x) (all (ok 5 f) v) (all (ok 6 f) v) (all (ok 7 f) v)
 
-pub verdict-list : (l : ℕ) (f : Format) (v : List (Value f)) → sooner (answer 7 (leb (length v) l)) (verdicts f v) ≡ verdict (list l f) v
+pub verdict-list : (l : ℕ) (f : Format) (v : List (Value f))
+    → sooner (answer 7 (leb (length v) l)) (verdicts f v) ≡ verdict (list l f) v
 verdict-list l f v = first-both true true (leb (length v) l) (all (ok 5 f) v) (all (ok 6 f) v) (all (ok 7 f) v)
 
 -- what a verdict says, over the question: q is answered no, and each question before it yes
@@ -84,7 +92,9 @@ module _ (g : ℕ → Bool) where
   yes-five a p l h = let e : 5 ≡ p = omega arith in subst (λ p. g p ≡ true) e a
 
   yes-six : g 5 ≡ true → g 6 ≡ true → (p : ℕ) → 5 ≤ p → p < 7 → g p ≡ true
-  yes-six a b p l h = ⊎-elim (λ e. subst (λ p. g p ≡ true) e a) (λ m. let e : 6 ≡ p = omega arith in subst (λ p. g p ≡ true) e b) (eq-or-lt-of-le l)
+  yes-six a b p l h =
+      ⊎-elim (λ e. subst (λ p. g p ≡ true) e a) (λ m. let e : 6 ≡ p = omega arith in subst (λ p. g p ≡ true) e b)
+      (eq-or-lt-of-le l)
 
   yes-seven : g 5 ≡ true → g 6 ≡ true → g 7 ≡ true → (p : ℕ) → 5 ≤ p → p ≤ 7 → g p ≡ true
   yes-seven a b c p l h = ⊎-elim (λ e. subst (λ p. g p ≡ true) (sym e) c) (λ m. yes-six a b p l m) (eq-or-lt-of-le h)
@@ -101,7 +111,8 @@ module _ (g : ℕ → Bool) where
       (λ e. subst (FirstNo g) e F, only 7 q (omega arith) l F)
   says true true true a b c q l h = (λ e. absurd (omega arith), λ F. differ q (yes-seven a b c q l h) (F .0))
 
-  all-yes : (x y z : Bool) → g 5 ≡ x → g 6 ≡ y → g 7 ≡ z → (firstFailing x y z ≡ 0) ↔ ((p : ℕ) → 5 ≤ p → p ≤ 7 → g p ≡ true)
+  all-yes : (x y z : Bool) → g 5 ≡ x → g 6 ≡ y → g 7 ≡ z
+      → (firstFailing x y z ≡ 0) ↔ ((p : ℕ) → 5 ≤ p → p ≤ 7 → g p ≡ true)
   all-yes false y z a b c = (λ e. absurd (omega arith), λ k. differ 5 (k 5 (omega arith) (omega arith)) a)
   all-yes true false z a b c = (λ e. absurd (omega arith), λ k. differ 6 (k 6 (omega arith) (omega arith)) b)
   all-yes true true false a b c = (λ e. absurd (omega arith), λ k. differ 7 (k 7 (omega arith) (omega arith)) c)

@@ -11,7 +11,8 @@ use lib.ListN.{length}
 use mathlib.Core.Path.{_≡_, refl}
 
 abbrev Inv-loop : tie.InvT-loop
-Inv-loop t depth node k s at d₀ n₀ p₀ j₀ d n p j = (p ≤ length s) × (fieldTo j (formatAt d t n) s p ≡ fieldTo k (formatAt depth t node) s at)
+Inv-loop t depth node k s at d₀ n₀ p₀ j₀ d n p j =
+    (p ≤ length s) × (fieldTo j (formatAt d t n) s p ≡ fieldTo k (formatAt depth t node) s at)
 
 abbrev μ-loop : tie.MeasureT-loop
 μ-loop t depth node k s at d₀ n₀ p₀ j₀ d n p j = j

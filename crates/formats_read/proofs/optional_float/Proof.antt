@@ -12,5 +12,6 @@ optional-float-spec =
     (λ c κs. search needs)
     (λ c. search needs)
     (λ c κs. search needs)
-    (λ c. λ v q h. Laws.optional-some v h _ (sym (c .before .before .tag .ensures) ∙ c .before .if2 .taken) (λ x y. c .float .ensures x q y))
+    (λ c. λ v q h. Laws.optional-some v h _ (sym (c .before .before .tag .ensures) ∙ c .before .if2 .taken)
+    (λ x y. c .float .ensures x q y))
     (λ c. λ v q h. Laws.optional-none v h (λ t. c .if2 .left (c .before .tag .ensures ∙ t))))

@@ -13,5 +13,6 @@ optional-number-spec =
     (λ c κs. search needs)
     (λ c. search needs)
     (λ c κs. search needs)
-    (λ c. λ lo hi v q h. Laws.optional-some v h _ (sym (c .before .before .tag .ensures) ∙ c .before .if2 .taken) (λ x y. c .number .ensures .value (number-here y)))
+    (λ c. λ lo hi v q h. Laws.optional-some v h _ (sym (c .before .before .tag .ensures) ∙ c .before .if2 .taken)
+    (λ x y. c .number .ensures .value (number-here y)))
     (λ c. λ lo hi v q h. Laws.optional-none v h (λ t. c .if2 .left (c .before .tag .ensures ∙ t))))

@@ -12,5 +12,6 @@ optional-text-spec =
     (λ c κs. search needs)
     (λ c. search needs)
     (λ c κs. search needs)
-    (λ c. λ l k v q h. Laws.optional-text v h (sym (c .before .before .tag .ensures) ∙ c .before .if2 .taken) _ (c .text .ensures))
+    (λ c. λ l k v q h. Laws.optional-text v h (sym (c .before .before .tag .ensures) ∙ c .before .if2 .taken) _
+    (c .text .ensures))
     (λ c. λ l k v q h. (Laws.optional-none v h (λ t. c .if2 .left (c .before .tag .ensures ∙ t)), tt)))

@@ -10,4 +10,5 @@ pub signed-spec : {M : Type 1} → statement M
 signed-spec = tie.close (tie.spec
     (λ c κs. search needs)
     (λ c κs. search needs)
-    (λ c. λ lo hi z q h. toZ-ofZ (record { sfits = c .from-zigzag .ok }) ∙ c .from-zigzag .ensures ∙ Laws.signed-is h (c .before .number .ensures)))
+    (λ c. λ lo hi z q h. toZ-ofZ (record { sfits = c .from-zigzag .ok }) ∙ c .from-zigzag .ensures
+    ∙ Laws.signed-is h (c .before .number .ensures)))

@@ -17,8 +17,11 @@ module _ {f : Format} {B : Type 0} {op : B → Value f → B} {s : List ℕ} {a 
   start = begin refl
 
   pub step : {p left : ℕ} {b b′ : B} (e : ℕ) → Folding f op s a n p left b₀ b → 0 < left
-      → ((v : Value f) (q : ℕ) → Here f s p q v → e ≡ q) → ((v : Value f) → Here f s p e v → b′ ≡ op b v) → Folding f op s a n e (left - 1) b₀ b′
-  step e W z ends adds = onward W e z ends (λ us v d h. adds v h ∙ ap (λ b. op b v) d ∙ sym (foldl-append op b₀ us (v ∷ [])))
+      → ((v : Value f) (q : ℕ) → Here f s p q v → e ≡ q) → ((v : Value f) → Here f s p e v → b′ ≡ op b v)
+      → Folding f op s a n e (left - 1) b₀ b′
+  step e W z ends adds =
+      onward W e z ends (λ us v d h. adds v h ∙ ap (λ b. op b v) d ∙ sym (foldl-append op b₀ us (v ∷ [])))
 
-  pub stop : {p left : ℕ} {b : B} → Folding f op s a n p left b₀ b → left ≤ 0 → (vs : List (Value f)) (q : ℕ) → length vs ≡ n → Many f s a q vs → b ≡ foldl op b₀ vs
+  pub stop : {p left : ℕ} {b : B} → Folding f op s a n p left b₀ b → left ≤ 0 → (vs : List (Value f)) (q : ℕ)
+      → length vs ≡ n → Many f s a q vs → b ≡ foldl op b₀ vs
   stop W = ended W

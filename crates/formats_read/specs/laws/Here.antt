@@ -10,7 +10,8 @@ use lib.IntN.{ℤ}
 use lib.ListN.{length, take, drop, getD, length-append, take-append-drop}
 use lib.Seq.{slice, length-slice, slice-empty, length-take-le, take-at, drop-at, drop-append-le, getD-drop}
 use borrow.Author.Tests.{lt-ltb}
-use Rattle.formats.specs.Format.{Format, never, empty, number, signed, small, text, float, constant, list, choice, _&_, Value, read, write}
+use Rattle.formats.specs.Format.{Format, never, empty, number, signed, small, text, float, constant, list, choice, _&_}
+use Rattle.formats.specs.Format.{Value, read, write}
 use Rattle.formats.specs.laws.Format.{law}
 use Rattle.formats.specs.Number.{zig}
 use Rattle.formats.specs.Class.{Class}
@@ -35,10 +36,12 @@ pub record Meet (s : List ℕ) (p q : ℕ) (x y : List ℕ) (m : ℕ) : Type 0 w
   pub after : p ≤ m
   pub before : m ≤ q
 
-pub meet : (s : List ℕ) (p q : ℕ) (x y : List ℕ) → slice p q s ≡ x ++ y → p ≤ q → q ≤ length s → Meet s p q x y (p + length x)
+pub meet : (s : List ℕ) (p q : ℕ) (x y : List ℕ) → slice p q s ≡ x ++ y → p ≤ q → q ≤ length s
+    → Meet s p q x y (p + length x)
 meet s p q x y e h k =
     let n : q - p ≡ length x + length y = sym (length-slice p q s k) ∙ ap length e ∙ length-append x y in
-    let m : length (slice p (p + length x) s) ≡ length x = length-slice p (p + length x) s (omega arith) ∙ omega arith in
+    let m : length (slice p (p + length x) s) ≡ length x =
+    length-slice p (p + length x) s (omega arith) ∙ omega arith in
     let a = slice p (p + length x) s in
     let b = slice (p + length x) q s in
     let j : a ++ b ≡ x ++ y = slice-join p (p + length x) q s (omega arith) (omega arith) k ∙ e in
@@ -47,7 +50,8 @@ meet s p q x y e h k =
 -- the whole past a place: what stands there, and the rest
 past-place : (s : List ℕ) (p q : ℕ) → p ≤ q → q ≤ length s → drop p s ≡ slice p q s ++ drop q s
 past-place s p q h k =
-    ap (drop p) (sym (take-append-drop q s)) ∙ drop-append-le p (take q s) (drop q s) (omega (arith, length-take-le q s k))
+    ap (drop p) (sym (take-append-drop q s))
+    ∙ drop-append-le p (take q s) (drop q s) (omega (arith, length-take-le q s k))
 
 pub whole-here : (f : Format) (s : List ℕ) (v : Value f) → read f s ≡ some (v, []) → Here f s 0 (length s) v
 whole-here f s v e = let n : length s - 0 ≡ length s = omega arith in rw n at (here f s 0 v [] (omega arith) e)
@@ -55,7 +59,8 @@ whole-here f s v e = let n : length s - 0 ≡ length s = omega arith in rw n at 
 -- what is written for a value is read back
 pub reads : {f : Format} {s : List ℕ} {p q : ℕ} {v : Value f} → Here f s p q v → read f (drop p s) ≡ some (v, drop q s)
 reads {f} {s} {p} {q} {v} h =
-    ap (read f) (past-place s p q (h .forward) (h .within) ∙ ap (λ l. l ++ drop q s) (h .written)) ∙ law f .there v (drop q s) (h .fits)
+    ap (read f) (past-place s p q (h .forward) (h .within) ∙ ap (λ l. l ++ drop q s) (h .written))
+    ∙ law f .there v (drop q s) (h .fits)
 
 pub passed : {f : Format} {s : List ℕ} {p q : ℕ} {v : Value f} → Here f s p q v → skipTo f s p ≡ At q
 passed {f} {s} {p} {q} {v} h = ap (skipped s) (reads h) ∙ ap At (place s q (h .within))
@@ -65,7 +70,8 @@ pub record Halves (a b : Format) (s : List ℕ) (p q : ℕ) (v : Value (a & b)) 
   pub first : Here a s p m (v .0)
   pub second : Here b s m q (v .1)
 
-pub halves : {a b : Format} {s : List ℕ} {p q : ℕ} {v : Value (a & b)} → Here (a & b) s p q v → Halves a b s p q v (p + length (write a (v .0)))
+pub halves : {a b : Format} {s : List ℕ} {p q : ℕ} {v : Value (a & b)} → Here (a & b) s p q v
+    → Halves a b s p q v (p + length (write a (v .0)))
 halves {a} {b} {s} {p} {q} {v} h =
     let m = meet s p q (write a (v .0)) (write b (v .1)) (h .written) (h .forward) (h .within) in
     record {
@@ -76,8 +82,10 @@ halves {a} {b} {s} {p} {q} {v} h =
 joined : (x y z u a b : List ℕ) → x ++ y ≡ z → x ≡ a → y ++ u ≡ b → z ++ u ≡ a ++ b
 joined x y z u a b e f g = rw (← e, append-assoc, g, f) refl
 
-pub field : (k : ℕ) (f : Format) (i : Has k f) {s : List ℕ} {p q : ℕ} {v : Value f} → Here f s p q v → (m : ℕ) × Field k f i s p q v m × (fieldTo k f s p ≡ At m)
-field zero f i {s} {p} {q} {v} h = (p, record { here = h; forward = omega arith; front = λ u. rw (slice-empty p s) refl }, refl)
+pub field : (k : ℕ) (f : Format) (i : Has k f) {s : List ℕ} {p q : ℕ} {v : Value f} → Here f s p q v
+    → (m : ℕ) × Field k f i s p q v m × (fieldTo k f s p ≡ At m)
+field zero f i {s} {p} {q} {v} h =
+    (p, record { here = h; forward = omega arith; front = λ u. rw (slice-empty p s) refl }, refl)
 field (suc k) (a & b) i {s} {p} {q} {v} h =
     let x = halves h in
     let y = field k b i (x .second) in
@@ -86,8 +94,10 @@ field (suc k) (a & b) i {s} {p} {q} {v} h =
       record {
         here = y .1 .here;
         forward = omega (arith, x .first .forward, y .1 .forward);
-        front = λ u. joined (slice p n s) (slice n (y .0) s) (slice p (y .0) s) (write (part k b) u) (write a (v .0)) (write b (with k b i (v .1) u))
-            (slice-join p n (y .0) s (x .first .forward) (y .1 .forward) (omega (arith, y .1 .here .forward, h .within))) (x .first .written) (y .1 .front u);
+        front = λ u. joined (slice p n s) (slice n (y .0) s) (slice p (y .0) s) (write (part k b) u) (write a (v .0))
+            (write b (with k b i (v .1) u))
+            (slice-join p n (y .0) s (x .first .forward) (y .1 .forward)
+            (omega (arith, y .1 .here .forward, h .within))) (x .first .written) (y .1 .front u);
       },
       ap (λ r. onward r (λ q. fieldTo k b s q)) (passed (x .first)) ∙ y .2,
     )
@@ -103,7 +113,8 @@ field (suc k) (list l f) i h = absurd i
 field (suc k) (choice a b) i h = absurd i
 
 -- a choice: its byte, and what stands behind it
-tagged : (c : ℕ) (w s : List ℕ) (p q : ℕ) → slice p q s ≡ c ∷ w → p ≤ q → q ≤ length s → (tagAt s p ≡ c) × (slice (p + 1) q s ≡ w) × (p + 1 ≤ q)
+tagged : (c : ℕ) (w s : List ℕ) (p q : ℕ) → slice p q s ≡ c ∷ w → p ≤ q → q ≤ length s
+    → (tagAt s p ≡ c) × (slice (p + 1) q s ≡ w) × (p + 1 ≤ q)
 tagged c w s p q e h k =
     let m = meet s p q (c ∷ []) w e h k in
     let d : drop p s ≡ c ∷ (w ++ drop q s) = past-place s p q h k ∙ ap (λ l. l ++ drop q s) e in
@@ -114,7 +125,8 @@ abbrev pub Branch : (a b : Format) (s : List ℕ) (p q : ℕ) → Value (choice 
 Branch a b s p q (inl x) = (tagAt s p ≡ 0) × Here a s (p + 1) q x
 Branch a b s p q (inr y) = (tagAt s p ≡ 1) × Here b s (p + 1) q y
 
-pub branch : {a b : Format} {s : List ℕ} {p q : ℕ} (v : Value (choice a b)) → Here (choice a b) s p q v → Branch a b s p q v
+pub branch : {a b : Format} {s : List ℕ} {p q : ℕ} (v : Value (choice a b)) → Here (choice a b) s p q v
+    → Branch a b s p q v
 branch {a} {b} {s} {p} {q} (inl x) h =
     let t = tagged 0 (write a x) s p q (h .written) (h .forward) (h .within) in
     (t .0, record { written = t .1; fits = h .fits; forward = t .2; within = h .within })
@@ -123,7 +135,8 @@ branch {a} {b} {s} {p} {q} (inr y) h =
     (t .0, record { written = t .1; fits = h .fits; forward = t .2; within = h .within })
 
 -- a choice takes a byte
-pub choice-in : {a b : Format} {s : List ℕ} {p q : ℕ} (v : Value (choice a b)) → Here (choice a b) s p q v → p < length s
+pub choice-in : {a b : Format} {s : List ℕ} {p q : ℕ} (v : Value (choice a b)) → Here (choice a b) s p q v
+    → p < length s
 choice-in (inl x) h = let b = branch (inl x) h .1 in omega (arith, b .forward, b .within)
 choice-in (inr y) h = let b = branch (inr y) h .1 in omega (arith, b .forward, b .within)
 
@@ -136,7 +149,8 @@ pub record Second (a b : Format) (s : List ℕ) (p q : ℕ) (v : Value (choice a
   pub is : v ≡ inr value
   pub stands : Here b s (p + 1) q value
 
-pub second : {a b : Format} {s : List ℕ} {p q : ℕ} (v : Value (choice a b)) → Here (choice a b) s p q v → tagAt s p ≡ 1 → Second a b s p q v
+pub second : {a b : Format} {s : List ℕ} {p q : ℕ} (v : Value (choice a b)) → Here (choice a b) s p q v → tagAt s p ≡ 1
+    → Second a b s p q v
 second {s} {p} (inl x) h t = two-tags (tagAt s p) (branch (inl x) h .0) t
 second (inr y) h t = record { value = y; is = refl; stands = branch (inr y) h .1 }
 
@@ -145,7 +159,8 @@ pub record First (a b : Format) (s : List ℕ) (p q : ℕ) (v : Value (choice a 
   pub is : v ≡ inl value
   pub stands : Here a s (p + 1) q value
 
-pub first : {a b : Format} {s : List ℕ} {p q : ℕ} (v : Value (choice a b)) → Here (choice a b) s p q v → (tagAt s p ≡ 1 → ⊥) → First a b s p q v
+pub first : {a b : Format} {s : List ℕ} {p q : ℕ} (v : Value (choice a b)) → Here (choice a b) s p q v
+    → (tagAt s p ≡ 1 → ⊥) → First a b s p q v
 first (inl x) h t = record { value = x; is = refl; stands = branch (inl x) h .1 }
 first (inr y) h t = absurd (t (branch (inr y) h .0))
 
@@ -156,7 +171,8 @@ number-here h = record { written = h .written; fits = h .fits; forward = h .forw
 pub small-here : {k : ℕ} {s : List ℕ} {p q n : ℕ} → Here (small k) s p q n → Here (number 0 0) s p q n
 small-here h = record { written = h .written; fits = h .fits .0; forward = h .forward; within = h .within }
 
-pub signed-here : {lo hi : ℤ} {s : List ℕ} {p q : ℕ} {z : ℤ} → Here (signed lo hi) s p q z → Here (number 0 0) s p q (zig z)
+pub signed-here : {lo hi : ℤ} {s : List ℕ} {p q : ℕ} {z : ℤ} → Here (signed lo hi) s p q z
+    → Here (number 0 0) s p q (zig z)
 signed-here h = record { written = h .written; fits = h .fits; forward = h .forward; within = h .within }
 
 -- a text: its length, and its bytes from m up to q
@@ -165,7 +181,8 @@ pub record Text (s : List ℕ) (p q : ℕ) (v : List ℕ) (m : ℕ) : Type 0 whe
   pub bytes : slice m q s ≡ v
   pub size : m + length v ≡ q
 
-pub text-here : {l : ℕ} {c : Class} {s : List ℕ} {p q : ℕ} {v : List ℕ} → Here (text l c) s p q v → (m : ℕ) × Text s p q v m
+pub text-here : {l : ℕ} {c : Class} {s : List ℕ} {p q : ℕ} {v : List ℕ} → Here (text l c) s p q v
+    → (m : ℕ) × Text s p q v m
 text-here {l} {c} {s} {p} {q} {v} h =
     let n = p + length (write (number 0 0) (length v)) in
     let m = meet s p q (write (number 0 0) (length v)) v (h .written) (h .forward) (h .within) in (

@@ -16,7 +16,8 @@ use Rattle.formats_read.specs.promises.Reads.{ReadsNumber}
 use Rattle.formats_read.specs.laws.Walk.{Walk, begin, onward, ended}
 
 -- the output went from l and r to m and k: g is what is added for a value
-abbrev pub Progress : (f : Format) (g : Value f → List ℕ) (s : List ℕ) (a n p left : ℕ) (l : List ℕ) (r : Put) (m : List ℕ) (k : Put) → Type 0
+abbrev pub Progress : (f : Format) (g : Value f → List ℕ) (s : List ℕ) (a n p left : ℕ) (l : List ℕ) (r : Put)
+    (m : List ℕ) (k : Put) → Type 0
 Progress f g s a n p left l r m k = Walk f s a n p left (λ us. Adds l r m k (manyW g us))
 
 pub one-more : {A : Type 0} (g : A → List ℕ) (us : List A) (v : A) → manyW g us ++ g v ≡ manyW g (us ++ (v ∷ []))
@@ -26,11 +27,14 @@ module _ {f : Format} {g : Value f → List ℕ} {s : List ℕ} {a n : ℕ} {l :
   pub start : Progress f g s a n a n l r l r
   start = begin none
 
-  pub step : {p left : ℕ} {m : List ℕ} {k : Put} {m′ : List ℕ} {k′ : Put} (e : ℕ) → Progress f g s a n p left l r m k → 0 < left
-      → ((v : Value f) (q : ℕ) → Here f s p q v → e ≡ q) → ((v : Value f) → Here f s p e v → Adds m k m′ k′ (g v)) → Progress f g s a n e (left - 1) l r m′ k′
+  pub step : {p left : ℕ} {m : List ℕ} {k : Put} {m′ : List ℕ} {k′ : Put} (e : ℕ) → Progress f g s a n p left l r m k
+      → 0 < left
+      → ((v : Value f) (q : ℕ) → Here f s p q v → e ≡ q) → ((v : Value f) → Here f s p e v → Adds m k m′ k′ (g v))
+      → Progress f g s a n e (left - 1) l r m′ k′
   step e W z ends adds = onward W e z ends (λ us v d h. same (then d (adds v h)) (one-more g us v))
 
-  pub stop : {p left : ℕ} {m : List ℕ} {k : Put} → Progress f g s a n p left l r m k → left ≤ 0 → (vs : List (Value f)) (q : ℕ) → length vs ≡ n → Many f s a q vs → Adds l r m k (manyW g vs)
+  pub stop : {p left : ℕ} {m : List ℕ} {k : Put} → Progress f g s a n p left l r m k → left ≤ 0
+      → (vs : List (Value f)) (q : ℕ) → length vs ≡ n → Many f s a q vs → Adds l r m k (manyW g vs)
   stop W = ended W
 
 -- a list whose values are changed one by one
@@ -38,11 +42,15 @@ map-many : {A B : Type 0} (w : B → List ℕ) (h : A → B) (vs : List A) → m
 map-many w h [] = refl
 map-many w h (v ∷ vs) = ap (λ l. w (h v) ++ l) (map-many w h vs)
 
-pub list-mapped : {f : Format} {s : List ℕ} {p q n e : ℕ} {vs : List (Value f)} {l m o : List ℕ} {r k j : Put} (c : ℕ) (w : Value f → Value f) → Here (list c f) s p q vs → ReadsNumber s p n e
-    → Adds l r m k (numberW n) → ((us : List (Value f)) (q : ℕ) → length us ≡ n → Many f s e q us → Adds m k o j (manyW (λ v. write f (w v)) us))
+pub list-mapped : {f : Format} {s : List ℕ} {p q n e : ℕ} {vs : List (Value f)} {l m o : List ℕ} {r k j : Put} (c : ℕ)
+    (w : Value f → Value f) → Here (list c f) s p q vs → ReadsNumber s p n e
+    → Adds l r m k (numberW n)
+    → ((us : List (Value f)) (q : ℕ) → length us ≡ n → Many f s e q us
+    → Adds m k o j (manyW (λ v. write f (w v)) us))
     → Adds l r o j (write (list c f) (map w vs))
 list-mapped {f} {q} {vs} c w h N a b =
     let x = listed h .1 in
     let n = N .value (x .count) in
     let y = N .next (x .count) in
-    same (then (same a (ap numberW n)) (b vs q (sym n) (rw y (x .values)))) (rw (map-many (write f) w vs, length-map vs w) refl)
+    same (then (same a (ap numberW n)) (b vs q (sym n) (rw y (x .values))))
+    (rw (map-many (write f) w vs, length-map vs w) refl)

@@ -2,7 +2,8 @@
 -- holds, and the record with it changed.
 use mathlib.Core.List.{List}
 use Prim.Native.Nat.{ℕ, zero, suc}
-use Rattle.formats.specs.Format.{Format, never, empty, number, signed, small, text, float, constant, list, choice, _&_, Value}
+use Rattle.formats.specs.Format.{Format, never, empty, number, signed, small, text, float, constant, list, choice, _&_}
+use Rattle.formats.specs.Format.{Value}
 use Rattle.formats.specs.promises.Outcome.{skipTo}
 use Rattle.formats.specs.declared.Skip.{Skip}
 use Rattle.formats.specs.declared.Skip.the-variants.{At, Broken}

@@ -19,13 +19,16 @@ pub record Here (f : Format) (s : List ℕ) (p q : ℕ) (v : Value f) : Type 0 w
   pub within : q ≤ length s
 
 -- a value that is read at p stands there
-pub here : (f : Format) (s : List ℕ) (p : ℕ) (v : Value f) (t : List ℕ) → p ≤ length s → read f (drop p s) ≡ some (v, t) → Here f s p (length s - length t) v
+pub here : (f : Format) (s : List ℕ) (p : ℕ) (v : Value f) (t : List ℕ) → p ≤ length s
+    → read f (drop p s) ≡ some (v, t) → Here f s p (length s - length t) v
 here f s p v t h e =
     let b = law f .back (drop p s) v t e in
-    let n : length s - p ≡ length (write f v) + length t = sym (length-drop p s) ∙ ap length (b .0) ∙ length-append (write f v) t in
+    let n : length s - p ≡ length (write f v) + length t =
+    sym (length-drop p s) ∙ ap length (b .0) ∙ length-append (write f v) t in
     let k : length s - length t - p ≡ length (write f v) = omega arith in
     record {
-      written = sym (slice-is p (length s - length t) s (omega arith) (omega arith)) ∙ rw (k, b .0) (take-append-seam (write f v) t);
+      written = sym (slice-is p (length s - length t) s (omega arith) (omega arith))
+          ∙ rw (k, b .0) (take-append-seam (write f v) t);
       fits = b .1;
       forward = omega arith;
       within = omega arith;

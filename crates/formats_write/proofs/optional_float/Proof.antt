@@ -17,6 +17,9 @@ optional-float-spec =
     (λ c κs. search needs)
     (λ c κs. search needs)
     (λ c. search needs)
-    (λ c. Laws.absent-is (littleW 8) (ap givenNumber (c .before .before .before .before .enum-told .given .1)) (c .before .before .byte .ensures))
+    (λ c. Laws.absent-is (littleW 8) (ap givenNumber (c .before .before .before .before .enum-told .given .1))
+    (c .before .before .byte .ensures))
     (λ c. search needs)
-    (λ c. Laws.present-is (littleW 8) _ (ap givenNumber (c .before .before .before .before .before .before .before .before .before .v .given .1)) (c .before .before .before .before .before .before .byte2 .ensures) (c .before .before .float .ensures)))
+    (λ c. Laws.present-is (littleW 8) _
+    (ap givenNumber (c .before .before .before .before .before .before .before .before .before .v .given .1))
+    (c .before .before .before .before .before .before .byte2 .ensures) (c .before .before .float .ensures)))

@@ -22,6 +22,12 @@ optional-signed-spec =
     (λ c κs. search needs)
     (λ c κs. search needs)
     (λ c. search needs)
-    (λ c. Laws.absent-is (λ z. numberW (zig z)) (ap givenSigned (c .before .before .before .before .enum-told .given .1)) (c .before .before .byte .ensures))
+    (λ c. Laws.absent-is (λ z. numberW (zig z))
+    (ap givenSigned (c .before .before .before .before .enum-told .given .1)) (c .before .before .byte .ensures))
     (λ c. search needs)
-    (λ c. let f : SFits w64 (c .before .before .before .before .before .before .before .before .before .v .given .0 .0) = search needs in Laws.present-is (λ z. numberW (zig z)) _ (ap givenSigned (c .before .before .before .before .before .before .before .before .before .v .given .1)) (c .before .before .before .before .before .before .byte2 .ensures) (same (c .before .before .signed .ensures) (ap (λ z. numberW (zig z)) (toZ-ofZ f)))))
+    (λ c. let f : SFits w64
+    (c .before .before .before .before .before .before .before .before .before .v .given .0 .0) = search needs in
+    Laws.present-is (λ z. numberW (zig z)) _
+    (ap givenSigned (c .before .before .before .before .before .before .before .before .before .v .given .1))
+    (c .before .before .before .before .before .before .byte2 .ensures)
+    (same (c .before .before .signed .ensures) (ap (λ z. numberW (zig z)) (toZ-ofZ f)))))

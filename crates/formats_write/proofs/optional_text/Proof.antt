@@ -16,6 +16,11 @@ optional-text-spec =
     (λ c κs. search needs)
     (λ c κs. search needs)
     (λ c. search needs)
-    (λ c. λ h. Laws.absent-is textW (ap (givenText (c .before .before .before .before .before .before .before .before .args .s .now)) (c .before .before .before .before .enum-told .given .1)) (c .before .before .byte .ensures))
+    (λ c. λ h. Laws.absent-is textW
+    (ap (givenText (c .before .before .before .before .before .before .before .before .args .s .now))
+    (c .before .before .before .before .enum-told .given .1)) (c .before .before .byte .ensures))
     (λ c. search needs)
-    (λ c. λ h. Laws.present-text (c .before .before .before .before .before .before .before .before .before .before .before .before .before .args .s .now) _ (c .before .before .before .before .before .before .before .before .before .v .given .1) h (c .before .before .before .before .before .before .byte2 .ensures) (c .before .before .text .ensures)))
+    (λ c. λ h. Laws.present-text
+    (c .before .before .before .before .before .before .before .before .before .before .before .before .before
+    .args .s .now) _ (c .before .before .before .before .before .before .before .before .before .v .given .1) h
+    (c .before .before .before .before .before .before .byte2 .ensures) (c .before .before .text .ensures)))

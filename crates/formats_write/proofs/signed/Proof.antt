@@ -12,4 +12,6 @@ signed-spec = tie.close (tie.spec
     (λ c κs. search needs)
     (λ c κs. search needs)
     (λ c. search needs)
-    (λ c. Laws.as-number _ _ (c .before .before .number .ensures) (c .before .before .before .to-zigzag .ensures ∙ ap zig (toZ-ofZ (c .before .before .before .before .before .before .fits .z)))))
+    (λ c. Laws.as-number _ _ (c .before .before .number .ensures)
+    (c .before .before .before .to-zigzag .ensures
+    ∙ ap zig (toZ-ofZ (c .before .before .before .before .before .before .fits .z)))))

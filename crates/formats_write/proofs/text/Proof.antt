@@ -11,4 +11,8 @@ text-spec = tie.close (tie.spec
     (λ c κs. search needs)
     (λ c κs. search needs)
     (λ c. search needs)
-    (λ c. λ h k. Laws.text-is (c .before .before .before .before .before .before .before .before .before .before .before .args .s .now) (c .before .before .before .before .before .before .before .before .before .before .before .args .from) (c .before .before .before .before .before .before .before .before .before .before .before .args .to) h k (c .before .before .before .before .before .before .number .ensures) (c .before .before .stretch .ensures)))
+    (λ c. λ h k. Laws.text-is
+    (c .before .before .before .before .before .before .before .before .before .before .before .args .s .now)
+    (c .before .before .before .before .before .before .before .before .before .before .before .args .from)
+    (c .before .before .before .before .before .before .before .before .before .before .before .args .to) h k
+    (c .before .before .before .before .before .before .number .ensures) (c .before .before .stretch .ensures)))

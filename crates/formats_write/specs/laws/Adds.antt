@@ -48,7 +48,8 @@ module _ {l m n : List ℕ} {r q o : Put} {x y : List ℕ} (f : Adds l r m q x) 
         let k : p + length x ≤ length l = omega (arith, both) in
         let i : p + length x + length y ≤ length m = omega (arith, both, f .size) in
         let j : m ≡ sets l p x = f .holds p e k ∙ sym (sets-eq x l p k) in
-        g .holds (p + length x) (past k .0) i ∙ sym (sets-eq y m (p + length x) i) ∙ ap (λ m. sets m (p + length x) y) j ∙ sets-append x y l p ∙ sets-eq (x ++ y) l p h
+        g .holds (p + length x) (past k .0) i ∙ sym (sets-eq y m (p + length x) i)
+        ∙ ap (λ m. sets m (p + length x) y) j ∙ sets-append x y l p ∙ sets-eq (x ++ y) l p h
 
     then-over : p ≤ length l → length l < p + length (x ++ y) → o ≡ Full
     then-over h k = go (leb (p + length x) (length l)) refl
@@ -69,7 +70,8 @@ pub wrote : {l m : List ℕ} {q : Put} {x : List ℕ} → Adds l (At 0) m q x �
 wrote {l} {m} {q} {x} a = record {
   size = a .size;
   next = λ h. let z : length x ≡ 0 + length x = omega arith in rw z (a .next 0 refl (omega arith));
-  holds = λ h. let z : 0 + length x ≡ length x = omega arith in a .holds 0 refl (omega arith) ∙ ap (λ k. x ++ drop k l) z;
+  holds = λ h. let z : 0 + length x ≡ length x = omega arith in
+      a .holds 0 refl (omega arith) ∙ ap (λ k. x ++ drop k l) z;
   full = λ h. a .over 0 refl (omega arith) (omega arith);
 }
 
@@ -79,6 +81,7 @@ drop-zeros (suc k) zero = let e : 0 - suc k ≡ 0 = omega arith in rw e refl
 drop-zeros (suc k) (suc n) = let e : suc n - suc k ≡ n - k = omega arith in rw e (drop-zeros k n)
 
 -- into an output that was cleared: the whole and then zeros
-pub onto-zeros : {n : ℕ} {m : List ℕ} {q : Put} {x : List ℕ} → Wrote (replicate n 0) m q x → length x ≤ n → m ≡ x ++ replicate (n - length x) 0
+pub onto-zeros : {n : ℕ} {m : List ℕ} {q : Put} {x : List ℕ} → Wrote (replicate n 0) m q x → length x ≤ n
+    → m ≡ x ++ replicate (n - length x) 0
 onto-zeros {n} {m} {q} {x} w h =
     w .holds (omega (arith, length-replicate {A = ℕ} n 0)) ∙ ap (λ l. x ++ l) (drop-zeros (length x) n)

@@ -13,4 +13,6 @@ difference-spec =
     (λ c. search needs)
     (λ c. omega arith)
     (λ c κs. search needs)
-    (λ c. Laws.difference-is (c .before .before .before .fits .t) (c .before .before .before .fits .u) (record { sfits = c .signed .ok }) (c .before .before .low .ensures .0) (c .before .low2 .ensures .0) (c .signed .ensures)))
+    (λ c. Laws.difference-is (c .before .before .before .fits .t) (c .before .before .before .fits .u)
+    (record { sfits = c .signed .ok }) (c .before .before .low .ensures .0) (c .before .low2 .ensures .0)
+    (c .signed .ensures)))

@@ -16,8 +16,10 @@ use Rattle.overlay.specs.State.{State, overlay}
 use Rattle.overlay.specs.Records.{Feeds, shown}
 use Rattle.basics.specs.laws.Booleans.{both-true}
 use Rattle.overlay.specs.laws.Within.{both, all-true, few, counted, judges, unjudged}
-use Rattle.journey.specs.Card.{middle, transit, leg, card, cardOf, transitOf, middleOf, cardValue, transitValue, middleValue}
-use Rattle.journey.specs.Enrich.{trip-rt, enrichMiddle, enrichTransit, enrichLeg, transits, headers-of, enrich-with-realtime}
+use Rattle.journey.specs.Card.{middle, transit, leg, card, cardOf, transitOf, middleOf, cardValue, transitValue}
+use Rattle.journey.specs.Card.{middleValue}
+use Rattle.journey.specs.Enrich.{trip-rt, enrichMiddle, enrichTransit, enrichLeg, transits, headers-of}
+use Rattle.journey.specs.Enrich.{enrich-with-realtime}
 use Rattle.journey.specs.laws.Headers.{map-length, headers-few}
 
 -- a value within question 7
@@ -53,11 +55,17 @@ module _ (B : Feeds) where
   transit-seven t w =
       let ms = transitOf t .middles in
       let stops : Seven (list 64 middle) ms =
-      first (rest (rest (rest (rest (rest (rest (rest (rest (rest (rest (rest (rest (rest (rest (rest (rest (rest (rest (rest w))))))))))))))))))) in
+      first (rest
+      (rest (rest
+      (rest (rest
+      (rest (rest (rest (rest (rest (rest (rest (rest (rest (rest (rest (rest (rest (rest w))))))))))))))))))) in
       let n = few 64 middle ms (stops .yes) in
       let g : Value middle → Value middle = λ m. middleValue (enrichMiddle (trip-rt B (transitOf t)) (middleOf m)) in
-      behind refl (behind refl (behind refl (behind refl (behind refl (behind refl (behind refl (behind refl (behind refl (behind refl
-      (behind refl (behind refl (behind refl (behind refl (behind refl (behind refl (behind refl (behind refl (behind refl
+      behind refl
+      (behind refl
+      (behind refl (behind refl (behind refl (behind refl (behind refl (behind refl (behind refl (behind refl
+      (behind refl
+      (behind refl (behind refl (behind refl (behind refl (behind refl (behind refl (behind refl (behind refl
       (joined (listed 64 middle refl _ (omega (arith, map-length g ms, n))) (plain refl))))))))))))))))))))
 
   leg-seven : (x : Value leg) → ok 7 leg x ≡ true → ok 7 leg (enrichLeg B x) ≡ true
@@ -66,10 +74,12 @@ module _ (B : Feeds) where
 
   legs-seven : (l : List (Value leg)) → all (ok 7 leg) l ≡ true → all (ok 7 leg) (map (enrichLeg B) l) ≡ true
   legs-seven [] e = refl
-  legs-seven (x ∷ l) e = let q = both-true (ok 7 leg x) (all (ok 7 leg) l) e in both (leg-seven x (q .0)) (legs-seven l (q .1))
+  legs-seven (x ∷ l) e = let q = both-true (ok 7 leg x) (all (ok 7 leg) l) e in
+      both (leg-seven x (q .0)) (legs-seven l (q .1))
 
 -- A FINISHED CARD IS WITHIN QUESTION 7 where the arriving card and the state are
-pub finished-seven : (s : State) → ok 7 overlay s ≡ true → (v : Value card) → ok 7 card v ≡ true → ok 7 card (cardValue (enrich-with-realtime (shown s) (cardOf v))) ≡ true
+pub finished-seven : (s : State) → ok 7 overlay s ≡ true → (v : Value card) → ok 7 card v ≡ true
+    → ok 7 card (cardValue (enrich-with-realtime (shown s) (cardOf v))) ≡ true
 unfolding enrich-with-realtime
 finished-seven s h v e =
     let w : Seven card v = record { yes = e } in
@@ -78,8 +88,16 @@ finished-seven s h v e =
     let n = few 16 leg legs (ls .yes) in
     let B = shown s in
     let new : Seven (list 16 leg) (map (enrichLeg B) legs) =
-    record { yes = both (le-leb (length (map (enrichLeg B) legs)) 16 (omega (arith, map-length (enrichLeg B) legs, n))) (legs-seven B legs (counted 16 leg legs (ls .yes))) } in
+    record {
+      yes =
+          both (le-leb (length (map (enrichLeg B) legs)) 16 (omega (arith, map-length (enrichLeg B) legs, n)))
+          (legs-seven B legs (counted 16 leg legs (ls .yes)));
+    } in
     let hs = headers-of B (transits legs) in
     let done : Seven card (cardValue (enrich-with-realtime B (cardOf v))) =
-    behind refl (behind refl (behind refl (behind refl (behind refl (joined (listed 1024 (text 512 utf8) refl hs (headers-few s h (transits legs))) new))))) in
+    behind refl
+    (behind refl
+    (behind refl
+    (behind refl
+    (behind refl (joined (listed 1024 (text 512 utf8) refl hs (headers-few s h (transits legs))) new))))) in
     done .yes

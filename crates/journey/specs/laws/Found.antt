@@ -22,7 +22,9 @@ use Rattle.overlay.specs.laws.Within.{Judged56, right, elements}
 use Rattle.overlay.specs.laws.EveryEntry.{each-map, get-each}
 use Rattle.decode.specs.laws.Fine.{Given}
 use Rattle.overlay.specs.laws.StaysValid.{TripKept, FeedKept, StateKept}
-use Rattle.overlay.specs.Lookup.{firstThat, valueOf, Found, inFeed, feed-of, trip-at, get-trip, find-trip-by-descriptor, resolve-trip-rt, stop-update-by-stop-id, find-stop-update, vehicle-for-trip, get-vehicle-for-trip}
+use Rattle.overlay.specs.Lookup.{firstThat, valueOf, Found, inFeed, feed-of, trip-at, get-trip, find-trip-by-descriptor}
+use Rattle.overlay.specs.Lookup.{resolve-trip-rt, stop-update-by-stop-id, find-stop-update, vehicle-for-trip}
+use Rattle.overlay.specs.Lookup.{get-vehicle-for-trip}
 
 -- feeds within questions 5 and 6
 pub record RecordsJudged (R : Records) : Type 0 where
@@ -53,12 +55,14 @@ or-gives : {A : Type 0} {P : A → Type 0} (a b : Option A) → Gives P a → Gi
 or-gives none b x y = y
 or-gives (some a) b x y = record { is = x .is }
 
-then-gives : {A B : Type 0} {Q : A → Type 0} {P : B → Type 0} (a : Option A) (k : A → Option B) → Given Q a → ((x : A) → Q x → Gives P (k x)) → Gives P (bindO a k)
+then-gives : {A B : Type 0} {Q : A → Type 0} {P : B → Type 0} (a : Option A) (k : A → Option B) → Given Q a
+    → ((x : A) → Q x → Gives P (k x)) → Gives P (bindO a k)
 then-gives none k x h = record { is = tt }
 then-gives (some a) k x h = record { is = h a x .is }
 
 -- the value of the first entry that passes a test
-first-gives : {K A : Type 0} {P : K × A → Type 0} {Q : A → Type 0} → ((e : K × A) → P e → Q (e .1)) → (p : K × A → Bool) (l : List (K × A)) → All P l → Gives Q (valueOf (firstThat p l))
+first-gives : {K A : Type 0} {P : K × A → Type 0} {Q : A → Type 0} → ((e : K × A) → P e → Q (e .1))
+    → (p : K × A → Bool) (l : List (K × A)) → All P l → Gives Q (valueOf (firstThat p l))
 unfolding firstThat
 first-gives g p [] h = record { is = tt }
 first-gives {Q = Q} g p (a ∷ l) h = go (p a) (first-gives g p l (h .1))
@@ -67,7 +71,8 @@ first-gives {Q = Q} g p (a ∷ l) h = go (p a) (first-gives g p l (h .1))
     go true x = record { is = g a (h .0) }
     go false x = x
 
-get-gives : {K A : Type 0} {O : Ordered K} (W : Lawful O) {P : K × A → Type 0} {Q : A → Type 0} → ((e : K × A) → P e → Q (e .1)) → (k : K) (m : List (K × A)) → All P m → Gives Q (get O k m)
+get-gives : {K A : Type 0} {O : Ordered K} (W : Lawful O) {P : K × A → Type 0} {Q : A → Type 0}
+    → ((e : K × A) → P e → Q (e .1)) → (k : K) (m : List (K × A)) → All P m → Gives Q (get O k m)
 get-gives {K} {A} {O} W {P} {Q} g k m h = go (get O k m) refl
   where
     go : (o : Option A) → get O k m ≡ o → Gives Q o
@@ -96,23 +101,29 @@ module _ (f : List ℕ) (ts : Trips) (h : All (Judged56 tripEntry) ts) where
       go none = record { is = tt }
       go (some p) = record { is = at-gives (p .0) .is }
 
-  descriptor-gives : (route : List ℕ) (direction : Maybe ℕ) (date : List ℕ) → Gives (Judged56 trip) (find-trip-by-descriptor f route direction date ts)
+  descriptor-gives : (route : List ℕ) (direction : Maybe ℕ) (date : List ℕ)
+      → Gives (Judged56 trip) (find-trip-by-descriptor f route direction date ts)
   unfolding find-trip-by-descriptor
   descriptor-gives route direction date = first-gives {P = Judged56 tripEntry} (λ e x. right x) _ ts h
 
-pub resolve-gives : (B : Feeds) → FeedsJudged B → (t route : List ℕ) (direction : Maybe ℕ) (date : List ℕ) → Gives FoundJudged (resolve-trip-rt B t route direction date)
+pub resolve-gives : (B : Feeds) → FeedsJudged B → (t route : List ℕ) (direction : Maybe ℕ) (date : List ℕ)
+    → Gives FoundJudged (resolve-trip-rt B t route direction date)
 unfolding resolve-trip-rt
 resolve-gives B h t route direction date =
     or-gives _ _
-    (then-gives {Q = RecordsJudged} (B (feed-of t)) _ (h (feed-of t)) (λ R x. found-gives (feed-of t) _ (get-trip-gives (feed-of t) (R .trips) (x .trips) t)))
+    (then-gives {Q = RecordsJudged} (B (feed-of t)) _ (h (feed-of t))
+    (λ R x. found-gives (feed-of t) _ (get-trip-gives (feed-of t) (R .trips) (x .trips) t)))
     (go (isEmpty route))
   where
     g : List ℕ
     g = feed-of route
 
-    go : (b : Bool) → Gives FoundJudged (cond b none (bindO (B g) (λ R. inFeed g (find-trip-by-descriptor g route direction date (R .trips)))))
+    go : (b : Bool) → Gives FoundJudged
+        (cond b none (bindO (B g) (λ R. inFeed g (find-trip-by-descriptor g route direction date (R .trips)))))
     go true = record { is = tt }
-    go false = then-gives {Q = RecordsJudged} (B g) _ (h g) (λ R x. found-gives g _ (descriptor-gives g (R .trips) (x .trips) route direction date))
+    go false =
+        then-gives {Q = RecordsJudged} (B g) _ (h g)
+        (λ R x. found-gives g _ (descriptor-gives g (R .trips) (x .trips) route direction date))
 
 module _ (f stop : List ℕ) (t : Trip) (j : Judged56 trip t) where
   updates : All (Judged56 (number32 & stopUpdate)) (updatesOf t)
@@ -125,10 +136,13 @@ module _ (f stop : List ℕ) (t : Trip) (j : Judged56 trip t) where
   pub update-gives : (sequence : Maybe ℕ) → Gives (Judged56 stopUpdate) (find-stop-update f sequence stop t)
   unfolding find-stop-update
   update-gives (inl x) = by-stop
-  update-gives (inr n) = or-gives _ _ (get-gives numbers-order {P = Judged56 (number32 & stopUpdate)} (λ e x. right x) n (updatesOf t) updates) by-stop
+  update-gives (inr n) =
+      or-gives _ _
+      (get-gives numbers-order {P = Judged56 (number32 & stopUpdate)} (λ e x. right x) n (updatesOf t) updates) by-stop
 
 pub vehicle-gives : (B : Feeds) → FeedsJudged B → (t : List ℕ) → Gives (Judged56 vehicle) (get-vehicle-for-trip B t)
 unfolding get-vehicle-for-trip vehicle-for-trip
 vehicle-gives B h t =
     then-gives {Q = RecordsJudged} (B (feed-of t)) _ (h (feed-of t)) (λ R x.
-    or-gives _ _ (first-gives {P = Judged56 vehicleEntry} (λ e y. right y) _ (R .vehicles) (x .vehicles)) (get-gives texts-order {P = Judged56 vehicleEntry} (λ e y. right y) t (R .vehicles) (x .vehicles)))
+    or-gives _ _ (first-gives {P = Judged56 vehicleEntry} (λ e y. right y) _ (R .vehicles) (x .vehicles))
+    (get-gives texts-order {P = Judged56 vehicleEntry} (λ e y. right y) t (R .vehicles) (x .vehicles)))

@@ -24,7 +24,8 @@ use Rattle.overlay.specs.Lookup.{feed-of}
 use Rattle.overlay.specs.laws.Shown.{same-lex}
 use Rattle.journey.specs.Card.{Transit, Card}
 use Rattle.journey.specs.laws.Headers.{Entry, entry, set}
-use Rattle.journey.specs.Enrich.{alertsIn, applies, alerts-of, transits, keys, labels-of, headers-of, enrich-with-realtime}
+use Rattle.journey.specs.Enrich.{alertsIn, applies, alerts-of, transits, keys, labels-of, headers-of}
+use Rattle.journey.specs.Enrich.{enrich-with-realtime}
 
 -- ---- tests over lists
 

@@ -98,7 +98,8 @@ table =
     (alert (inl tt) (inl tt) (inr (letters 65)) [])) yesNo
     ∷ row (asked 5 alerts.alert (headed (0xc3 ∷ 0xa9 ∷ [])) (headed (0xc3 ∷ []))) yesNo
     ∷ row (asked 5 alerts.alert (headed (0xed ∷ 0x9f ∷ 0xbf ∷ [])) (headed (0xed ∷ 0xa0 ∷ 0x80 ∷ []))) yesNo
-    ∷ row (asked 5 alerts.alert (headed (0xf4 ∷ 0x8f ∷ 0xbf ∷ 0xbf ∷ [])) (headed (0xf4 ∷ 0x90 ∷ 0x80 ∷ 0x80 ∷ []))) yesNo
+    ∷ row (asked 5 alerts.alert (headed (0xf4 ∷ 0x8f ∷ 0xbf ∷ 0xbf ∷ [])) (headed (0xf4 ∷ 0x90 ∷ 0x80 ∷ 0x80 ∷ [])))
+    yesNo
     -- "Payload at most 2,048, of any bytes?"
     ∷ row (asked 5 payload (replicate 2048 255) (replicate 2049 255)) yesNo
     -- "Scheduled 946,684,800 to 2,145,916,799"
@@ -141,6 +142,8 @@ pub worked : Holds table
 unfolding table
 worked =
     refl also refl also refl also refl also refl also refl also refl also refl also refl also refl also refl also refl
-    also refl also refl also refl also refl also refl also refl also refl also refl also refl also refl also refl also refl
-    also refl also refl also refl also refl also refl also refl also refl also refl also refl also refl also refl also refl
+    also refl also refl also refl also refl also refl also refl also refl also refl also refl also refl also refl also
+    refl
+    also refl also refl also refl also refl also refl also refl also refl also refl also refl also refl also refl also
+    refl
     also refl also refl also refl also refl also refl also tt

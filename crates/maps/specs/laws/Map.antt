@@ -60,7 +60,8 @@ pub record Lawful {K : Type 0} (O : Ordered K) : Type 0 where
 
 module _ {K : Type 0} {O : Ordered K} (W : Lawful O) {A : Type 0} where
   -- WHAT IS GOT AFTER A PUT
-  pub get-put : (j k : K) (v : A) (m : List (K × A)) → get O j (put O k v m) ≡ byOrder (O .compare j k) (get O j m) (some v) (get O j m)
+  pub get-put : (j k : K) (v : A) (m : List (K × A))
+      → get O j (put O k v m) ≡ byOrder (O .compare j k) (get O j m) (some v) (get O j m)
   get-put j k v [] = refl
   get-put j k v (e ∷ m) = go (O .compare k (e .0)) refl (get-put j k v m)
     where
@@ -73,13 +74,16 @@ module _ {K : Type 0} {O : Ordered K} (W : Lawful O) {A : Type 0} where
       same More = refl
 
       more : (p : Order) → O .compare j (e .0) ≡ p → O .compare k (e .0) ≡ More
-          → byOrder p (byOrder (O .compare j k) (get O j m) (some v) (get O j m)) (some (e .1)) (byOrder (O .compare j k) (get O j m) (some v) (get O j m))
+          → byOrder p (byOrder (O .compare j k) (get O j m) (some v) (get O j m)) (some (e .1))
+          (byOrder (O .compare j k) (get O j m) (some v) (get O j m))
           ≡ byOrder (O .compare j k) (rest p) (some v) (rest p)
       more Less q h = refl
-      more Same q h = let f : O .compare j k ≡ Less = ap (λ i. O .compare i k) (W .same j (e .0) q) ∙ W .less k (e .0) h in rw f
+      more Same q h = let f : O .compare j k ≡ Less =
+          ap (λ i. O .compare i k) (W .same j (e .0) q) ∙ W .less k (e .0) h in rw f
       more More q h = refl
 
-      go : (o : Order) → O .compare k (e .0) ≡ o → get O j (put O k v m) ≡ byOrder (O .compare j k) (get O j m) (some v) (get O j m)
+      go : (o : Order) → O .compare k (e .0) ≡ o
+          → get O j (put O k v m) ≡ byOrder (O .compare j k) (get O j m) (some v) (get O j m)
           → get O j (byOrder o ((k, v) ∷ e ∷ m) ((k, v) ∷ m) (e ∷ put O k v m))
           ≡ byOrder (O .compare j k) (get O j (e ∷ m)) (some v) (get O j (e ∷ m))
       go Less h i = refl
@@ -93,14 +97,16 @@ module _ {K : Type 0} {O : Ordered K} (W : Lawful O) {A : Type 0} where
       let b = both-true (isLess (O .compare k (e .0))) (above O (e .0) m) h in
       rw (W .through j k (e .0) l (is-less (O .compare k (e .0)) (b .0))) (b .1)
 
-  above-put : (j k : K) (v : A) (m : List (K × A)) → O .compare j k ≡ Less → above O j m ≡ true → above O j (put O k v m) ≡ true
+  above-put : (j k : K) (v : A) (m : List (K × A)) → O .compare j k ≡ Less → above O j m ≡ true
+      → above O j (put O k v m) ≡ true
   above-put j k v [] l h = rw l
   above-put j k v (e ∷ m) l h = go (O .compare k (e .0)) refl (above-put (e .0) k v m)
     where
       b : (isLess (O .compare j (e .0)) ≡ true) × (above O (e .0) m ≡ true)
       b = both-true (isLess (O .compare j (e .0))) (above O (e .0) m) h
 
-      go : (o : Order) → O .compare k (e .0) ≡ o → (O .compare (e .0) k ≡ Less → above O (e .0) m ≡ true → above O (e .0) (put O k v m) ≡ true)
+      go : (o : Order) → O .compare k (e .0) ≡ o
+          → (O .compare (e .0) k ≡ Less → above O (e .0) m ≡ true → above O (e .0) (put O k v m) ≡ true)
           → above O j (byOrder o ((k, v) ∷ e ∷ m) ((k, v) ∷ m) (e ∷ put O k v m)) ≡ true
       go Less p i = rw (l, p) (b .1)
       go Same p i = rw (l, W .same k (e .0) p) (b .1)
@@ -110,7 +116,8 @@ module _ {K : Type 0} {O : Ordered K} (W : Lawful O) {A : Type 0} where
   put-ascending k v [] h = refl
   put-ascending k v (e ∷ m) h = go (O .compare k (e .0)) refl
     where
-      go : (o : Order) → O .compare k (e .0) ≡ o → ascending O (byOrder o ((k, v) ∷ e ∷ m) ((k, v) ∷ m) (e ∷ put O k v m)) ≡ true
+      go : (o : Order) → O .compare k (e .0) ≡ o
+          → ascending O (byOrder o ((k, v) ∷ e ∷ m) ((k, v) ∷ m) (e ∷ put O k v m)) ≡ true
       go Less p = rw p h
       go Same p = rw (W .same k (e .0) p) h
       go More p = above-put (e .0) k v m (W .less k (e .0) p) h
@@ -139,7 +146,8 @@ module _ {K : Type 0} {O : Ordered K} (W : Lawful O) {A : Type 0} where
   same-rest e d m n g h s f k = go (O .compare k (e .0)) refl (ap (O .compare k) (sym s)) (f k)
     where
       go : (o : Order) → O .compare k (e .0) ≡ o → O .compare k (d .0) ≡ O .compare k (e .0)
-          → byOrder (O .compare k (e .0)) (get O k m) (some (e .1)) (get O k m) ≡ byOrder (O .compare k (d .0)) (get O k n) (some (d .1)) (get O k n)
+          → byOrder (O .compare k (e .0)) (get O k m) (some (e .1)) (get O k m) ≡
+          byOrder (O .compare k (d .0)) (get O k n) (some (d .1)) (get O k n)
           → get O k m ≡ get O k n
       go Less p q r = rw (q, p) at r
       go Same p q r =
@@ -147,7 +155,8 @@ module _ {K : Type 0} {O : Ordered K} (W : Lawful O) {A : Type 0} where
       go More p q r = rw (q, p) at r
 
   -- TWO MAPS ARE EQUAL where the same is got at every key
-  pub equal-maps : (m n : List (K × A)) → ascending O m ≡ true → ascending O n ≡ true → ((k : K) → get O k m ≡ get O k n) → m ≡ n
+  pub equal-maps : (m n : List (K × A)) → ascending O m ≡ true → ascending O n ≡ true
+      → ((k : K) → get O k m ≡ get O k n) → m ≡ n
   equal-maps [] [] g h f = refl
   equal-maps [] (d ∷ n) g h f = none-some (f (d .0) ∙ get-first d n)
   equal-maps (e ∷ m) [] g h f = none-some (sym (f (e .0)) ∙ get-first e m)
@@ -161,15 +170,19 @@ module _ {K : Type 0} {O : Ordered K} (W : Lawful O) {A : Type 0} where
           let v : e .1 ≡ d .1 = unsome (sym (get-first e m) ∙ f (e .0) ∙ ap (λ k. get O k (d ∷ n)) s ∙ get-first d n) in
           let r : m ≡ n = i (same-rest e d m n g h s f) in
           λ j. (s j, v j) ∷ r j
-      go More p i = none-some (sym (get-above (d .0) (e ∷ m) (rw (W .less (e .0) (d .0) p) g)) ∙ f (d .0) ∙ get-first d n)
+      go More p i =
+          none-some (sym (get-above (d .0) (e ∷ m) (rw (W .less (e .0) (d .0) p) g)) ∙ f (d .0) ∙ get-first d n)
 
   -- THE FINAL MAP, POINTWISE: at a key stands the value of the last entry that has it, or else the old one
   pub get-puts : (k : K) (l m : List (K × A)) → get O k (puts O l m) ≡ orElse (lastAt O k l) (get O k m)
   get-puts k [] m = refl
   get-puts k (e ∷ l) m =
-      get-puts k l (put O (e .0) (e .1) m) ∙ ap (orElse (lastAt O k l)) (get-put k (e .0) (e .1) m) ∙ go (lastAt O k l) (O .compare k (e .0))
+      get-puts k l (put O (e .0) (e .1) m) ∙ ap (orElse (lastAt O k l)) (get-put k (e .0) (e .1) m)
+      ∙ go (lastAt O k l) (O .compare k (e .0))
     where
-      go : (a : Option A) (o : Order) → orElse a (byOrder o (get O k m) (some (e .1)) (get O k m)) ≡ orElse (orElse a (byOrder o none (some (e .1)) none)) (get O k m)
+      go : (a : Option A) (o : Order)
+          → orElse a (byOrder o (get O k m) (some (e .1)) (get O k m)) ≡
+          orElse (orElse a (byOrder o none (some (e .1)) none)) (get O k m)
       go none Less = refl
       go none Same = refl
       go none More = refl
@@ -186,10 +199,12 @@ module _ {K : Type 0} {O : Ordered K} (W : Lawful O) {A : Type 0} where
   keeps-ascending [] m h = h
   keeps-ascending (e ∷ l) m h = keep-ascending (e .0) (e .1) (keeps O l m) (keeps-ascending l m h)
 
-  pub get-keep : (j k : K) (v : A) (m : List (K × A)) → get O j (keep O k v m) ≡ orElse (get O j m) (byOrder (O .compare j k) none (some v) none)
+  pub get-keep : (j k : K) (v : A) (m : List (K × A))
+      → get O j (keep O k v m) ≡ orElse (get O j m) (byOrder (O .compare j k) none (some v) none)
   get-keep j k v m = go (get O k m) refl (O .compare j k) refl
     where
-      go : (a : Option A) → get O k m ≡ a → (o : Order) → O .compare j k ≡ o → get O j (ifNone a (put O k v m) m) ≡ orElse (get O j m) (byOrder o none (some v) none)
+      go : (a : Option A) → get O k m ≡ a → (o : Order) → O .compare j k ≡ o
+          → get O j (ifNone a (put O k v m) m) ≡ orElse (get O j m) (byOrder o none (some v) none)
       go none p Less q = get-put j k v m ∙ rw q (sym (or-none (get O j m)))
       go none p Same q = get-put j k v m ∙ rw (q, W .same j k q, p)
       go none p More q = get-put j k v m ∙ rw q (sym (or-none (get O j m)))
@@ -201,28 +216,35 @@ module _ {K : Type 0} {O : Ordered K} (W : Lawful O) {A : Type 0} where
   get-keeps k [] m = sym (or-none (get O k m))
   get-keeps k (e ∷ l) m =
       let b = byOrder (O .compare k (e .0)) none (some (e .1)) none in
-      get-keep k (e .0) (e .1) (keeps O l m) ∙ ap (λ a. orElse a b) (get-keeps k l m) ∙ or-assoc (get O k m) (lastAt O k l) b
+      get-keep k (e .0) (e .1) (keeps O l m) ∙ ap (λ a. orElse a b) (get-keeps k l m)
+      ∙ or-assoc (get O k m) (lastAt O k l) b
 
   -- in a map the last entry that has a key is the only one
   lastAt-map : (k : K) (m : List (K × A)) → ascending O m ≡ true → lastAt O k m ≡ get O k m
   lastAt-map k [] h = refl
   lastAt-map k (e ∷ m) h =
-      ap (λ a. orElse a (byOrder (O .compare k (e .0)) none (some (e .1)) none)) (lastAt-map k m (rest-ascending e m h)) ∙ go (O .compare k (e .0)) refl
+      ap (λ a. orElse a (byOrder (O .compare k (e .0)) none (some (e .1)) none))
+      (lastAt-map k m (rest-ascending e m h)) ∙ go (O .compare k (e .0)) refl
     where
-      go : (o : Order) → O .compare k (e .0) ≡ o → orElse (get O k m) (byOrder o none (some (e .1)) none) ≡ byOrder o (get O k m) (some (e .1)) (get O k m)
+      go : (o : Order) → O .compare k (e .0) ≡ o
+          → orElse (get O k m) (byOrder o none (some (e .1)) none) ≡ byOrder o (get O k m) (some (e .1)) (get O k m)
       go Less p = or-none (get O k m)
       go Same p = rw (get-above k m (rw (W .same k (e .0) p) h))
       go More p = or-none (get O k m)
 
   -- the entries of a map, one after the other, are the map
   pub puts-itself : (m : List (K × A)) → ascending O m ≡ true → puts O m [] ≡ m
-  puts-itself m h = equal-maps (puts O m []) m (puts-ascending m [] refl) h (λ k. get-puts k m [] ∙ or-none (lastAt O k m) ∙ lastAt-map k m h)
+  puts-itself m h =
+      equal-maps (puts O m []) m (puts-ascending m [] refl) h
+      (λ k. get-puts k m [] ∙ or-none (lastAt O k m) ∙ lastAt-map k m h)
 
   -- FROM LAST TO FIRST: keys that are not there yet, and then those of the old map, are what the entries in order leave
   pub last-to-first : (l old : List (K × A)) → ascending O old ≡ true → keeps O old (keeps O l []) ≡ puts O l old
   last-to-first l old h =
-      equal-maps (keeps O old (keeps O l [])) (puts O l old) (keeps-ascending old (keeps O l []) (keeps-ascending l [] refl)) (puts-ascending l old h)
-      (λ k. get-keeps k old (keeps O l []) ∙ ap (λ a. orElse a (lastAt O k old)) (get-keeps k l []) ∙ ap (orElse (lastAt O k l)) (lastAt-map k old h)
+      equal-maps (keeps O old (keeps O l [])) (puts O l old)
+      (keeps-ascending old (keeps O l []) (keeps-ascending l [] refl)) (puts-ascending l old h)
+      (λ k. get-keeps k old (keeps O l []) ∙ ap (λ a. orElse a (lastAt O k old)) (get-keeps k l [])
+      ∙ ap (orElse (lastAt O k l)) (lastAt-map k old h)
       ∙ sym (get-puts k l old))
 
 -- what the values stand for changes nothing of the keys
@@ -233,7 +255,8 @@ module _ {K : Type 0} (O : Ordered K) {A B : Type 0} (f : A → B) where
     where
       go : (o : Order) → mapValues f (put O k v m) ≡ put O k (f v) (mapValues f m)
           → mapValues f (byOrder o ((k, v) ∷ e ∷ m) ((k, v) ∷ m) (e ∷ put O k v m))
-          ≡ byOrder o ((k, f v) ∷ mapValues f (e ∷ m)) ((k, f v) ∷ mapValues f m) ((e .0, f (e .1)) ∷ put O k (f v) (mapValues f m))
+          ≡ byOrder o ((k, f v) ∷ mapValues f (e ∷ m)) ((k, f v) ∷ mapValues f m)
+          ((e .0, f (e .1)) ∷ put O k (f v) (mapValues f m))
       go Less i = refl
       go Same i = refl
       go More i = ap (_∷_ (e .0, f (e .1))) i
@@ -256,7 +279,8 @@ module _ {K : Type 0} (O : Ordered K) {A : Type 0} where
   put-longer k v [] = omega arith
   put-longer k v (e ∷ m) = go (O .compare k (e .0)) (put-longer k v m)
     where
-      go : (o : Order) → length m ≤ length (put O k v m) → suc (length m) ≤ length (byOrder o ((k, v) ∷ e ∷ m) ((k, v) ∷ m) (e ∷ put O k v m))
+      go : (o : Order) → length m ≤ length (put O k v m)
+          → suc (length m) ≤ length (byOrder o ((k, v) ∷ e ∷ m) ((k, v) ∷ m) (e ∷ put O k v m))
       go Less i = omega arith
       go Same i = omega arith
       go More i = omega (arith, i)
@@ -270,7 +294,8 @@ module _ {K : Type 0} (O : Ordered K) {A : Type 0} where
   put-one-more k v [] = omega arith
   put-one-more k v (e ∷ m) = go (O .compare k (e .0)) (put-one-more k v m)
     where
-      go : (o : Order) → length (put O k v m) ≤ suc (length m) → length (byOrder o ((k, v) ∷ e ∷ m) ((k, v) ∷ m) (e ∷ put O k v m)) ≤ suc (suc (length m))
+      go : (o : Order) → length (put O k v m) ≤ suc (length m)
+          → length (byOrder o ((k, v) ∷ e ∷ m) ((k, v) ∷ m) (e ∷ put O k v m)) ≤ suc (suc (length m))
       go Less i = omega arith
       go Same i = omega arith
       go More i = omega (arith, i)

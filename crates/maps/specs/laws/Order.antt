@@ -75,7 +75,8 @@ lex-less [] (y ∷ b) e = less-more e
 lex-less (x ∷ a) [] e = refl
 lex-less (x ∷ a) (y ∷ b) e = go (firsts x y a b) e (lex-less a b)
   where
-    go : {o : Order} → Firsts x y a b o → o ≡ More → (lexOf a b ≡ More → lexOf b a ≡ Less) → lexOf (y ∷ b) (x ∷ a) ≡ Less
+    go : {o : Order} → Firsts x y a b o → o ≡ More → (lexOf a b ≡ More → lexOf b a ≡ Less)
+        → lexOf (y ∷ b) (x ∷ a) ≡ Less
     go (before h p) q r = less-more (sym p ∙ q)
     go (behind h p) q r = cons-before y x b a h
     go (level h p) q r = cons-level y x b a (sym h) ∙ r (sym p ∙ q)
@@ -87,7 +88,8 @@ lex-more [] (y ∷ b) e = refl
 lex-more (x ∷ a) [] e = less-more (sym e)
 lex-more (x ∷ a) (y ∷ b) e = go (firsts x y a b) e (lex-more a b)
   where
-    go : {o : Order} → Firsts x y a b o → o ≡ Less → (lexOf a b ≡ Less → lexOf b a ≡ More) → lexOf (y ∷ b) (x ∷ a) ≡ More
+    go : {o : Order} → Firsts x y a b o → o ≡ Less → (lexOf a b ≡ Less → lexOf b a ≡ More)
+        → lexOf (y ∷ b) (x ∷ a) ≡ More
     go (before h p) q r = cons-behind y x b a h
     go (behind h p) q r = less-more (sym q ∙ p)
     go (level h p) q r = cons-level y x b a (sym h) ∙ r (sym p ∙ q)

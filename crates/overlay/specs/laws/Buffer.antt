@@ -31,14 +31,16 @@ all-zeros (suc n) = all-zeros n
 
 zeros-all : (s : List ℕ) → all (eqb 0) s ≡ true → s ≡ replicate (length s) 0
 zeros-all [] e = refl
-zeros-all (b ∷ s) e = let h = both-true (eqb 0 b) (all (eqb 0) s) e in let z : 0 ≡ b = eqb-true 0 b (h .0) in rw (← z) (ap (λ t. 0 ∷ t) (zeros-all s (h .1)))
+zeros-all (b ∷ s) e = let h = both-true (eqb 0 b) (all (eqb 0) s) e in let z : 0 ≡ b = eqb-true 0 b (h .0) in
+    rw (← z) (ap (λ t. 0 ∷ t) (zeros-all s (h .1)))
 
 -- the state of its image
 pub image-state : (n : ℕ) (s : State) → Held s → stateOf (image n s) ≡ some s
 unfolding stateOf image filled
 image-state n s h =
     let k = n - length (write overlay s) in
-    ap heldState (read-write overlay s (replicate k 0) (h .fits)) ∙ (λ i. cond (all-zeros k i && h .valid i) (some s) none)
+    ap heldState (read-write overlay s (replicate k 0) (h .fits))
+    ∙ (λ i. cond (all-zeros k i && h .valid i) (some s) none)
 
 -- what an accepted buffer holds
 accepted-some : (o : Option (State × List ℕ)) (s : State) → heldState o ≡ some s
@@ -92,7 +94,8 @@ no-state (suc n) = refl
 pub held-rules : (s : State) → Held s → Judged56 overlay s × (ok 7 overlay s ≡ true)
 unfolding valid within
 held-rules s h =
-    let w = both-true (ok 5 overlay s && (ok 6 overlay s && ok 7 overlay s)) (ascending texts (feedsOf s) && all feedValid (feedsOf s)) (h .valid) .0 in
+    let w = both-true (ok 5 overlay s && (ok 6 overlay s && ok 7 overlay s))
+    (ascending texts (feedsOf s) && all feedValid (feedsOf s)) (h .valid) .0 in
     let a = both-true (ok 5 overlay s) (ok 6 overlay s && ok 7 overlay s) w in
     let b = both-true (ok 6 overlay s) (ok 7 overlay s) (a .1) in
     (record { formed = formed-of overlay s (h .fits); five = a .0; six = b .0 }, b .1)

@@ -22,7 +22,8 @@ use Rattle.maps.specs.laws.Order.{texts-order}
 use Rattle.basics.specs.laws.Booleans.{both-true}
 use Rattle.decode.specs.Leaves.{Trips, leaves, timestampIn, countWithoutAt as leavesCount}
 use Rattle.alerts.specs.Alert.{Alert, alert}
-use Rattle.overlay.specs.State.{Feed, State, Vehicles, timestamp, vehicleEntry, feedEntry, overlay, countOf, tripsOf, vehiclesOf, alertsOf, timestampOf, versionOf, feedsOf, feedWith, noFeed}
+use Rattle.overlay.specs.State.{Feed, State, Vehicles, timestamp, vehicleEntry, feedEntry, overlay, countOf}
+use Rattle.overlay.specs.State.{tripsOf, vehiclesOf, alertsOf, timestampOf, versionOf, feedsOf, feedWith, noFeed}
 use Rattle.overlay.specs.Change.{feedAt, putFeed, afterMessage, afterAlerts, withoutStale, afterVehicles}
 use Rattle.overlay.specs.laws.Within.{unjudged, both, counted}
 use Rattle.overlay.specs.laws.EveryEntry.{each-of, get-each}
@@ -40,7 +41,8 @@ put-all {K} {A} O p k v (e ∷ m) h = go (O .compare k (e .0)) (put-all O p k v 
     q : (p e ≡ true) × (all p m ≡ true)
     q = both-true (p e) (all p m) h
 
-    go : (o : Order) → all p (put O k v m) ≡ p (k, v) → all p (byOrder o ((k, v) ∷ e ∷ m) ((k, v) ∷ m) (e ∷ put O k v m)) ≡ p (k, v)
+    go : (o : Order) → all p (put O k v m) ≡ p (k, v)
+        → all p (byOrder o ((k, v) ∷ e ∷ m) ((k, v) ∷ m) (e ∷ put O k v m)) ≡ p (k, v)
     go Less ih = and-yes (p (k, v)) (p e && all p m) h
     go Same ih = and-yes (p (k, v)) (all p m) (q .1)
     go More ih = rw (q .0) ih
@@ -48,7 +50,8 @@ put-all {K} {A} O p k v (e ∷ m) h = go (O .compare k (e .0)) (put-all O p k v 
 -- the lists of one feed
 seven-feed : (f : List ℕ) (F : Feed)
     → ok 7 feedEntry (f, F)
-    ≡ (ok 7 (list 2048 tripEntry) (tripsOf F) && (ok 7 (list 1024 vehicleEntry) (vehiclesOf F) && ok 7 (list 256 alert) (alertsOf F)))
+    ≡ (ok 7 (list 2048 tripEntry) (tripsOf F)
+    && (ok 7 (list 1024 vehicleEntry) (vehiclesOf F) && ok 7 (list 256 alert) (alertsOf F)))
 seven-feed f F = rw (unjudged 7 (optional timestamp) refl (F .0)) refl
 
 -- the feed of an id, made where it isn't there yet, is within question 7
@@ -68,7 +71,8 @@ few trips vehicles alerts =
     ok 7 (list 2048 tripEntry) trips && (ok 7 (list 1024 vehicleEntry) vehicles && ok 7 (list 256 alert) alerts)
 
 put-seven : (f : List ℕ) (F : Feed) (n : ℕ) (s : State) → ok 7 overlay s ≡ true
-    → ok 7 overlay (putFeed f F n s) ≡ (leb (length (feedsOf (putFeed f F n s))) 4 && few (tripsOf F) (vehiclesOf F) (alertsOf F))
+    → ok 7 overlay (putFeed f F n s) ≡
+    (leb (length (feedsOf (putFeed f F n s))) 4 && few (tripsOf F) (vehiclesOf F) (alertsOf F))
 unfolding putFeed
 put-seven f F n s h =
     ap (λ b. leb (length (put texts f F (feedsOf s))) 4 && b)
@@ -111,7 +115,8 @@ module _ (f : List ℕ) (s : State) (h : ok 7 overlay s ≡ true) where
         ≡ (leb (length (feedsOf (afterMessage f t s))) 4 && ok 7 (list 2048 tripEntry) trips)
     unfolding afterMessage
     message-seven =
-        let G = feedWith (orOther (timestampIn t) (timestampOf F)) (leavesCount f trips) trips (vehiclesOf F) (alertsOf F) in
+        let G = feedWith (orOther (timestampIn t) (timestampOf F)) (leavesCount f trips) trips (vehiclesOf F)
+        (alertsOf F) in
         put-seven f G (versionOf s) s h
         ∙ ap (λ b. leb (length (feedsOf (afterMessage f t s))) 4 && b)
         (first-left (ok 7 (list 2048 tripEntry) trips) vehiclesFew alertsFew (parts .1 .0) (parts .1 .1))

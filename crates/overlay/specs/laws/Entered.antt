@@ -16,12 +16,14 @@ use Rattle.formats.specs.Format.{Format, text, small, optional, _&_, Value}
 use Rattle.formats_judge.specs.Judged.{ok}
 use Rattle.overlay.specs.laws.Within.{Judged56, joined, listed, absent, present, both}
 use Rattle.realtime.specs.Tree.{Tree, Leaf, count, words, tree, last, sub, rep}
-use Rattle.realtime.specs.Schema.{feedMessage, feedEntity, tripUpdate, tripDescriptor, stopTimeUpdate, stopTimeEvent, fieldRows, feed}
+use Rattle.realtime.specs.Schema.{feedMessage, feedEntity, tripUpdate, tripDescriptor, stopTimeUpdate, stopTimeEvent}
+use Rattle.realtime.specs.Schema.{fieldRows, feed}
 use Rattle.realtime.specs.Judge.{rules, textsFine, numbersFine, numberRule, limit}
 use Rattle.realtime_views.specs.Typed.{int32, int64, uint32, numberIn, orZero}
 use Rattle.realtime_views.specs.Typed as typed
 use Rattle.realtime_views.specs.Views as view
-use Rattle.decode.specs.Trip.{Trip, StopUpdate, delay, instant, number32, stopUpdate, trip, routeOf, dateOf, timeOf, updatesOf}
+use Rattle.decode.specs.Trip.{Trip, StopUpdate, delay, instant, number32, stopUpdate, trip, routeOf, dateOf, timeOf}
+use Rattle.decode.specs.Trip.{updatesOf}
 use Rattle.basics.specs.Options.{maybe}
 use Rattle.decode.specs.Key.{datedKey, incompleteKey, inserts, entriesIn, keyOk}
 use Rattle.maps.specs.Map.{ascending}
@@ -34,7 +36,8 @@ use Rattle.decode.specs.Leaves.{entries, timestampIn}
 use Rattle.overlay.specs.State.{timestamp}
 use Rattle.decode.specs.laws.Fine.{FineTree, Given, LeafFine, fine-sub, fine-rep, fine-last, tree-fine}
 use Rattle.overlay.specs.laws.StaysValid.{TripKept}
-use Rattle.overlay.specs.laws.Keys.{Printed, printed-judged, printed-append, printed-up, token-printed, incomplete-printed, base-ok, dated-ok, incomplete-ok}
+use Rattle.overlay.specs.laws.Keys.{Printed, printed-judged, printed-append, printed-up, token-printed}
+use Rattle.overlay.specs.laws.Keys.{incomplete-printed, base-ok, dated-ok, incomplete-ok}
 use Rattle.overlay.specs.laws.EveryEntry.{each-puts}
 
 abbrev FineIn : ℕ → Tree → Type 0
@@ -65,18 +68,21 @@ instant-judged n h =
     rw (lt-ltb n (2 ^ 63) (omega arith)) (record { formed = tt; five = refl; six = both (leb·zero n) h })
 
 uint32-judged : (n : ℕ) → Judged56 number32 (uint32 n)
-uint32-judged n = record { formed = tt; five = refl; six = both (leb·zero (n % 2 ^ 32)) (le-leb (n % 2 ^ 32) 4294967295 (omega arith)) }
+uint32-judged n =
+    record { formed = tt; five = refl; six = both (leb·zero (n % 2 ^ 32)) (le-leb (n % 2 ^ 32) 4294967295 (omega arith)) }
 
 flag-judged : (b : Bool) → Judged56 (small 1) (bit b)
 flag-judged true = record { formed = omega arith; five = refl; six = refl }
 flag-judged false = record { formed = omega arith; five = refl; six = refl }
 
 -- a number that may be absent, by its type
-maybe-judged : {A : Type 0} (F : Format) (P : A → Type 0) (g : A → Value F) → ((a : A) → P a → Judged56 F (g a)) → (o : Option A) → Given P o → Judged56 (optional F) (maybe (Option·map g o))
+maybe-judged : {A : Type 0} (F : Format) (P : A → Type 0) (g : A → Value F) → ((a : A) → P a → Judged56 F (g a))
+    → (o : Option A) → Given P o → Judged56 (optional F) (maybe (Option·map g o))
 maybe-judged F P g h none x = absent F
 maybe-judged F P g h (some a) x = present F (g a) (h a x)
 
-any-judged : {A : Type 0} (F : Format) (g : A → Value F) → ((a : A) → Judged56 F (g a)) → (o : Option A) → Judged56 (optional F) (maybe (Option·map g o))
+any-judged : {A : Type 0} (F : Format) (g : A → Value F) → ((a : A) → Judged56 F (g a)) → (o : Option A)
+    → Judged56 (optional F) (maybe (Option·map g o))
 any-judged F g h none = absent F
 any-judged F g h (some a) = present F (g a) (h a)
 
@@ -84,7 +90,8 @@ pub timestamp-kept : (t : Tree) → Judged56 (optional timestamp) (timestampIn t
 timestamp-kept t = any-judged timestamp int64 int64-judged (view.header t .timestamp)
 
 -- a listed number
-number-given : (t f : ℕ) (o : Option Leaf) → Given (LeafFine feed rules t f) o → Given (λ n. numberRule t f n ≡ true) (numberIn o)
+number-given : (t f : ℕ) (o : Option Leaf) → Given (LeafFine feed rules t f) o
+    → Given (λ n. numberRule t f n ≡ true) (numberIn o)
 number-given t f none x = tt
 number-given t f (some (count n)) x = x
 number-given t f (some (words s)) x = tt
@@ -104,10 +111,12 @@ text-printed t f l m e x = go (last f m) (fine-last feed rules t f m x)
 
 -- ---- a stop time update, and a trip
 
-event-judged : (v : Tree) → FineIn stopTimeEvent v → Judged56 (optional delay) (maybe (view.event v .delay)) × Judged56 (optional instant) (maybe (view.event v .time))
+event-judged : (v : Tree) → FineIn stopTimeEvent v
+    → Judged56 (optional delay) (maybe (view.event v .delay)) × Judged56 (optional instant) (maybe (view.event v .time))
 event-judged v x = (
   any-judged delay int32 int32-judged (numberIn (last 1 v)),
-  maybe-judged instant (λ n. numberRule stopTimeEvent 2 n ≡ true) int64 instant-judged (numberIn (last 2 v)) (number-given stopTimeEvent 2 (last 2 v) (fine-last feed rules stopTimeEvent 2 v x)),
+  maybe-judged instant (λ n. numberRule stopTimeEvent 2 n ≡ true) int64 instant-judged (numberIn (last 2 v))
+      (number-given stopTimeEvent 2 (last 2 v) (fine-last feed rules stopTimeEvent 2 v x)),
 )
 
 update-judged : (s : Tree) → FineIn stopTimeUpdate s → Judged56 stopUpdate (updateIn s)
@@ -123,7 +132,8 @@ updateEntries l = map {B = ℕ × StopUpdate} (λ s. (view.stopUpdate s .sequenc
 
 each-update : (l : List Tree) → All (FineIn stopTimeUpdate) l → All (Judged56 (number32 & stopUpdate)) (updateEntries l)
 each-update [] h = tt
-each-update (s ∷ l) h = (joined _ (uint32-judged (orZero (numberIn (last 1 s)))) (update-judged s (h .0)), each-update l (h .1))
+each-update (s ∷ l) h =
+    (joined _ (uint32-judged (orZero (numberIn (last 1 s)))) (update-judged s (h .0)), each-update l (h .1))
 
 updates-judged : (e : Tree) → FineIn tripUpdate (sub 3 e) → All (Judged56 (number32 & stopUpdate)) (updatesIn e)
 unfolding updatesIn feed fieldRows
@@ -159,33 +169,40 @@ module _ (e : Tree) (x : FineIn feedEntity e) where
       (joined _ (printed-judged 16 _ (text-of 3 16 refl))
       (joined _ (printed-judged 64 _ (text-of 5 64 refl))
       (joined _ (any-judged number32 uint32 uint32-judged (numberIn (last 6 (descriptor e))))
-      (joined _ (printed-judged 16 _ (text-of 2 16 refl)) (listed 128 (number32 & stopUpdate) (updatesIn e) (updates-judged e fine-update)))))))
+      (joined _ (printed-judged 16 _ (text-of 2 16 refl))
+      (listed 128 (number32 & stopUpdate) (updatesIn e) (updates-judged e fine-update)))))))
 
 -- ---- entries
 
 -- a record at a key of its own
-entry-kept : (f x : List ℕ) (t : Trip) → Printed 137 x → keyOk f x t ≡ true → Judged56 trip t → ascending numbers (updatesOf t) ≡ true → TripKept f (x, t)
+entry-kept : (f x : List ℕ) (t : Trip) → Printed 137 x → keyOk f x t ≡ true → Judged56 trip t
+    → ascending numbers (updatesOf t) ≡ true → TripKept f (x, t)
 entry-kept f x t p k j u = record { judged = joined (x, t) (printed-judged 137 x p) j; valid = both k u }
 
 -- THE ENTRIES OF AN ENTITY
 module _ (f : List ℕ) (name : ok 5 (text 16 token) f ≡ true) where
-  inserts-kept : (raw : List ℕ) (t : Trip) → Printed 64 raw → Printed 64 (routeOf t) → Printed 16 (dateOf t) → Printed 16 (timeOf t)
+  inserts-kept : (raw : List ℕ) (t : Trip) → Printed 64 raw → Printed 64 (routeOf t) → Printed 16 (dateOf t)
+      → Printed 16 (timeOf t)
       → Judged56 trip t → ascending numbers (updatesOf t) ≡ true → All (TripKept f) (inserts f raw t)
   inserts-kept [] t p r d m j u = go (isEmpty (routeOf t))
     where
       go : (b : Bool) → All (TripKept f) (cond b [] ((incompleteKey f t, t) ∷ []))
       go true = tt
-      go false = (entry-kept f (incompleteKey f t) t (incomplete-printed f t (token-printed f name) r d m) (incomplete-ok f t) j u, tt)
+      go false =
+          (entry-kept f (incompleteKey f t) t (incomplete-printed f t (token-printed f name) r d m) (incomplete-ok f t) j u, tt)
   inserts-kept (b ∷ raw) t p r d m j u = go (isEmpty (dateOf t)) refl
     where
       base : TripKept f (b ∷ raw, t)
       base = entry-kept f (b ∷ raw) t (printed-up (omega arith) p) (base-ok f b raw t p) j u
 
-      go : (e : Bool) → isEmpty (dateOf t) ≡ e → All (TripKept f) (cond e ((b ∷ raw, t) ∷ []) ((datedKey (b ∷ raw) (dateOf t), t) ∷ (b ∷ raw, t) ∷ []))
+      go : (e : Bool) → isEmpty (dateOf t) ≡ e
+          → All (TripKept f) (cond e ((b ∷ raw, t) ∷ []) ((datedKey (b ∷ raw) (dateOf t), t) ∷ (b ∷ raw, t) ∷ []))
       go true e = (base, tt)
       go false e = (
         entry-kept f (datedKey (b ∷ raw) (dateOf t)) t
-            (printed-up (omega arith) (printed-append 64 17 (b ∷ raw) (64 ∷ dateOf t) p (record { short = omega (arith, d .short); fair = d .fair })))
+            (printed-up (omega arith)
+            (printed-append 64 17 (b ∷ raw) (64 ∷ dateOf t) p
+            (record { short = omega (arith, d .short); fair = d .fair })))
             (dated-ok f b raw t p (ap not e)) j u,
         (base, tt),
       )
@@ -197,7 +214,8 @@ module _ (f : List ℕ) (name : ok 5 (text 16 token) f ≡ true) where
       go : (b : Bool) → All (TripKept f) (cond b [] (inserts f (view.trip e .id) (tripIn e)))
       go true = tt
       go false =
-          inserts-kept (view.trip e .id) (tripIn e) (text-of e x 1 64 refl) (text-of e x 5 64 refl) (text-of e x 3 16 refl) (text-of e x 2 16 refl)
+          inserts-kept (view.trip e .id) (tripIn e) (text-of e x 1 64 refl) (text-of e x 5 64 refl)
+          (text-of e x 3 16 refl) (text-of e x 2 16 refl)
           (trip-judged e x) (updates-up e)
 
   all-join : {A : Type 0} (P : A → Type 0) (x y : List A) → All P x → All P y → All P (x ++ y)
@@ -207,8 +225,12 @@ module _ (f : List ℕ) (name : ok 5 (text 16 token) f ≡ true) where
   each-entity : (l : List Tree) → All (FineIn feedEntity) l → All (TripKept f) (entries f l)
   unfolding entries
   each-entity [] h = tt
-  each-entity (e ∷ l) h = all-join (TripKept f) (entriesIn f e) (entries f l) (entity-kept e (h .0)) (each-entity l (h .1))
+  each-entity (e ∷ l) h =
+      all-join (TripKept f) (entriesIn f e) (entries f l) (entity-kept e (h .0)) (each-entity l (h .1))
 
-  pub entries-kept : (m : List ℕ) (t : Tree) → tree feed feedMessage m ≡ some t → textsFine rules feedMessage t ≡ true → numbersFine rules feedMessage t ≡ true → All (TripKept f) (entries f (rep 2 t))
+  pub entries-kept : (m : List ℕ) (t : Tree) → tree feed feedMessage m ≡ some t → textsFine rules feedMessage t ≡ true
+      → numbersFine rules feedMessage t ≡ true → All (TripKept f) (entries f (rep 2 t))
   unfolding feed fieldRows
-  entries-kept m t e a b = each-entity (rep 2 t) (fine-rep feed rules feedMessage 2 feedEntity refl t (tree-fine feed rules feedMessage m t e a b))
+  entries-kept m t e a b =
+      each-entity (rep 2 t)
+      (fine-rep feed rules feedMessage 2 feedEntity refl t (tree-fine feed rules feedMessage m t e a b))

@@ -33,7 +33,8 @@ pub each-map : {A : Type 0} {P Q : A → Type 0} → ((x : A) → P x → Q x) �
 each-map g [] e = tt
 each-map g (x ∷ l) e = (g x (e .0), each-map g l (e .1))
 
-pub each-both : {A : Type 0} {P Q R : A → Type 0} → ((x : A) → P x → Q x → R x) → (l : List A) → All P l → All Q l → All R l
+pub each-both : {A : Type 0} {P Q R : A → Type 0} → ((x : A) → P x → Q x → R x) → (l : List A) → All P l → All Q l
+    → All R l
 each-both g [] e f = tt
 each-both g (x ∷ l) e f = (g x (e .0) (f .0), each-both g l (e .1) (f .1))
 
@@ -56,7 +57,8 @@ module _ {K : Type 0} (O : Ordered K) {A : Type 0} (P : K × A → Type 0) where
   put-each k v [] e = e .0
   put-each k v (x ∷ m) e = go (O .compare k (x .0)) e (put-each k v m)
     where
-      go : (o : Order) → All P (byOrder o ((k, v) ∷ x ∷ m) ((k, v) ∷ m) (x ∷ put O k v m)) → (All P (put O k v m) → P (k, v)) → P (k, v)
+      go : (o : Order) → All P (byOrder o ((k, v) ∷ x ∷ m) ((k, v) ∷ m) (x ∷ put O k v m))
+          → (All P (put O k v m) → P (k, v)) → P (k, v)
       go Less h ih = h .0
       go Same h ih = h .0
       go More h ih = ih (h .1)
@@ -67,7 +69,8 @@ module _ {K : Type 0} {O : Ordered K} (W : Lawful O) {A : Type 0} (P : K × A �
   get-each k v [] e g = none-some g
   get-each k v (x ∷ m) e g = go (O .compare k (x .0)) refl g (get-each k v m (e .1))
     where
-      go : (o : Order) → O .compare k (x .0) ≡ o → byOrder o (get O k m) (some (x .1)) (get O k m) ≡ some v → (get O k m ≡ some v → P (k, v)) → P (k, v)
+      go : (o : Order) → O .compare k (x .0) ≡ o → byOrder o (get O k m) (some (x .1)) (get O k m) ≡ some v
+          → (get O k m ≡ some v → P (k, v)) → P (k, v)
       go Less c h ih = ih h
       go Same c h ih = let a : k ≡ x .0 = W .same k (x .0) c in let b : x .1 ≡ v = cc in rw (a, ← b) (e .0)
       go More c h ih = ih h
@@ -83,29 +86,36 @@ each-stale P clock (x ∷ m) e = go (ltZ (updatedOf (x .1)) (clock -ℤ pos 900)
     go false ih = (e .0, ih)
 
 -- what ascends from above a key ascends from above a smaller one
-pub lower : {A : Type 0} (k : List ℕ) (x : List ℕ × A) (m : List (List ℕ × A)) → isLess (texts .compare k (x .0)) ≡ true → above texts (x .0) m ≡ true → above texts k m ≡ true
+pub lower : {A : Type 0} (k : List ℕ) (x : List ℕ × A) (m : List (List ℕ × A))
+    → isLess (texts .compare k (x .0)) ≡ true → above texts (x .0) m ≡ true → above texts k m ≡ true
 lower k x [] l e = refl
 lower k x (y ∷ m) l e =
     let h = both-true (isLess (texts .compare (x .0) (y .0))) (above texts (y .0) m) e in
     let t : texts .compare k (y .0) ≡ Less = texts-order .through k (x .0) (y .0) (is-less _ l) (is-less _ (h .0)) in
     both (ap isLess t) (h .1)
 
-stale-above : (clock : ℤ) (k : List ℕ) (m : Vehicles) → above texts k m ≡ true → above texts k (withoutStale clock m) ≡ true
+stale-above : (clock : ℤ) (k : List ℕ) (m : Vehicles) → above texts k m ≡ true
+    → above texts k (withoutStale clock m) ≡ true
 unfolding withoutStale
 stale-above clock k [] e = refl
 stale-above clock k (x ∷ m) e =
     let h = both-true (isLess (texts .compare k (x .0))) (above texts (x .0) m) e in
-    go (ltZ (updatedOf (x .1)) (clock -ℤ pos 900)) (h .0) (stale-above clock k m (lower k x m (h .0) (h .1))) (stale-above clock (x .0) m (h .1))
+    go (ltZ (updatedOf (x .1)) (clock -ℤ pos 900)) (h .0) (stale-above clock k m (lower k x m (h .0) (h .1)))
+    (stale-above clock (x .0) m (h .1))
   where
-    go : (b : Bool) → isLess (texts .compare k (x .0)) ≡ true → above texts k (withoutStale clock m) ≡ true → above texts (x .0) (withoutStale clock m) ≡ true
+    go : (b : Bool) → isLess (texts .compare k (x .0)) ≡ true → above texts k (withoutStale clock m) ≡ true
+        → above texts (x .0) (withoutStale clock m) ≡ true
         → above texts k (cond b (withoutStale clock m) (x ∷ withoutStale clock m)) ≡ true
     go true l a c = a
     go false l a c = both l c
 
-pub stale-ascending : (clock : ℤ) (m : Vehicles) → ascending texts m ≡ true → ascending texts (withoutStale clock m) ≡ true
+pub stale-ascending : (clock : ℤ) (m : Vehicles) → ascending texts m ≡ true
+    → ascending texts (withoutStale clock m) ≡ true
 unfolding withoutStale
 stale-ascending clock [] e = refl
-stale-ascending clock (x ∷ m) e = go (ltZ (updatedOf (x .1)) (clock -ℤ pos 900)) (stale-above clock (x .0) m e) (stale-ascending clock m (rest-ascending texts-order x m e))
+stale-ascending clock (x ∷ m) e =
+    go (ltZ (updatedOf (x .1)) (clock -ℤ pos 900)) (stale-above clock (x .0) m e)
+    (stale-ascending clock m (rest-ascending texts-order x m e))
   where
     go : (b : Bool) → above texts (x .0) (withoutStale clock m) ≡ true → ascending texts (withoutStale clock m) ≡ true
         → ascending texts (cond b (withoutStale clock m) (x ∷ withoutStale clock m)) ≡ true

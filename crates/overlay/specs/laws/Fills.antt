@@ -46,7 +46,8 @@ text-fills l c v h e i = record {
 }
 
 pub given-fills : {f : Format} {v : Value f} → Fills f v → Fills (optional f) (inr v)
-given-fills {f} {v} w = record { fits = w .fits; keeps = w .keeps; long = rw (le-leb 0 (capacity f) (omega arith)) (omega (arith, w .long)) }
+given-fills {f} {v} w =
+    record { fits = w .fits; keeps = w .keeps; long = rw (le-leb 0 (capacity f) (omega arith)) (omega (arith, w .long)) }
 
 pub pair-fills : {a b : Format} {x : Value a} {y : Value b} → Fills a x → Fills b y → Fills (a & b) (x, y)
 pair-fills {a} {b} {x} {y} v w = record {
@@ -55,13 +56,15 @@ pair-fills {a} {b} {x} {y} v w = record {
   long = rw (length-append, v .long, w .long) refl;
 }
 
-pub table-fills : (f : Format) (g : ℕ → Value f) (n : ℕ) → n < 2 ^ 64 → 0 < capacity f → ((j : ℕ) → j < n → Fills f (g j)) → Fills (list n f) (table g 0 n)
+pub table-fills : (f : Format) (g : ℕ → Value f) (n : ℕ) → n < 2 ^ 64 → 0 < capacity f
+    → ((j : ℕ) → j < n → Fills f (g j)) → Fills (list n f) (table g 0 n)
 table-fills f g n h c w =
     let s : length (table g 0 n) ≡ n = table-length g 0 n in
     record {
       fits = (
         rw s h,
-        table-every g (λ x. Fits f x × (takes f x ≡ true)) n (λ j l. (w j l .fits, rw (w j l .long) (lt-ltb 0 (capacity f) c))) 0 n (omega arith),
+        table-every g (λ x. Fits f x × (takes f x ≡ true)) n
+            (λ j l. (w j l .fits, rw (w j l .long) (lt-ltb 0 (capacity f) c))) 0 n (omega arith),
       );
       keeps = keeps (list n f) (table g 0 n) (kept 5 (omega arith) (omega arith)) (kept 6 (omega arith) (omega arith))
           (both (le-leb (length (table g 0 n)) n (omega (arith, s))) (kept 7 (omega arith) (omega arith)));

@@ -15,7 +15,8 @@ use Rattle.formats.specs.Format.{Format, text, _&_, Value}
 use Rattle.formats_judge.specs.Judged.{ok}
 use Rattle.decode.specs.Trip.{Trip, id, trip, routeOf, dateOf, timeOf, directionOf}
 use Rattle.basics.specs.Options.{Maybe}
-use Rattle.decode.specs.Key.{decimalOf, directionText, prefixed, datedKey, headOf, tailOf, incompleteKey, inserts, rawOk, datedOk, keyOk}
+use Rattle.decode.specs.Key.{decimalOf, directionText, prefixed, datedKey, headOf, tailOf, incompleteKey, inserts}
+use Rattle.decode.specs.Key.{rawOk, datedOk, keyOk}
 use Rattle.basics.specs.Texts.{same}
 use Rattle.basics.specs.laws.Texts.{same-refl, same-true}
 use Rattle.basics.specs.laws.Booleans.{both-true}
@@ -36,7 +37,8 @@ all-append p [] y a b = b
 all-append p (c ∷ x) y a b = let q = both-true (p c) (all p x) a in both (q .0) (all-append p x y (q .1) b)
 
 pub printed-append : (k l : ℕ) (x y : List ℕ) → Printed k x → Printed l y → Printed (k + l) (x ++ y)
-printed-append k l x y a b = record { short = rw length-append (omega (arith, a .short, b .short)); fair = all-append (allowed printable) x y (a .fair) (b .fair) }
+printed-append k l x y a b =
+    record { short = rw length-append (omega (arith, a .short, b .short)); fair = all-append (allowed printable) x y (a .fair) (b .fair) }
 
 pub printed-up : {k l : ℕ} {x : List ℕ} → k ≤ l → Printed k x → Printed l x
 printed-up h a = record { short = omega (arith, a .short); fair = a .fair }
@@ -44,15 +46,19 @@ printed-up h a = record { short = omega (arith, a .short); fair = a .fair }
 -- ---- keys
 
 digit-printed : (n : ℕ) → n < 10 → Printed 1 ((48 + n) ∷ [])
-digit-printed n h = record { short = omega arith; fair = both (both (le-leb 32 (48 + n) (omega arith)) (le-leb (48 + n) 126 (omega arith))) refl }
+digit-printed n h =
+    record { short = omega arith; fair = both (both (le-leb 32 (48 + n) (omega arith)) (le-leb (48 + n) 126 (omega arith))) refl }
 
 decimal-printed : (k n : ℕ) → Printed k (decimalOf k n)
 decimal-printed zero n = record { short = omega arith; fair = refl }
 decimal-printed (suc k) n = go (ltb n 10) refl (decimal-printed k (n / 10))
   where
-    go : (b : Bool) → ltb n 10 ≡ b → Printed k (decimalOf k (n / 10)) → Printed (suc k) (cond b ((48 + n) ∷ []) (decimalOf k (n / 10) ++ (48 + n % 10) ∷ []))
+    go : (b : Bool) → ltb n 10 ≡ b → Printed k (decimalOf k (n / 10))
+        → Printed (suc k) (cond b ((48 + n) ∷ []) (decimalOf k (n / 10) ++ (48 + n % 10) ∷ []))
     go true e h = printed-up (omega arith) (digit-printed n (ltb-true n 10 e))
-    go false e h = printed-up (omega arith) (printed-append k 1 (decimalOf k (n / 10)) ((48 + n % 10) ∷ []) h (digit-printed (n % 10) (omega arith)))
+    go false e h =
+        printed-up (omega arith)
+        (printed-append k 1 (decimalOf k (n / 10)) ((48 + n % 10) ∷ []) h (digit-printed (n % 10) (omega arith)))
 
 shown-printed : (d : Maybe ℕ) → Printed 10 (directionText d)
 shown-printed (inl x) = record { short = omega arith; fair = refl }
@@ -75,10 +81,12 @@ token-printed (b ∷ f) h =
 
 prefixed-printed : (f x : List ℕ) → Printed 16 f → Printed 64 x → Printed 81 (prefixed f x)
 prefixed-printed f [] a b = record { short = omega arith; fair = refl }
-prefixed-printed f (c ∷ x) a b = printed-append 16 65 f (58 ∷ c ∷ x) a (record { short = omega (arith, b .short); fair = b .fair })
+prefixed-printed f (c ∷ x) a b =
+    printed-append 16 65 f (58 ∷ c ∷ x) a (record { short = omega (arith, b .short); fair = b .fair })
 
 -- the incomplete key, by how long the route with its feed is
-incomplete-within : (l : ℕ) (f : List ℕ) (t : Trip) → Printed l (prefixed f (routeOf t)) → Printed 16 (dateOf t) → Printed 16 (timeOf t)
+incomplete-within : (l : ℕ) (f : List ℕ) (t : Trip) → Printed l (prefixed f (routeOf t)) → Printed 16 (dateOf t)
+    → Printed 16 (timeOf t)
     → Printed (l + 56) (incompleteKey f t)
 unfolding incompleteKey
 incomplete-within l f t r d m =
@@ -95,7 +103,8 @@ incomplete-within l f t r d m =
     (record { short = omega arith; fair = refl }))
     m))
 
-pub incomplete-printed : (f : List ℕ) (t : Trip) → Printed 16 f → Printed 64 (routeOf t) → Printed 16 (dateOf t) → Printed 16 (timeOf t)
+pub incomplete-printed : (f : List ℕ) (t : Trip) → Printed 16 f → Printed 64 (routeOf t) → Printed 16 (dateOf t)
+    → Printed 16 (timeOf t)
     → Printed 137 (incompleteKey f t)
 incomplete-printed f t a r d m = incomplete-within 81 f t (prefixed-printed f (routeOf t) a r) d m
 
@@ -114,17 +123,22 @@ pub base-ok : (f : List ℕ) (b : ℕ) (raw : List ℕ) (t : Trip) → Printed 6
 unfolding keyOk
 base-ok f b raw t p = or-left (rawOk (b ∷ raw)) _ (raw-ok b raw p)
 
-pub dated-ok : (f : List ℕ) (b : ℕ) (raw : List ℕ) (t : Trip) → Printed 64 (b ∷ raw) → not (isEmpty (dateOf t)) ≡ true → keyOk f (datedKey (b ∷ raw) (dateOf t)) t ≡ true
+pub dated-ok : (f : List ℕ) (b : ℕ) (raw : List ℕ) (t : Trip) → Printed 64 (b ∷ raw) → not (isEmpty (dateOf t)) ≡ true
+    → keyOk f (datedKey (b ∷ raw) (dateOf t)) t ≡ true
 unfolding keyOk
 dated-ok f b raw t p d =
     let x = datedKey (b ∷ raw) (dateOf t) in
-    let n : length x - suc (length (dateOf t)) ≡ length (b ∷ raw) = omega (arith, length-append (b ∷ raw) (64 ∷ dateOf t)) in
-    let k : take (length x - suc (length (dateOf t))) x ≡ b ∷ raw = ap (λ i. take i x) n ∙ take-at (b ∷ raw) (64 ∷ dateOf t) (length (b ∷ raw)) refl in
+    let n : length x - suc (length (dateOf t)) ≡ length (b ∷ raw) =
+    omega (arith, length-append (b ∷ raw) (64 ∷ dateOf t)) in
+    let k : take (length x - suc (length (dateOf t))) x ≡ b ∷ raw =
+    ap (λ i. take i x) n ∙ take-at (b ∷ raw) (64 ∷ dateOf t) (length (b ∷ raw)) refl in
     or-right (rawOk x) _ (or-left (datedOk (dateOf t) x) _ (rw k (both d (both (raw-ok b raw p) (same-refl x)))))
 
 pub incomplete-ok : (f : List ℕ) (t : Trip) → keyOk f (incompleteKey f t) t ≡ true
 unfolding keyOk
-incomplete-ok f t = or-right (rawOk (incompleteKey f t)) _ (or-right (datedOk (dateOf t) (incompleteKey f t)) _ (same-refl (incompleteKey f t)))
+incomplete-ok f t =
+    or-right (rawOk (incompleteKey f t)) _
+    (or-right (datedOk (dateOf t) (incompleteKey f t)) _ (same-refl (incompleteKey f t)))
 
 -- ---- WHICH KEYS A RECORD MAY HAVE
 
@@ -142,7 +156,8 @@ printed-of l x h =
     let q = both-true (leb (length x) l) (inClass printable x) h in
     record { short = leb-true (length x) l (q .0); fair = q .1 }
 
-key-same : (f : List ℕ) {x y : List ℕ} {t : Trip} → _≡_ {A = List ℕ × Trip} (x, t) (y, t) → keyOk f y t ≡ true → keyOk f x t ≡ true
+key-same : (f : List ℕ) {x y : List ℕ} {t : Trip} → _≡_ {A = List ℕ × Trip} (x, t) (y, t) → keyOk f y t ≡ true
+    → keyOk f x t ≡ true
 key-same f {t = t} e h = ap (λ p. keyOk f (p .0) t) e ∙ h
 
 -- such a key is a record's, whatever the record is
@@ -150,7 +165,8 @@ pub given-key : (f x : List ℕ) (t : Trip) → Given f x t → keyOk f x t ≡ 
 given-key f x t g = go (g .raw) (printed-of 64 (g .raw) (g .rule)) (g .among)
   where
     named : (b : ℕ) (raw : List ℕ) → Printed 64 (b ∷ raw) → (e : Bool) → isEmpty (dateOf t) ≡ e
-        → Among x t (cond e ((b ∷ raw, t) ∷ []) ((datedKey (b ∷ raw) (dateOf t), t) ∷ (b ∷ raw, t) ∷ [])) → keyOk f x t ≡ true
+        → Among x t (cond e ((b ∷ raw, t) ∷ []) ((datedKey (b ∷ raw) (dateOf t), t) ∷ (b ∷ raw, t) ∷ []))
+        → keyOk f x t ≡ true
     named b raw p true d (List·Memᴰ·head e) = key-same f e (base-ok f b raw t p)
     named b raw p true d (List·Memᴰ·tail m) = absurd (List·Memᴰ·not-nil m)
     named b raw p false d (List·Memᴰ·head e) = key-same f e (dated-ok f b raw t p (ap not d))
@@ -171,7 +187,8 @@ base-given : (f x : List ℕ) (t : Trip) → rawOk x ≡ true → Given f x t
 base-given f [] t h = absurd (false≢true h)
 base-given f (b ∷ raw) t h = record { raw = b ∷ raw; rule = h; among = go (isEmpty (dateOf t)) }
   where
-    go : (e : Bool) → Among (b ∷ raw) t (cond e ((b ∷ raw, t) ∷ []) ((datedKey (b ∷ raw) (dateOf t), t) ∷ (b ∷ raw, t) ∷ []))
+    go : (e : Bool) → Among (b ∷ raw) t
+        (cond e ((b ∷ raw, t) ∷ []) ((datedKey (b ∷ raw) (dateOf t), t) ∷ (b ∷ raw, t) ∷ []))
     go true = List·Memᴰ·head refl
     go false = List·Memᴰ·tail (List·Memᴰ·head refl)
 
@@ -179,23 +196,27 @@ not-true : (b : Bool) → not b ≡ true → b ≡ false
 not-true true e = absurd (false≢true e)
 not-true false e = refl
 
-dated-given : (f x raw : List ℕ) (t : Trip) → not (isEmpty (dateOf t)) ≡ true → rawOk raw ≡ true → x ≡ datedKey raw (dateOf t) → Given f x t
+dated-given : (f x raw : List ℕ) (t : Trip) → not (isEmpty (dateOf t)) ≡ true → rawOk raw ≡ true
+    → x ≡ datedKey raw (dateOf t) → Given f x t
 dated-given f x [] t d h e = absurd (false≢true h)
-dated-given f x (b ∷ raw) t d h e = record { raw = b ∷ raw; rule = h; among = rw (not-true (isEmpty (dateOf t)) d) (List·Memᴰ·head (ap (λ y. (y, t)) e)) }
+dated-given f x (b ∷ raw) t d h e =
+    record { raw = b ∷ raw; rule = h; among = rw (not-true (isEmpty (dateOf t)) d) (List·Memᴰ·head (ap (λ y. (y, t)) e)) }
 
 -- without a route the incomplete key is short enough to be a raw id
 no-route : (f r : List ℕ) → isEmpty r ≡ true → Printed 0 (prefixed f r)
 no-route f [] e = record { short = omega arith; fair = refl }
 no-route f (b ∷ r) e = absurd (false≢true e)
 
-bare-given : (f : List ℕ) (t : Trip) → isEmpty (routeOf t) ≡ true → Printed 16 (dateOf t) → Printed 16 (timeOf t) → Given f (incompleteKey f t) t
+bare-given : (f : List ℕ) (t : Trip) → isEmpty (routeOf t) ≡ true → Printed 16 (dateOf t) → Printed 16 (timeOf t)
+    → Given f (incompleteKey f t) t
 unfolding incompleteKey
 bare-given f t e d m =
     let p : Printed 56 (incompleteKey f t) = incomplete-within 0 f t (no-route f (routeOf t) e) d m in
     base-given f (incompleteKey f t) t
     (both (le-leb (length (incompleteKey f t)) 64 (omega (arith, p .short))) (p .fair))
 
-incomplete-given : (f : List ℕ) (t : Trip) → Printed 16 (dateOf t) → Printed 16 (timeOf t) → Given f (incompleteKey f t) t
+incomplete-given : (f : List ℕ) (t : Trip) → Printed 16 (dateOf t) → Printed 16 (timeOf t)
+    → Given f (incompleteKey f t) t
 incomplete-given f t d m = go (isEmpty (routeOf t)) refl
   where
     nameless : isEmpty (routeOf t) ≡ false → Given f (incompleteKey f t) t
@@ -223,7 +244,8 @@ either false b e = inr e
 -- and a record within question 5 has no other key
 pub key-given : (f x : List ℕ) (t : Trip) → ok 5 trip t ≡ true → keyOk f x t ≡ true → Given f x t
 unfolding keyOk
-key-given f x t h k = ⊎-elim (base-given f x t) (λ r. ⊎-elim dated incomplete (either (datedOk (dateOf t) x) _ r)) (either (rawOk x) _ k)
+key-given f x t h k =
+    ⊎-elim (base-given f x t) (λ r. ⊎-elim dated incomplete (either (datedOk (dateOf t) x) _ r)) (either (rawOk x) _ k)
   where
     five : Five trip t
     five = record { is = h }

@@ -21,13 +21,15 @@ use Rattle.decode.specs.Key.{directionText, tailOf, incompleteKey}
 use Rattle.decode.specs.Leaves as leaves
 use Rattle.alerts.specs.Alert.{alert}
 use Rattle.overlay.specs.laws.Keys.{or-right, incomplete-ok}
-use Rattle.overlay.specs.State.{State, Feed, Vehicle, overlay, feedEntry, vehicle, vehicleEntry, timestamp, feedWith, stateWith}
+use Rattle.overlay.specs.State.{State, Feed, Vehicle, overlay, feedEntry, vehicle, vehicleEntry, timestamp}
+use Rattle.overlay.specs.State.{feedWith, stateWith}
 use Rattle.overlay.specs.Valid.{tripValid, feedValid, within, valid, Held}
 use Rattle.overlay.specs.laws.Within.{both}
 use Rattle.overlay.specs.Buffer.{published}
 use Rattle.overlay.specs.laws.Buffer.{published-capacity}
 use Rattle.overlay.specs.laws.Table.{table, table-length, table-all, table-ascending}
-use Rattle.overlay.specs.laws.Fills.{Fills, most, most-fills, number-fills, greatest-fills, text-fills, given-fills, pair-fills, table-fills}
+use Rattle.overlay.specs.laws.Fills.{Fills, most, most-fills, number-fills, greatest-fills, text-fills}
+use Rattle.overlay.specs.laws.Fills.{given-fills, pair-fills, table-fills}
 
 -- the i-th name of n + 2 bytes: two digits of base 64, and letters
 abbrev pub longName : ℕ → ℕ → List ℕ
@@ -45,10 +47,12 @@ module _ (p : ℕ → Bool) (h : p 97 ≡ true) (s : List ℕ) (e : all p s ≡ 
 digit-printable : (b : ℕ) → 32 ≤ b → b ≤ 126 → allowed printable b ≡ true
 digit-printable b l m = both (le-leb 32 b l) (le-leb b 126 m)
 
-name-printable : (n i : ℕ) (s : List ℕ) → i < 2048 → all (allowed printable) s ≡ true → all (allowed printable) (longName n i ++ s) ≡ true
+name-printable : (n i : ℕ) (s : List ℕ) → i < 2048 → all (allowed printable) s ≡ true
+    → all (allowed printable) (longName n i ++ s) ≡ true
 name-printable n i s l e =
     name-all (allowed printable) refl s e n i
-    (digit-printable (48 + i / 64) (omega arith) (omega arith)) (digit-printable (48 + i % 64) (omega arith) (omega arith))
+    (digit-printable (48 + i / 64) (omega arith) (omega arith))
+    (digit-printable (48 + i % 64) (omega arith) (omega arith))
 
 digit-token : (b : ℕ) → 33 ≤ b → b < 58 → allowed token b ≡ true
 digit-token b l m = rw (le-leb 33 b l, le-leb b 126 (omega arith), ne-eqb b 58 (omega arith)) refl
@@ -64,12 +68,16 @@ name-before : (i : ℕ) (s t : List ℕ)
     → lexOf ((48 + i / 64) ∷ (48 + i % 64) ∷ s) ((48 + suc i / 64) ∷ (48 + suc i % 64) ∷ t) ≡ Less
 name-before i s t = go (ltb (i % 64) 63) refl
   where
-    go : (u : Bool) → ltb (i % 64) 63 ≡ u → lexOf ((48 + i / 64) ∷ (48 + i % 64) ∷ s) ((48 + suc i / 64) ∷ (48 + suc i % 64) ∷ t) ≡ Less
+    go : (u : Bool) → ltb (i % 64) 63 ≡ u
+        → lexOf ((48 + i / 64) ∷ (48 + i % 64) ∷ s) ((48 + suc i / 64) ∷ (48 + suc i % 64) ∷ t) ≡ Less
     go true e =
         let l = ltb-true (i % 64) 63 e in
         let same : 48 + suc i / 64 ≡ 48 + i / 64 = omega arith in
-        rw same (level ((48 + i / 64) ∷ []) ((48 + i % 64) ∷ s) ((48 + suc i % 64) ∷ t) ∙ cons-before (48 + i % 64) (48 + suc i % 64) s t (omega arith))
-    go false e = cons-before (48 + i / 64) (48 + suc i / 64) ((48 + i % 64) ∷ s) ((48 + suc i % 64) ∷ t) (omega (arith, ltb-false (i % 64) 63 e))
+        rw same (level ((48 + i / 64) ∷ []) ((48 + i % 64) ∷ s) ((48 + suc i % 64) ∷ t)
+        ∙ cons-before (48 + i % 64) (48 + suc i % 64) s t (omega arith))
+    go false e =
+        cons-before (48 + i / 64) (48 + suc i / 64) ((48 + i % 64) ∷ s) ((48 + suc i % 64) ∷ t)
+        (omega (arith, ltb-false (i % 64) 63 e))
 
 id-fills : (i : ℕ) → i < 2048 → Fills id (longName 62 i)
 id-fills i l = text-fills 64 printable (longName 62 i) (omega arith) refl (name-printable 62 i [] l refl)
@@ -85,11 +93,15 @@ updates-fill : Fills (list 128 (number32 & stopUpdate)) updates
 unfolding updates
 updates-fill =
     table-fills (number32 & stopUpdate) fullUpdate 128 (omega arith) (omega arith)
-    (λ j l. pair-fills (number-fills 4294967295 4294967168 (4294967168 + j) (omega arith) (omega arith) (omega arith) refl) (most-fills stopUpdate refl))
+    (λ j l. pair-fills
+    (number-fills 4294967295 4294967168 (4294967168 + j) (omega arith) (omega arith) (omega arith) refl)
+    (most-fills stopUpdate refl))
 
 updates-ascend : ascending numbers updates ≡ true
 unfolding updates
-updates-ascend = table-ascending numbers fullUpdate (λ j. cons-before (4294967168 + j) (4294967168 + suc j) [] [] (omega arith)) 0 128
+updates-ascend =
+    table-ascending numbers fullUpdate (λ j. cons-before (4294967168 + j) (4294967168 + suc j) [] [] (omega arith)) 0
+    128
 
 -- a start date, and a start time
 abbrev pub day : List ℕ
@@ -97,7 +109,8 @@ day = replicate 16 97
 
 -- the trip of route i; and at its incomplete key in feed k
 abbrev pub fullTrip : ℕ → Trip
-fullTrip i = (most (optional delay) refl, (most (small 1) refl, (day, (longName 62 i, (inr 4294967295, (day, updates))))))
+fullTrip i =
+    (most (optional delay) refl, (most (small 1) refl, (day, (longName 62 i, (inr 4294967295, (day, updates))))))
 
 trip-fills : (i : ℕ) → i < 2048 → Fills trip (fullTrip i)
 trip-fills i l =
@@ -123,7 +136,8 @@ module _ (k : ℕ) where
       text-fills 137 printable (incompleteKey (longName 14 k) (fullTrip i)) (omega arith) refl
       (name-printable 14 k (58 ∷ (longName 62 i ++ behind)) (omega arith) (name-printable 62 i behind l refl))
 
-  keys-ascend : (i : ℕ) → lexOf (incompleteKey (longName 14 k) (fullTrip i)) (incompleteKey (longName 14 k) (fullTrip (suc i))) ≡ Less
+  keys-ascend : (i : ℕ) → lexOf (incompleteKey (longName 14 k) (fullTrip i))
+      (incompleteKey (longName 14 k) (fullTrip (suc i))) ≡ Less
   unfolding incompleteKey
   keys-ascend i =
       level (35 ∷ 114 ∷ 61 ∷ (longName 14 k ++ 58 ∷ [])) (longName 62 i ++ behind) (longName 62 (suc i) ++ behind)
@@ -134,17 +148,23 @@ fullVehicle i = (longName 62 i, most vehicle refl)
 
 -- feed k: every list is full, and every key counts
 abbrev pub fullFeed : ℕ → List ℕ × Feed
-fullFeed k = (longName 14 k, feedWith (most (optional timestamp) refl) 2048 (table (fullEntry k) 0 2048) (table fullVehicle 0 1024) (table (λ i. most alert refl) 0 256))
+fullFeed k =
+    (longName 14 k, feedWith (most (optional timestamp) refl) 2048 (table (fullEntry k) 0 2048) (table fullVehicle 0 1024) (table (λ i. most alert refl) 0 256))
 
 feed-fills : (k : ℕ) → k < 4 → Fills feedEntry (fullFeed k)
 feed-fills k m =
     pair-fills
     (text-fills 16 token (longName 14 k) (omega arith) refl
-    (name-all (allowed token) refl [] refl 14 k (digit-token (48 + k / 64) (omega arith) (omega arith)) (digit-token (48 + k % 64) (omega arith) (omega arith))))
+    (name-all (allowed token) refl [] refl 14 k (digit-token (48 + k / 64) (omega arith) (omega arith))
+    (digit-token (48 + k % 64) (omega arith) (omega arith))))
     (pair-fills (most-fills (optional timestamp) refl)
     (pair-fills (greatest-fills 2048 (omega arith))
-    (pair-fills (table-fills tripEntry (fullEntry k) 2048 (omega arith) (omega arith) (λ i l. pair-fills (key-fills k m i l) (trip-fills i l)))
-    (pair-fills (table-fills vehicleEntry fullVehicle 1024 (omega arith) (omega arith) (λ i l. pair-fills (id-fills i (omega arith)) (most-fills vehicle refl)))
+    (pair-fills
+    (table-fills tripEntry (fullEntry k) 2048 (omega arith) (omega arith)
+    (λ i l. pair-fills (key-fills k m i l) (trip-fills i l)))
+    (pair-fills
+    (table-fills vehicleEntry fullVehicle 1024 (omega arith) (omega arith)
+    (λ i l. pair-fills (id-fills i (omega arith)) (most-fills vehicle refl)))
     (table-fills alert (λ i. most alert refl) 256 (omega arith) (omega arith) (λ i l. most-fills alert refl))))))
 
 feed-valid : (k : ℕ) → feedValid (fullFeed k) ≡ true
@@ -152,9 +172,11 @@ unfolding feedValid
 feed-valid k =
     both (table-ascending texts (fullEntry k) (keys-ascend k) 0 2048)
     (both
-    (table-all (fullEntry k) (tripValid (longName 14 k)) 2048 (λ i l. both (incomplete-ok (longName 14 k) (fullTrip i)) updates-ascend) 0 2048 (omega arith))
+    (table-all (fullEntry k) (tripValid (longName 14 k)) 2048
+    (λ i l. both (incomplete-ok (longName 14 k) (fullTrip i)) updates-ascend) 0 2048 (omega arith))
     (both (table-ascending texts fullVehicle (λ i. name-before i (replicate 62 97) (replicate 62 97)) 0 1024)
-    (count-all (leaves.countWithoutAt (longName 14 k) (table (fullEntry k) 0 2048)) (length (table (fullEntry k) 0 2048)) (table-length (fullEntry k) 0 2048))))
+    (count-all (leaves.countWithoutAt (longName 14 k) (table (fullEntry k) 0 2048))
+    (length (table (fullEntry k) 0 2048)) (table-length (fullEntry k) 0 2048))))
   where
     count-all : (n m : ℕ) → m ≡ 2048 → (eqb 2048 n || eqb 2048 m) ≡ true
     count-all n m e = rw e (or-right (eqb 2048 n) true refl)
@@ -166,13 +188,15 @@ largest = stateWith 18446744073709551615 (table fullFeed 0 4)
 largest-fills : Fills overlay largest
 largest-fills =
     pair-fills (most-fills (constant 1) refl)
-    (pair-fills (greatest-fills 18446744073709551615 (omega arith)) (table-fills feedEntry fullFeed 4 (omega arith) (omega arith) feed-fills))
+    (pair-fills (greatest-fills 18446744073709551615 (omega arith))
+    (table-fills feedEntry fullFeed 4 (omega arith) (omega arith) feed-fills))
 
 largest-valid : valid largest ≡ true
 unfolding valid within
 largest-valid =
     let w = largest-fills .keeps in
-    both (both (w 5 (omega arith) (omega arith)) (both (w 6 (omega arith) (omega arith)) (w 7 (omega arith) (omega arith))))
+    both (both (w 5 (omega arith) (omega arith))
+    (both (w 6 (omega arith) (omega arith)) (w 7 (omega arith) (omega arith))))
     (both (table-ascending texts fullFeed (λ k. name-before k (replicate 14 97) (replicate 14 97)) 0 4)
     (table-all fullFeed feedValid 4 (λ k l. feed-valid k) 0 4 (omega arith)))
 

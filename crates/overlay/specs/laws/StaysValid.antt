@@ -14,7 +14,8 @@ use Rattle.basics.specs.Lists.{All, all}
 use Rattle.formats.specs.Class.{token}
 use Rattle.formats.specs.Format.{text, number, list, optional, _&_, write}
 use Rattle.formats_judge.specs.Judged.{ok}
-use Rattle.overlay.specs.laws.Within.{Judged56, left, right, joined, elements, listed, absent, few, counted, both, fits-of}
+use Rattle.overlay.specs.laws.Within.{Judged56, left, right, joined, elements, listed, absent, few, counted, both}
+use Rattle.overlay.specs.laws.Within.{fits-of}
 use Rattle.realtime.specs.Tree.{Tree, rep}
 use Rattle.maps.specs.Map.{get, puts, ascending}
 use Rattle.maps.specs.Order.{texts}
@@ -25,14 +26,16 @@ use Rattle.decode.specs.Trip.{tripEntry, Trip}
 use Rattle.basics.specs.Options.{Maybe, orOther}
 use Rattle.decode.specs.Leaves as leaves
 use Rattle.alerts.specs.Alert.{Alert, alert}
-use Rattle.overlay.specs.State.{Feed, State, Vehicles, timestamp, vehicleEntry, feedEntry, overlay, timestampOf, countOf, tripsOf, vehiclesOf, alertsOf, versionOf, feedsOf, noFeed}
+use Rattle.overlay.specs.State.{Feed, State, Vehicles, timestamp, vehicleEntry, feedEntry, overlay, timestampOf}
+use Rattle.overlay.specs.State.{countOf, tripsOf, vehiclesOf, alertsOf, versionOf, feedsOf, noFeed}
 use Rattle.overlay.specs.Image.{room}
 use Rattle.overlay.specs.Valid.{tripValid, countValid, feedValid, within, valid, Held}
 use Rattle.overlay.specs.Change.{feedAt, putFeed, afterMessage, afterAlerts, afterVehicles}
 use Rattle.overlay.specs.Buffer.{published}
 use Rattle.overlay.specs.laws.Buffer.{held-rules, held-room}
 use Rattle.overlay.specs.laws.Keys.{either, or-right}
-use Rattle.overlay.specs.laws.EveryEntry.{each-of, all-of, each-map, each-both, each-put, each-puts, get-each, each-stale, stale-ascending}
+use Rattle.overlay.specs.laws.EveryEntry.{each-of, all-of, each-map, each-both, each-put, each-puts, get-each}
+use Rattle.overlay.specs.laws.EveryEntry.{each-stale, stale-ascending}
 
 -- ---- what is kept of each part
 
@@ -61,13 +64,15 @@ feed-kept : (e : List ℕ × Feed) → Judged56 feedEntry e → feedValid e ≡ 
 unfolding feedValid
 feed-kept (f, F) j v =
     let r = right (right (right j)) in
-    let a = both-true (ascending texts (tripsOf F)) (all (tripValid f) (tripsOf F) && (ascending texts (vehiclesOf F) && countValid f F)) v in
+    let a = both-true (ascending texts (tripsOf F))
+    (all (tripValid f) (tripsOf F) && (ascending texts (vehiclesOf F) && countValid f F)) v in
     let b = both-true (all (tripValid f) (tripsOf F)) (ascending texts (vehiclesOf F) && countValid f F) (a .1) in
     let c = both-true (ascending texts (vehiclesOf F)) (countValid f F) (b .1) in
     record {
       name = left j .five;
       stamp = left (right j);
-      trips = each-both (λ e x y. record { judged = x; valid = y }) (tripsOf F) (elements 2048 tripEntry (tripsOf F) (left r)) (each-of (tripValid f) (tripsOf F) (b .0));
+      trips = each-both (λ e x y. record { judged = x; valid = y }) (tripsOf F)
+          (elements 2048 tripEntry (tripsOf F) (left r)) (each-of (tripValid f) (tripsOf F) (b .0));
       tripsUp = a .0;
       vehicles = elements 1024 vehicleEntry (vehiclesOf F) (left (right r));
       vehiclesUp = c .0;
@@ -81,7 +86,8 @@ unfolding leaves.countWithoutAt
 count-below f [] = omega arith
 count-below f (e ∷ m) = go (leaves.hasByte 64 (f ++ 58 ∷ e .0)) (count-below f m)
   where
-    go : (b : Bool) → leaves.countWithoutAt f m ≤ length m → cond b (leaves.countWithoutAt f m) (suc (leaves.countWithoutAt f m)) ≤ suc (length m)
+    go : (b : Bool) → leaves.countWithoutAt f m ≤ length m
+        → cond b (leaves.countWithoutAt f m) (suc (leaves.countWithoutAt f m)) ≤ suc (length m)
     go true h = omega arith
     go false h = omega arith
 
@@ -95,8 +101,11 @@ count-few f F c h =
 trips-few : (e : List ℕ × Feed) → ok 7 feedEntry e ≡ true → length (tripsOf (e .1)) ≤ 2048
 trips-few e h =
     let F = e .1 in
-    let a = both-true (ok 7 (optional timestamp) (timestampOf F)) (ok 7 (list 2048 tripEntry & list 1024 vehicleEntry & list 256 alert) (F .1 .1)) h in
-    few 2048 tripEntry (tripsOf F) (both-true (ok 7 (list 2048 tripEntry) (tripsOf F)) (ok 7 (list 1024 vehicleEntry & list 256 alert) (F .1 .1 .1)) (a .1) .0)
+    let a = both-true (ok 7 (optional timestamp) (timestampOf F))
+    (ok 7 (list 2048 tripEntry & list 1024 vehicleEntry & list 256 alert) (F .1 .1)) h in
+    few 2048 tripEntry (tripsOf F)
+    (both-true (ok 7 (list 2048 tripEntry) (tripsOf F))
+    (ok 7 (list 1024 vehicleEntry & list 256 alert) (F .1 .1 .1)) (a .1) .0)
 
 feed-judged : (e : List ℕ × Feed) → FeedKept e → ok 7 feedEntry e ≡ true → Judged56 feedEntry e
 feed-judged (f, F) k h =
@@ -105,23 +114,29 @@ feed-judged (f, F) k h =
     (joined F (k .stamp)
     (joined (F .1) (record { formed = tt; five = refl; six = both (leb·zero (countOf F)) (le-leb (countOf F) 2048 c) })
     (joined (F .1 .1) (listed 2048 tripEntry (tripsOf F) (each-map (λ e x. x .judged) (tripsOf F) (k .trips)))
-    (joined (F .1 .1 .1) (listed 1024 vehicleEntry (vehiclesOf F) (k .vehicles)) (listed 256 alert (alertsOf F) (k .alerts))))))
+    (joined (F .1 .1 .1) (listed 1024 vehicleEntry (vehiclesOf F) (k .vehicles))
+    (listed 256 alert (alertsOf F) (k .alerts))))))
 
 -- and valid
 feed-valid : (e : List ℕ × Feed) → FeedKept e → feedValid e ≡ true
 unfolding feedValid
-feed-valid (f, F) k = both (k .tripsUp) (both (all-of (tripValid f) (tripsOf F) (each-map (λ e x. x .valid) (tripsOf F) (k .trips))) (both (k .vehiclesUp) (k .count)))
+feed-valid (f, F) k =
+    both (k .tripsUp)
+    (both (all-of (tripValid f) (tripsOf F) (each-map (λ e x. x .valid) (tripsOf F) (k .trips)))
+    (both (k .vehiclesUp) (k .count)))
 
 pub kept-of : (s : State) → Held s → StateKept s
 unfolding valid within
 kept-of s h =
     let j = held-rules s h .0 in
-    let a = both-true (ok 5 overlay s && (ok 6 overlay s && ok 7 overlay s)) (ascending texts (feedsOf s) && all feedValid (feedsOf s)) (h .valid) .1 in
+    let a = both-true (ok 5 overlay s && (ok 6 overlay s && ok 7 overlay s))
+    (ascending texts (feedsOf s) && all feedValid (feedsOf s)) (h .valid) .1 in
     let b = both-true (ascending texts (feedsOf s)) (all feedValid (feedsOf s)) a in
     record {
       version = left (right j) .six;
       up = b .0;
-      feeds = each-both feed-kept (feedsOf s) (elements 4 feedEntry (feedsOf s) (right (right j))) (each-of feedValid (feedsOf s) (b .1));
+      feeds = each-both feed-kept (feedsOf s) (elements 4 feedEntry (feedsOf s) (right (right j)))
+          (each-of feedValid (feedsOf s) (b .1));
     }
 
 pub held-of : (s : State) → StateKept s → ok 7 overlay s ≡ true → Held s
@@ -147,7 +162,8 @@ kept-room s k h = le-leb (length (write overlay s)) published (held-room s (held
 
 no-feed : (f : List ℕ) → ok 5 (text 16 token) f ≡ true → FeedKept (f, noFeed)
 unfolding leaves.countWithoutAt
-no-feed f h = record { name = h; stamp = absent timestamp; trips = tt; tripsUp = refl; vehicles = tt; vehiclesUp = refl; alerts = tt; count = refl }
+no-feed f h =
+    record { name = h; stamp = absent timestamp; trips = tt; tripsUp = refl; vehicles = tt; vehiclesUp = refl; alerts = tt; count = refl }
 
 at-kept : (f : List ℕ) (s : State) → ok 5 (text 16 token) f ≡ true → StateKept s → FeedKept (f, feedAt f s)
 unfolding feedAt
@@ -157,12 +173,15 @@ at-kept f s h k = go (get texts f (feedsOf s)) refl
     go none e = no-feed f h
     go (some F) e = get-each texts-order FeedKept f F (feedsOf s) (k .feeds) e
 
-put-kept : (f : List ℕ) (F : Feed) (n : ℕ) (s : State) → StateKept s → ok 6 (number 0 18446744073709551615) n ≡ true → FeedKept (f, F) → StateKept (putFeed f F n s)
+put-kept : (f : List ℕ) (F : Feed) (n : ℕ) (s : State) → StateKept s → ok 6 (number 0 18446744073709551615) n ≡ true
+    → FeedKept (f, F) → StateKept (putFeed f F n s)
 unfolding putFeed
-put-kept f F n s k v h = record { version = v; up = put-ascending texts-order f F (feedsOf s) (k .up); feeds = each-put texts FeedKept f F (feedsOf s) h (k .feeds) }
+put-kept f F n s k v h =
+    record { version = v; up = put-ascending texts-order f F (feedsOf s) (k .up); feeds = each-put texts FeedKept f F (feedsOf s) h (k .feeds) }
 
 -- AN ALERT SHEET
-pub alerts-kept : (f : List ℕ) (alerts : List Alert) (s : State) → ok 5 (text 16 token) f ≡ true → All (Judged56 alert) alerts → StateKept s → StateKept (afterAlerts f alerts s)
+pub alerts-kept : (f : List ℕ) (alerts : List Alert) (s : State) → ok 5 (text 16 token) f ≡ true
+    → All (Judged56 alert) alerts → StateKept s → StateKept (afterAlerts f alerts s)
 unfolding afterAlerts
 alerts-kept f alerts s h j k =
     let a = at-kept f s h k in
@@ -181,7 +200,8 @@ alerts-kept f alerts s h j k =
 version-kept : (n : ℕ) → ok 6 (number 0 18446744073709551615) ((n + 1) % 2 ^ 64) ≡ true
 version-kept n = both (leb·zero ((n + 1) % 2 ^ 64)) (le-leb ((n + 1) % 2 ^ 64) 18446744073709551615 (omega arith))
 
-pub vehicles-kept : (f : List ℕ) (entries : Vehicles) (clock : ℤ) (s : State) → ok 5 (text 16 token) f ≡ true → All (Judged56 vehicleEntry) entries
+pub vehicles-kept : (f : List ℕ) (entries : Vehicles) (clock : ℤ) (s : State) → ok 5 (text 16 token) f ≡ true
+    → All (Judged56 vehicleEntry) entries
     → StateKept s → StateKept (afterVehicles f entries clock s)
 unfolding afterVehicles
 vehicles-kept f entries clock s h j k =
@@ -193,14 +213,18 @@ vehicles-kept f entries clock s h j k =
       stamp = a .stamp;
       trips = a .trips;
       tripsUp = a .tripsUp;
-      vehicles = each-stale (Judged56 vehicleEntry) clock all-in (each-puts texts (Judged56 vehicleEntry) entries (vehiclesOf F) j (a .vehicles));
+      vehicles =
+          each-stale (Judged56 vehicleEntry) clock all-in
+          (each-puts texts (Judged56 vehicleEntry) entries (vehiclesOf F) j (a .vehicles));
       vehiclesUp = stale-ascending clock all-in (puts-ascending texts-order entries (vehiclesOf F) (a .vehiclesUp));
       alerts = a .alerts;
-      count = or-right (eqb (length (tripsOf F)) (leaves.countWithoutAt f (tripsOf F))) (eqb (length (tripsOf F)) (length (tripsOf F))) (eq-eqb (length (tripsOf F)) (length (tripsOf F)) refl);
+      count = or-right (eqb (length (tripsOf F)) (leaves.countWithoutAt f (tripsOf F)))
+          (eqb (length (tripsOf F)) (length (tripsOf F))) (eq-eqb (length (tripsOf F)) (length (tripsOf F)) refl);
     })
 
 -- A MESSAGE, whose entries and timestamp are within the rules
-latest-kept : (a b : Maybe ℤ) → Judged56 (optional timestamp) a → Judged56 (optional timestamp) b → Judged56 (optional timestamp) (orOther a b)
+latest-kept : (a b : Maybe ℤ) → Judged56 (optional timestamp) a → Judged56 (optional timestamp) b
+    → Judged56 (optional timestamp) (orOther a b)
 latest-kept (inl x) b p q = q
 latest-kept (inr z) b p q = p
 
@@ -213,7 +237,8 @@ module _ (f : List ℕ) (m : Tree) (old : leaves.Trips) where
   start-up h true = h
   start-up h false = refl
 
-  leaves-kept : All (TripKept f) (leaves.entries f (rep 2 m)) → All (TripKept f) old → All (TripKept f) (leaves.leaves f m old)
+  leaves-kept : All (TripKept f) (leaves.entries f (rep 2 m)) → All (TripKept f) old
+      → All (TripKept f) (leaves.leaves f m old)
   unfolding leaves.leaves
   leaves-kept e h = each-puts texts (TripKept f) (leaves.entries f (rep 2 m)) _ e (start-kept h (leaves.differential m))
 
@@ -221,7 +246,8 @@ module _ (f : List ℕ) (m : Tree) (old : leaves.Trips) where
   unfolding leaves.leaves
   leaves-up h = puts-ascending texts-order (leaves.entries f (rep 2 m)) _ (start-up h (leaves.differential m))
 
-pub message-kept : (f : List ℕ) (m : Tree) (s : State) → ok 5 (text 16 token) f ≡ true → All (TripKept f) (leaves.entries f (rep 2 m))
+pub message-kept : (f : List ℕ) (m : Tree) (s : State) → ok 5 (text 16 token) f ≡ true
+    → All (TripKept f) (leaves.entries f (rep 2 m))
     → Judged56 (optional timestamp) (leaves.timestampIn m) → StateKept s → StateKept (afterMessage f m s)
 unfolding afterMessage
 message-kept f m s h e t k =

@@ -24,7 +24,8 @@ module _ {A : Type 0} (g : ℕ → A) where
   table-length i zero = refl
   table-length i (suc n) = ap suc (table-length (suc i) n)
 
-  pub table-all : (p : A → Bool) (l : ℕ) → ((j : ℕ) → j < l → p (g j) ≡ true) → (i n : ℕ) → i + n ≤ l → all p (table g i n) ≡ true
+  pub table-all : (p : A → Bool) (l : ℕ) → ((j : ℕ) → j < l → p (g j) ≡ true) → (i n : ℕ) → i + n ≤ l
+      → all p (table g i n) ≡ true
   unfolding table
   table-all p l h i zero b = refl
   table-all p l h i (suc n) b = both (h i (omega arith)) (table-all p l h (suc i) n (omega arith))
@@ -34,10 +35,12 @@ module _ {A : Type 0} (g : ℕ → A) where
   table-every P l h i zero b = tt
   table-every P l h i (suc n) b = (h i (omega arith), table-every P l h (suc i) n (omega arith))
 
-  pub table-many : (w : A → List ℕ) (c l : ℕ) → ((j : ℕ) → j < l → length (w (g j)) ≡ c) → (i n : ℕ) → i + n ≤ l → length (manyW w (table g i n)) ≡ n * c
+  pub table-many : (w : A → List ℕ) (c l : ℕ) → ((j : ℕ) → j < l → length (w (g j)) ≡ c) → (i n : ℕ) → i + n ≤ l
+      → length (manyW w (table g i n)) ≡ n * c
   unfolding table
   table-many w c l h i zero b = sym (zero-mul c)
-  table-many w c l h i (suc n) b = rw (length-append, suc-mul n c, h i (omega arith), table-many w c l h (suc i) n (omega arith)) (omega arith)
+  table-many w c l h i (suc n) b =
+      rw (length-append, suc-mul n c, h i (omega arith), table-many w c l h (suc i) n (omega arith)) (omega arith)
 
 module _ {K A : Type 0} (O : Ordered K) (g : ℕ → K × A) (h : (j : ℕ) → O .compare (g j .0) (g (suc j) .0) ≡ Less) where
   table-above : (i n : ℕ) → above O (g i .0) (table g (suc i) n) ≡ true

@@ -9,7 +9,8 @@ use lib.ListN.{length}
 use lib.Dec.{leb, eqb}
 use borrow.Author.Tests.{leb-true, eqb-true, eqb-false}
 use Rattle.basics.specs.Lists.{All, all}
-use Rattle.formats.specs.Format.{Format, never, empty, number, signed, small, text, float, constant, list, choice, _&_, Value, takes, Fits}
+use Rattle.formats.specs.Format.{Format, never, empty, number, signed, small, text, float, constant, list, choice, _&_}
+use Rattle.formats.specs.Format.{Value, takes, Fits}
 use Rattle.formats_judge.specs.Judged.{ok}
 use Rattle.basics.specs.laws.Booleans.{both-true}
 use Rattle.formats_capacity.specs.laws.Capacity.{Keeps}
@@ -84,7 +85,8 @@ pub fits-of : (f : Format) → sensible f ≡ true → (v : Value f) → Judged5
 fits-of f s v w e = keeps-fits f s v (w .formed) (keeps f v (w .five) (w .six) e)
 
 -- what has a writing is formed
-many-formed : (f : Format) → ((v : Value f) → Fits f v → Formed f v) → (v : List (Value f)) → All (λ x. Fits f x × (takes f x ≡ true)) v → All (Formed f) v
+many-formed : (f : Format) → ((v : Value f) → Fits f v → Formed f v) → (v : List (Value f))
+    → All (λ x. Fits f x × (takes f x ≡ true)) v → All (Formed f) v
 many-formed f g [] h = tt
 many-formed f g (x ∷ v) h = (g x (h .0 .0), many-formed f g v (h .1))
 
@@ -133,7 +135,9 @@ unjudged w (small k) h v = refl
 unjudged w (text l c) h v = rw h refl
 unjudged w float h v = refl
 unjudged w (constant c) h v = refl
-unjudged w (list l f) h v = let q = neither (eqb w 7) (judges w f) h in rw (q .0) (all-true (ok w f) (unjudged w f (q .1)) v)
+unjudged w (list l f) h v = let q = neither (eqb w 7) (judges w f) h in
+    rw (q .0) (all-true (ok w f) (unjudged w f (q .1)) v)
 unjudged w (choice a b) h (inl x) = unjudged w a (neither (judges w a) (judges w b) h .0) x
 unjudged w (choice a b) h (inr y) = unjudged w b (neither (judges w a) (judges w b) h .1) y
-unjudged w (a & b) h v = let q = neither (judges w a) (judges w b) h in both (unjudged w a (q .0) (v .0)) (unjudged w b (q .1) (v .1))
+unjudged w (a & b) h v = let q = neither (judges w a) (judges w b) h in
+    both (unjudged w a (q .0) (v .0)) (unjudged w b (q .1) (v .1))

@@ -31,7 +31,8 @@ pub record Got {A : Type 0} (a : Option A) (n : ℕ) (k : A → Outcome) : Type 
   pub same : needSome a n k ≡ k value
   pub next : numberOf (k value) ≡ 0
 
-pub acceptedSome : {A : Type 0} (a : Option A) (n : ℕ) (k : A → Outcome) → 0 < n → numberOf (needSome a n k) ≡ 0 → Got a n k
+pub acceptedSome : {A : Type 0} (a : Option A) (n : ℕ) (k : A → Outcome) → 0 < n → numberOf (needSome a n k) ≡ 0
+    → Got a n k
 acceptedSome none n k l e = absurd (omega arith)
 acceptedSome (some v) n k l e = record { value = v; is = refl; same = refl; next = e }
 

@@ -37,7 +37,8 @@ record Within (s : State) (v : Value cardForm) : Type 0 where
   seven : ok 7 cardForm (finished s v) ≡ true
 
 -- of a card within questions 5 to 7, over a held state
-finished-within : (s : State) → StateKept s → ok 7 overlay s ≡ true → (v : Value cardForm) → Judged56 cardForm v → ok 7 cardForm v ≡ true → Within s v
+finished-within : (s : State) → StateKept s → ok 7 overlay s ≡ true → (v : Value cardForm) → Judged56 cardForm v
+    → ok 7 cardForm v ≡ true → Within s v
 unfolding whole finished
 finished-within s k h v j e =
     let w = finished-judged _ (shown-judged s k) v j in
@@ -54,7 +55,8 @@ finished-within s k h v j e =
 pub record Again (L : Lengths) (b : List ℕ) : Type 0 where
   pub size : ℕ
   pub zeros : drop size b ≡ replicate (length b - size) 0
-  pub yes : (old : List ℕ) (out : ℕ) (work : List ℕ) → take 5 (drop 2 (questions L old (card (take size b) out work))) ≡ replicate 5 true
+  pub yes : (old : List ℕ) (out : ℕ) (work : List ℕ)
+      → take 5 (drop 2 (questions L old (card (take size b) out work))) ≡ replicate 5 true
 
 -- a finished card w over any old buffer
 counts-again : (v : Value cardForm) → ok 7 cardForm v ≡ true → (old : List ℕ)
@@ -75,12 +77,16 @@ card-yes : (L : Lengths) (x : List ℕ) (w : Value cardForm) → length x ≤ 65
     → ok 5 cardForm w ≡ true → ok 6 cardForm w ≡ true → ok 7 cardForm w ≡ true
     → (old : List ℕ) (out : ℕ) (work : List ℕ) → take 5 (drop 2 (questions L old (card x out work))) ≡ replicate 5 true
 card-yes L x w l four five six seven old out work =
-    five-yes (le-leb (length x) 65536 l) (ap isSome four) (ap (ifAny (ok 5 cardForm)) four ∙ five) (ap (ifAny (ok 6 cardForm)) four ∙ six)
-    (ap (λ i. ifAny (λ s. ifAny (λ v. ok 7 cardForm v && ok 7 cardForm (finished s v)) i) (stateOf old)) four ∙ counts-again w seven old)
+    five-yes (le-leb (length x) 65536 l) (ap isSome four) (ap (ifAny (ok 5 cardForm)) four ∙ five)
+    (ap (ifAny (ok 6 cardForm)) four ∙ six)
+    (ap (λ i. ifAny (λ s. ifAny (λ v. ok 7 cardForm v && ok 7 cardForm (finished s v)) i) (stateOf old)) four
+    ∙ counts-again w seven old)
 
 -- the card w in a buffer of n bytes
-filled-again : (L : Lengths) (n : ℕ) (w : Value cardForm) → length (filled n (write cardForm w)) ≡ n → length (write cardForm w) ≤ 65536
-    → whole cardForm (write cardForm w) ≡ some w → ok 5 cardForm w ≡ true → ok 6 cardForm w ≡ true → ok 7 cardForm w ≡ true
+filled-again : (L : Lengths) (n : ℕ) (w : Value cardForm) → length (filled n (write cardForm w)) ≡ n
+    → length (write cardForm w) ≤ 65536
+    → whole cardForm (write cardForm w) ≡ some w → ok 5 cardForm w ≡ true → ok 6 cardForm w ≡ true
+    → ok 7 cardForm w ≡ true
     → Again L (filled n (write cardForm w))
 unfolding filled
 filled-again L n w long l four five six seven =
@@ -89,7 +95,8 @@ filled-again L n w long l four five six seven =
     record {
       size = length x;
       zeros = drop-append-seam x (replicate (n - length x) 0) ∙ ap (λ m. replicate (m - length x) 0) (sym long);
-      yes = card-yes L (take (length x) (filled n x)) w (omega (arith, ap length front)) (ap (whole cardForm) front ∙ four) five six seven;
+      yes = card-yes L (take (length x) (filled n x)) w (omega (arith, ap length front))
+          (ap (whole cardForm) front ∙ four) five six seven;
     }
 
 -- WHAT A CARD CALL GAVE, as an arriving card
@@ -98,13 +105,16 @@ pub card-again : (L : Lengths) → L .card ≤ 65536 → (old bytes : List ℕ) 
 unfolding cardCallOf
 card-again L top old bytes out work e =
     let (s, d) = opened-state L old out (L .card) work (L .cardWork) _ e in
-    let r = past-four L old out (L .card) work (L .cardWork) (leb (length bytes) 65536) (whole cardForm bytes) (arrivingOutcome L) s d e in
+    let r = past-four L old out (L .card) work (L .cardWork) (leb (length bytes) 65536) (whole cardForm bytes)
+    (arrivingOutcome L) s d e in
     let v = r .value in
     let p = passed L s v (r .next) in
     let held = state-buffer old s d .held in
-    let j : Judged56 cardForm v = record { formed = whole-formed cardForm bytes v (r .is); five = p .five; six = p .six } in
+    let j : Judged56 cardForm v =
+    record { formed = whole-formed cardForm bytes v (r .is); five = p .five; six = p .six } in
     let w = finished-within s (kept-of s held) (held-rules s held .1) v j (p .seven) in
     let q = ap (bytesOf out) (r .same ∙ p .wrote) in
     rw q
-    (filled-again L out (finished s v) (ap length (sym q) ∙ out-long L old (card bytes out work)) (omega (arith, p .eight))
+    (filled-again L out (finished s v) (ap length (sym q) ∙ out-long L old (card bytes out work))
+    (omega (arith, p .eight))
     (w .four) (w .five) (w .six) (w .seven))

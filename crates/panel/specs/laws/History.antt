@@ -15,11 +15,15 @@ use Rattle.overlay.specs.Image.{filled, room, stateOf}
 use Rattle.overlay.specs.Records.{shown}
 use Rattle.overlay.specs.laws.Buffer.{no-state}
 use Rattle.panel.specs.Outcome.{Outcome, refused, accepted, need, needSome, numberOf, bytesOf}
-use Rattle.panel.specs.Questions.{Lengths, lengthsOk, opened, whole, freshOf, messageOf, alertSheetOf, vehicleSheetOf, finished, arrivingOutcome, cardCallOf, reportOf}
-use Rattle.panel.specs.Calls.{Call, fresh, message, alertSheet, vehicleSheet, card, report, ends, outOf, gives, writes, overlayAfter, freshOverlay, run}
-use Rattle.panel.specs.Book.{Book, noBook, ifRead, fed, cardBy, says, shows, said, seen, saidAll, seenAll, History}
+use Rattle.panel.specs.Questions.{Lengths, lengthsOk, opened, whole, freshOf, messageOf, alertSheetOf}
+use Rattle.panel.specs.Questions.{vehicleSheetOf, finished, arrivingOutcome, cardCallOf, reportOf}
+use Rattle.panel.specs.Calls.{Call, fresh, message, alertSheet, vehicleSheet, card, report, ends, outOf, gives}
+use Rattle.panel.specs.Calls.{writes, overlayAfter, freshOverlay, run}
+use Rattle.panel.specs.Book.{Book, noBook, ifRead, fed, cardBy, says, shows, said, seen, saidAll, seenAll}
+use Rattle.panel.specs.Book.{History}
 use Rattle.panel.specs.laws.Accepts.{passed}
-use Rattle.panel.specs.laws.Left.{Holds, Leaves, past-four, fresh-leaves, fresh-accepted, message-leaves, sheet-leaves, position-leaves, written}
+use Rattle.panel.specs.laws.Left.{Holds, Leaves, past-four, fresh-leaves, fresh-accepted, message-leaves}
+use Rattle.panel.specs.laws.Left.{sheet-leaves, position-leaves, written}
 
 -- ---- the overlay and the book go on together
 
@@ -35,33 +39,44 @@ stays : (old : List ℕ) (bk : Book) (t : Bool) → Holds old bk → Holds old (
 stays old bk true h = h
 stays old bk false h = h
 
-step : (L : Lengths) (old : List ℕ) (bk : Book) (c : Call) → Holds old bk → Holds (overlayAfter old c (gives L old c)) (fed bk c (gives L old c .number))
+step : (L : Lengths) (old : List ℕ) (bk : Book) (c : Call) → Holds old bk
+    → Holds (overlayAfter old c (gives L old c)) (fed bk c (gives L old c .number))
 step L old bk (fresh new) h = goes-on old bk noBook new (freshOf L new) h (fresh-leaves L new)
-step L old bk (message f m new work) h = goes-on old bk _ new (messageOf L old f m new work) h (message-leaves L old bk f m new work h)
-step L old bk (alertSheet f sheet new work) h = goes-on old bk _ new (alertSheetOf L old f sheet new work) h (sheet-leaves L old bk f sheet new work h)
-step L old bk (vehicleSheet f sheet clock new work) h = goes-on old bk _ new (vehicleSheetOf L old f sheet clock new work) h (position-leaves L old bk f sheet clock new work h)
+step L old bk (message f m new work) h =
+    goes-on old bk _ new (messageOf L old f m new work) h (message-leaves L old bk f m new work h)
+step L old bk (alertSheet f sheet new work) h =
+    goes-on old bk _ new (alertSheetOf L old f sheet new work) h (sheet-leaves L old bk f sheet new work h)
+step L old bk (vehicleSheet f sheet clock new work) h =
+    goes-on old bk _ new (vehicleSheetOf L old f sheet clock new work) h
+    (position-leaves L old bk f sheet clock new work h)
 step L old bk (card bytes out work) h = stays old bk (eqb (numberOf (cardCallOf L old bytes out work)) 0) h
 step L old bk (report f out) h = stays old bk (eqb (numberOf (reportOf L old f out)) 0) h
 
 -- ---- and the book says what each call gives
 
 -- a card
-arriving-says : (L : Lengths) (s : State) (v : Value cardForm) → numberOf (arrivingOutcome L s v) ≡ 0 → arrivingOutcome L s v ≡ accepted (cardBy (shown s) v)
+arriving-says : (L : Lengths) (s : State) (v : Value cardForm) → numberOf (arrivingOutcome L s v) ≡ 0
+    → arrivingOutcome L s v ≡ accepted (cardBy (shown s) v)
 unfolding finished
 arriving-says L s v e = passed L s v e .wrote
 
-card-read : {o : Option (Value cardForm)} {v : Value cardForm} {a b : Book} (out : ℕ) → o ≡ some v → a ≡ b → filled out (cardBy a v) ≡ filled out (ifRead o [] (cardBy b))
-card-read {v = v} {b = b} out e q = ap (λ bk. filled out (cardBy bk v)) q ∙ ap (λ o. filled out (ifRead o [] (cardBy b))) (sym e)
+card-read : {o : Option (Value cardForm)} {v : Value cardForm} {a b : Book} (out : ℕ) → o ≡ some v → a ≡ b
+    → filled out (cardBy a v) ≡ filled out (ifRead o [] (cardBy b))
+card-read {v = v} {b = b} out e q =
+    ap (λ bk. filled out (cardBy bk v)) q ∙ ap (λ o. filled out (ifRead o [] (cardBy b))) (sym e)
 
-card-says : (L : Lengths) (old : List ℕ) (bk : Book) (bytes : List ℕ) (out : ℕ) (work : List ℕ) → Holds old bk → numberOf (cardCallOf L old bytes out work) ≡ 0
+card-says : (L : Lengths) (old : List ℕ) (bk : Book) (bytes : List ℕ) (out : ℕ) (work : List ℕ) → Holds old bk
+    → numberOf (cardCallOf L old bytes out work) ≡ 0
     → bytesOf out (cardCallOf L old bytes out work) ≡ filled out (ifRead (whole cardForm bytes) [] (cardBy bk))
 unfolding cardCallOf
 card-says L old bk bytes out work h e =
-    let r = past-four L old out (L .card) work (L .cardWork) (leb (length bytes) 65536) (whole cardForm bytes) (arrivingOutcome L) (h .state) (h .is) e in
+    let r = past-four L old out (L .card) work (L .cardWork) (leb (length bytes) 65536) (whole cardForm bytes)
+    (arrivingOutcome L) (h .state) (h .is) e in
     ap (bytesOf out) (r .same ∙ arriving-says L (h .state) (r .value) (r .next)) ∙ card-read out (r .is) (h .same)
 
 -- what an accepted call shows, and a refused one
-accepted-says : (L : Lengths) (old : List ℕ) (bk : Book) (c : Call) → Holds old bk → numberOf (ends L old c) ≡ 0 → shows c (gives L old c) ≡ says bk c
+accepted-says : (L : Lengths) (old : List ℕ) (bk : Book) (c : Call) → Holds old bk → numberOf (ends L old c) ≡ 0
+    → shows c (gives L old c) ≡ says bk c
 accepted-says L old bk (fresh new) h e = refl
 accepted-says L old bk (message f m new work) h e = refl
 accepted-says L old bk (alertSheet f sheet new work) h e = refl
@@ -73,11 +88,13 @@ refused-zeros : (n : ℕ) (o : Outcome) → eqb (numberOf o) 0 ≡ false → byt
 refused-zeros n (refused k) e = refl
 refused-zeros n (accepted x) e = absurd (false≢true (sym e))
 
-head-says : (L : Lengths) (old : List ℕ) (bk : Book) (c : Call) → Holds old bk → seen c (gives L old c) ≡ said bk c (gives L old c .number)
+head-says : (L : Lengths) (old : List ℕ) (bk : Book) (c : Call) → Holds old bk
+    → seen c (gives L old c) ≡ said bk c (gives L old c .number)
 head-says L old bk c h = go (eqb (numberOf (ends L old c)) 0) refl
   where
     go : (t : Bool) → eqb (numberOf (ends L old c)) 0 ≡ t
-        → cond t (shows c (gives L old c)) (bytesOf (outOf c) (ends L old c)) ≡ cond t (says bk c) (replicate (outOf c) 0)
+        → cond t (shows c (gives L old c)) (bytesOf (outOf c) (ends L old c)) ≡
+        cond t (says bk c) (replicate (outOf c) 0)
     go true e = accepted-says L old bk c h (eqb-true (numberOf (ends L old c)) 0 e)
     go false e = refused-zeros (outOf c) (ends L old c) e
 
@@ -93,7 +110,8 @@ module _ (L : Lengths) (tight : room (L .overlay) noState ≡ false) where
   unfolding freshOf
   fresh-refused new = go (eqb new (L .overlay)) refl
     where
-      go : (b : Bool) → eqb new (L .overlay) ≡ b → eqb (numberOf (need (b && room new noState) 1 (accepted (write overlay noState)))) 0 ≡ false
+      go : (b : Bool) → eqb new (L .overlay) ≡ b
+          → eqb (numberOf (need (b && room new noState) 1 (accepted (write overlay noState)))) 0 ≡ false
       go true e = let z : new ≡ L .overlay = eqb-true new (L .overlay) e in rw (z, tight) refl
       go false e = refl
 
@@ -123,7 +141,8 @@ module _ (L : Lengths) (tight : room (L .overlay) noState ≡ false) where
     refused-says bk c = go (eqb (numberOf (ends L old c)) 0) (call-refused c)
       where
         go : (t : Bool) → t ≡ false
-            → cond t (shows c (gives L old c)) (bytesOf (outOf c) (ends L old c)) ≡ cond t (says bk c) (replicate (outOf c) 0)
+            → cond t (shows c (gives L old c)) (bytesOf (outOf c) (ends L old c)) ≡
+            cond t (says bk c) (replicate (outOf c) 0)
         go t e = rw e (refused-zeros (outOf c) (ends L old c) (call-refused c))
 
   from-nothing : (old : List ℕ) (bk : Book) → stateOf old ≡ none → (cs : List Call) → History L old bk cs
@@ -131,15 +150,18 @@ module _ (L : Lengths) (tight : room (L .overlay) noState ≡ false) where
   from-nothing old bk h [] = refl
   from-nothing old bk h (c ∷ cs) =
       ap₂ _∷_ (refused-says old h bk c)
-      (from-nothing _ _ (still-none old h (writes c) (eqb (gives L old c .number) 0) (gives L old c .out) (call-refused old h c)) cs)
+      (from-nothing _ _
+      (still-none old h (writes c) (eqb (gives L old c .number) 0) (gives L old c .out) (call-refused old h c)) cs)
 
   fresh-none : stateOf (freshOverlay L) ≡ none
-  fresh-none = ap stateOf (refused-zeros (L .overlay) (freshOf L (L .overlay)) (fresh-refused (L .overlay))) ∙ no-state (L .overlay)
+  fresh-none = ap stateOf (refused-zeros (L .overlay) (freshOf L (L .overlay)) (fresh-refused (L .overlay)))
+      ∙ no-state (L .overlay)
 
 -- THE HISTORY: of every list of calls, from what a fresh call writes
 pub history : (L : Lengths) (cs : List Call) → History L (freshOverlay L) noBook cs
 history L cs = go (room (L .overlay) noState) refl
   where
     go : (b : Bool) → room (L .overlay) noState ≡ b → History L (freshOverlay L) noBook cs
-    go true h = from-here L (freshOverlay L) noBook (written (L .overlay) (fresh-leaves L (L .overlay) (fresh-accepted L h))) cs
+    go true h =
+        from-here L (freshOverlay L) noBook (written (L .overlay) (fresh-leaves L (L .overlay) (fresh-accepted L h))) cs
     go false h = from-nothing L h (freshOverlay L) noBook (fresh-none L h) cs

@@ -36,13 +36,19 @@ use Rattle.basics.specs.Rows.{Holds}
 use Rattle.panel.specs.laws.Sizes.{out-long}
 
 table-holds : Holds table
-unfolding table tripsFrom run questions.freshOf questions.messageOf questions.treeOutcome questions.cardCallOf questions.arrivingOutcome questions.finished questions.whole
-    image.stateOf image.filled image.room valid.valid valid.within valid.feedValid shown change.afterMessage change.feedAt change.putFeed
+unfolding table tripsFrom run questions.freshOf questions.messageOf questions.treeOutcome questions.cardCallOf
+    questions.arrivingOutcome questions.finished questions.whole
+    image.stateOf image.filled image.room valid.valid valid.within valid.feedValid shown change.afterMessage
+    change.feedAt change.putFeed
     leaves.leaves leaves.entries leaves.countWithoutAt
-    tree nest feed fieldRows wire.fields wire.many wire.field wire.value wire.payload wire.until wire.lengthDelimited wire.bytes wire.key wire.varint wire.digits lexOf
-    lookup.firstThat lookup.feed-of lookup.trip-at lookup.get-trip lookup.find-stop-update lookup.resolve-trip-rt lookup.get-vehicle-for-trip lookup.vehicle-for-trip lookup.stop-update-by-stop-id
-    times.apply-time enrich.trip-rt enrich.cancels enrich.departs enrich.arrives enrich.live enrich.late enrich.applies enrich.alerts-of enrich.disrupted
-    enrich.enrichMiddle enrich.enrichTransit enrich.status-of enrich.labels-of enrich.headers-of enrich.enrich-with-realtime
+    tree nest feed fieldRows wire.fields wire.many wire.field wire.value wire.payload wire.until wire.lengthDelimited
+    wire.bytes wire.key wire.varint wire.digits lexOf
+    lookup.firstThat lookup.feed-of lookup.trip-at lookup.get-trip lookup.find-stop-update lookup.resolve-trip-rt
+    lookup.get-vehicle-for-trip lookup.vehicle-for-trip lookup.stop-update-by-stop-id
+    times.apply-time enrich.trip-rt enrich.cancels enrich.departs enrich.arrives enrich.live enrich.late enrich.applies
+    enrich.alerts-of enrich.disrupted
+    enrich.enrichMiddle enrich.enrichTransit enrich.status-of enrich.labels-of enrich.headers-of
+    enrich.enrich-with-realtime
     isSummer leapDay yearFrom monthFrom
 table-holds = (refl, (refl, (refl, (refl, (refl, (refl, (refl, (refl, (refl, (refl, tt))))))))))
 
@@ -72,9 +78,12 @@ module _ (L : Lengths) where
 
   -- what stands behind the second question
   arriving-same : 15 ≤ L .card
-      → need (leb (length emptyCard) 65536) 3 (needSome (questions.whole cardForm emptyCard) 4 (questions.arrivingOutcome L noState)) ≡ accepted emptyCard
-  unfolding questions.whole questions.arrivingOutcome questions.finished shown enrich.enrich-with-realtime enrich.enrichTransit enrich.enrichMiddle
-      enrich.status-of enrich.labels-of enrich.headers-of enrich.cancels enrich.late enrich.disrupted enrich.live enrich.alerts-of
+      → need (leb (length emptyCard) 65536) 3
+      (needSome (questions.whole cardForm emptyCard) 4 (questions.arrivingOutcome L noState)) ≡ accepted emptyCard
+  unfolding questions.whole questions.arrivingOutcome questions.finished shown enrich.enrich-with-realtime
+      enrich.enrichTransit enrich.enrichMiddle
+      enrich.status-of enrich.labels-of enrich.headers-of enrich.cancels enrich.late enrich.disrupted enrich.live
+      enrich.alerts-of
   arriving-same long = rw (le-leb 15 (L .card) long) refl
 
   empty-same : 3 ≤ L .overlay → 15 ≤ L .card

@@ -27,7 +27,10 @@ use Rattle.overlay.specs.Report as report
 use Rattle.overlay.specs.laws.Buffer.{filled-length}
 use Rattle.journey.specs.Card.{card as cardForm}
 use Rattle.panel.specs.Outcome.{Outcome, refused, accepted, need, needSome, bytesOf}
-use Rattle.panel.specs.Questions.{Lengths, publishedLengths, lengthsOk, opened, countsFit, changedState, freshFits, feedOk, whole, treeOutcome, freshOf, messageOf, alertsOutcome, alertSheetOf, vehiclesIn, vehiclesOutcome, vehicleSheetOf, finished, arrivingOutcome, cardCallOf, reportOf}
+use Rattle.panel.specs.Questions.{Lengths, publishedLengths, lengthsOk, opened, countsFit, changedState}
+use Rattle.panel.specs.Questions.{freshFits, feedOk, whole, treeOutcome, freshOf, messageOf, alertsOutcome}
+use Rattle.panel.specs.Questions.{alertSheetOf, vehiclesIn, vehiclesOutcome, vehicleSheetOf, finished}
+use Rattle.panel.specs.Questions.{arrivingOutcome, cardCallOf, reportOf}
 use Rattle.panel.specs.Calls.{Call, fresh, message, alertSheet, vehicleSheet, card, report, ends, outOf, gives}
 
 -- what is written has room in n bytes
@@ -44,7 +47,8 @@ asked : {n : ℕ} {o : Outcome} (k : ℕ) (b : Bool) → (b ≡ true → Room n 
 asked k true h = h refl
 asked {n} k false h = nothing n k
 
-askedSome : {n : ℕ} {A : Type 0} {o : A → Outcome} (k : ℕ) (a : Option A) → ((v : A) → Room n (o v)) → Room n (needSome a k o)
+askedSome : {n : ℕ} {A : Type 0} {o : A → Outcome} (k : ℕ) (a : Option A) → ((v : A) → Room n (o v))
+    → Room n (needSome a k o)
 askedSome {n} k none h = nothing n k
 askedSome k (some v) h = h v
 
@@ -56,7 +60,8 @@ changed-room : (n : ℕ) (s : State) → Room n (changedState n s)
 changed-room n s = asked 7 (countsFit n s) (λ e. wrote (room-of n s (both-true (ok 7 overlay s) (room n s) e .1)))
 
 -- question 1 says that the output is as long as is due
-opened-room : (L : Lengths) (old : List ℕ) (out due : ℕ) (work workDue : List ℕ) (k : State → Outcome) → ((s : State) → Room due (k s))
+opened-room : (L : Lengths) (old : List ℕ) (out due : ℕ) (work workDue : List ℕ) (k : State → Outcome)
+    → ((s : State) → Room due (k s))
     → Room out (opened L old out due work workDue k)
 opened-room L old out due work workDue k h = asked 1 (lengthsOk L old out due work workDue) (λ e.
     let q = both-true (eqb (length old) (L .overlay)) (eqb out due && same work workDue) e in
@@ -72,9 +77,11 @@ unfolding report.report
 report-long f s = omega (arith, stamped-long (timestampOf (feedAt f s)))
 
 call-room : (L : Lengths) (old : List ℕ) (c : Call) → Room (outOf c) (ends L old c)
-unfolding freshOf messageOf treeOutcome alertSheetOf alertsOutcome vehicleSheetOf vehiclesOutcome cardCallOf arrivingOutcome reportOf
+unfolding freshOf messageOf treeOutcome alertSheetOf alertsOutcome vehicleSheetOf vehiclesOutcome cardCallOf
+    arrivingOutcome reportOf
 call-room L old (fresh new) =
-    asked 1 (freshFits L new) (λ e. wrote (room-of new noState (both-true (eqb new (L .overlay)) (room new noState) e .1)))
+    asked 1 (freshFits L new)
+    (λ e. wrote (room-of new noState (both-true (eqb new (L .overlay)) (room new noState) e .1)))
 call-room L old (message f m new work) =
     opened-room L old new (L .overlay) work (L .messageWork) _ (λ s.
     asked 3 (leb (length m) 1048576) (λ a.
@@ -91,7 +98,8 @@ call-room L old (vehicleSheet f sheet clock new work) =
     asked 3 (leb (length sheet) 1048576) (λ a.
     askedSome 4 (vehiclesIn sheet) (λ v.
     asked 5 (feedOk f && ok 5 vehicleForm v) (λ b.
-    asked 6 (ok 6 vehicleForm v && ok 6 instant clock) (λ c. changed-room (L .overlay) (afterVehicles f (v .1) clock s))))))
+    asked 6 (ok 6 vehicleForm v && ok 6 instant clock)
+    (λ c. changed-room (L .overlay) (afterVehicles f (v .1) clock s))))))
 call-room L old (card bytes out work) =
     opened-room L old out (L .card) work (L .cardWork) _ (λ s.
     asked 3 (leb (length bytes) 65536) (λ a.
@@ -99,8 +107,10 @@ call-room L old (card bytes out work) =
     asked 5 (ok 5 cardForm v) (λ b.
     asked 6 (ok 6 cardForm v) (λ c.
     asked 7 (ok 7 cardForm v && ok 7 cardForm (finished s v)) (λ d.
-    asked 8 (leb (length (write cardForm (finished s v))) (L .card)) (λ e. wrote (leb-true (length (write cardForm (finished s v))) (L .card) e))))))))
-call-room L old (report f out) = opened-room L old out 25 [] [] _ (λ s. asked 5 (feedOk f) (λ e. wrote (report-long f s)))
+    asked 8 (leb (length (write cardForm (finished s v))) (L .card))
+    (λ e. wrote (leb-true (length (write cardForm (finished s v))) (L .card) e))))))))
+call-room L old (report f out) =
+    opened-room L old out 25 [] [] _ (λ s. asked 5 (feedOk f) (λ e. wrote (report-long f s)))
 
 bytes-long : (n : ℕ) (o : Outcome) → Room n o → length (bytesOf n o) ≡ n
 bytes-long n (refused k) h = length-replicate n 0

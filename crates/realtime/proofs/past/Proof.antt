@@ -13,4 +13,6 @@ past-spec =
     (tie.spec
     (λ c κs. search needs)
     (λ c κs. search needs)
-    (λ c. let a = c .before .before .before .args in c .skip .ensures ∙ ap (λ x. skippedAt x (a .from .at) (a .field) (a .wire) 16) (c .before .part .ensures ∙ take-length (now (a .s)))))
+    (λ c. let a = c .before .before .before .args in c .skip .ensures
+    ∙ ap (λ x. skippedAt x (a .from .at) (a .field) (a .wire) 16)
+    (c .before .part .ensures ∙ take-length (now (a .s)))))

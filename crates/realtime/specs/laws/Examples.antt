@@ -16,7 +16,8 @@ use Rattle.realtime.specs.declared.Verdict.{Verdict}
 cancelled : List ℕ
 cancelled = 0x12 ∷ 0x0d ∷ 0x1a ∷ 0x0b ∷ 0x0a ∷ 0x09 ∷ 0x0a ∷ 0x01 ∷ 0x31 ∷ 0x20 ∷ 0x83 ∷ 0x80 ∷ 0x80 ∷ 0x80 ∷ 0x10 ∷ []
 
-cancelled-tree : tree feed 0 cancelled ≡ some (msg 2 2 (msg 3 3 (msg 1 4 (txt 1 (0x31 ∷ []) (num 4 4294967299 end)) end) end) end)
+cancelled-tree : tree feed 0 cancelled ≡
+    some (msg 2 2 (msg 3 3 (msg 1 4 (txt 1 (0x31 ∷ []) (num 4 4294967299 end)) end) end) end)
 unfolding cancelled tree nest feed fieldRows fields many field value payload lengthDelimited bytes key varint digits
 cancelled-tree = refl
 
@@ -72,15 +73,18 @@ unfolding tree nest feed fieldRows fields many field value payload lengthDelimit
 wrong-type = refl
 
 -- a time of -1 is a bad time, and a bad id before it or behind it is asked first
-time-bad : asked rules 6 (tree feed 6 (0x10 ∷ 0xff ∷ 0xff ∷ 0xff ∷ 0xff ∷ 0xff ∷ 0xff ∷ 0xff ∷ 0xff ∷ 0xff ∷ 0x01 ∷ [])) ≡ Verdict.Time
+time-bad : asked rules 6
+    (tree feed 6 (0x10 ∷ 0xff ∷ 0xff ∷ 0xff ∷ 0xff ∷ 0xff ∷ 0xff ∷ 0xff ∷ 0xff ∷ 0xff ∷ 0x01 ∷ [])) ≡ Verdict.Time
 unfolding tree nest feed fieldRows fields many field value payload lengthDelimited bytes key varint digits
 time-bad = refl
 
-id-first : asked rules 5 (tree feed 5 (0x12 ∷ 0x06 ∷ 0x10 ∷ 0xff ∷ 0xff ∷ 0xff ∷ 0xff ∷ 0x7f ∷ 0x22 ∷ 0x01 ∷ 0x07 ∷ [])) ≡ Verdict.Text
+id-first : asked rules 5
+    (tree feed 5 (0x12 ∷ 0x06 ∷ 0x10 ∷ 0xff ∷ 0xff ∷ 0xff ∷ 0xff ∷ 0x7f ∷ 0x22 ∷ 0x01 ∷ 0x07 ∷ [])) ≡ Verdict.Text
 unfolding tree nest feed fieldRows fields many field value payload lengthDelimited bytes key varint digits
 id-first = refl
 
--- an entity with an empty trip_update gains field 1, which is not listed there, and inside the trip_update a group, which makes it longer: its length in two bytes
+-- an entity with an empty trip_update gains field 1, which is not listed there, and inside the trip_update a group,
+-- which makes it longer: its length in two bytes
 few : List ℕ
 few = 0x1a ∷ 0x00 ∷ []
 

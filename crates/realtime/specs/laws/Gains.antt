@@ -31,7 +31,8 @@ text-front n k l p a K L =
 pub gains-same-tree : {σ : Schema} {t : ℕ} {x y : List ℕ} → Gains σ t x y → tree σ t y ≡ tree σ t x
 gains-same-tree same = refl
 gains-same-tree {σ} {t} (keep {a = a} {b = b} f x w g) =
-    tree-front σ t f x b w ∙ ap (addField (tree σ) (σ t (x .number)) x) (gains-same-tree g) ∙ sym (tree-front σ t f x a w)
+    tree-front σ t f x b w ∙ ap (addField (tree σ) (σ t (x .number)) x) (gains-same-tree g)
+    ∙ sym (tree-front σ t f x a w)
 gains-same-tree {σ} {t} (gain {b = b} f x w h g) =
     tree-front σ t f x b w ∙ ap (λ k. addField (tree σ) k x (tree σ t b)) h ∙ gains-same-tree g
 gains-same-tree {σ} {t} (inside {a = a} {b = b} n u k l l′ p p′ K L L′ h g g′) =

@@ -24,7 +24,8 @@ textBehind s at w = cond (eqb w 2) (textAt s at) GotText.Broken
 abbrev pub seen : Schema → ℕ → List ℕ → Step → Option Tree
 seen σ t s (Step.Number f v n) = Option·map (num f v) (tree σ t (drop n s))
 seen σ t s (Step.Text f i l n) = Option·map (txt f (take l (drop i s))) (tree σ t (drop n s))
-seen σ t s (Step.Message f u i l n) = bindO (tree σ u (take l (drop i s))) (λ m. Option·map (msg f u m) (tree σ t (drop n s)))
+seen σ t s (Step.Message f u i l n) =
+    bindO (tree σ u (take l (drop i s))) (λ m. Option·map (msg f u m) (tree σ t (drop n s)))
 seen σ t s Step.End = some end
 seen σ t s Step.Broken = none
 

@@ -8,7 +8,8 @@ use Rattle.realtime_vectors.proofs.bytes_of.Statement.{statement}
 use Rattle.realtime_vectors.proofs.bytes_of.Tie as tie
 
 abbrev Inv-loop : tie.InvT-loop
-Inv-loop line out₀ n₀ high₀ i₀ out n high i = (length out ≡ length out₀) × (n ≤ length out) × (n ≤ i) × (high ≤ 16) × (i ≤ length line)
+Inv-loop line out₀ n₀ high₀ i₀ out n high i =
+    (length out ≡ length out₀) × (n ≤ length out) × (n ≤ i) × (high ≤ 16) × (i ≤ length line)
 
 abbrev μ-loop : tie.MeasureT-loop
 μ-loop line out₀ n₀ high₀ i₀ out n high i = length line - i

@@ -15,5 +15,7 @@ delay-from-spec =
     tie.close
     (tie.spec
     (λ c κs. search needs)
-    (λ c. let a = c .before .before .before .args in rw (eq-eqb (a .n .given) 1 (c .before .if1 .taken)) (ap Delay.Given (held w32 (a .n .value % 4294967296) (record { fits = omega arith }) (c .int32 .ensures))))
+    (λ c. let a = c .before .before .before .args in
+    rw (eq-eqb (a .n .given) 1 (c .before .if1 .taken))
+    (ap Delay.Given (held w32 (a .n .value % 4294967296) (record { fits = omega arith }) (c .int32 .ensures))))
     (λ c. rw (ne-eqb _ 1 (c .if1 .left))))

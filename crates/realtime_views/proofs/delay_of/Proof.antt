@@ -18,6 +18,8 @@ delay-of-spec =
     (λ c κs. search needs)
     (λ c. search needs)
     (λ c. search needs)
-    (λ c. ap Delay.Given (held w32 (c .before .before .x .given .0 .0 % 4294967296) (record { fits = omega arith }) (c .int32 .ensures)) ∙ ap toDelay (sym (c .before .before .x .given .1)))
+    (λ c. ap Delay.Given
+    (held w32 (c .before .before .x .given .0 .0 % 4294967296) (record { fits = omega arith }) (c .int32 .ensures))
+    ∙ ap toDelay (sym (c .before .before .x .given .1)))
     (λ c. search needs)
     (λ c. search needs))

@@ -16,6 +16,9 @@ header-of-spec =
     tie.close
     (tie.spec
     (λ c κs. search needs)
-    (λ c κs. subst (Ready scalars (now (c .before .before .args .s)) 0) (sym (c .nothing .ensures)) (blank-start (now (c .before .before .args .s)) 0 (omega arith)))
+    (λ c κs. subst (Ready scalars (now (c .before .before .args .s)) 0) (sym (c .nothing .ensures))
+    (blank-start (now (c .before .before .args .s)) 0 (omega arith)))
     (λ c κs. search needs)
-    (λ c. header-read (lasting-whole (now (c .before .before .before .before .args .s)) (1 ∷ []) (c .before .before .nothing .ensures) (c .before .over-field .ensures)) (c .header-from .ensures)))
+    (λ c. header-read
+    (lasting-whole (now (c .before .before .before .before .args .s)) (1 ∷ [])
+    (c .before .before .nothing .ensures) (c .before .over-field .ensures)) (c .header-from .ensures)))

@@ -1,4 +1,5 @@
--- `realtime_views::int32` meets its contract: below the half as it stands, above it by the bits that are lacking. Assumes nothing.
+-- `realtime_views::int32` meets its contract: below the half as it stands, above it by the bits that are lacking.
+-- Assumes nothing.
 use borrow.Author.Needs.{needs}
 use Prim.Native.Nat.{_-_, _%_}
 use native.Mathlib.Omega.{arith}
@@ -15,5 +16,7 @@ int32-spec =
     (λ c. search needs)
     (λ c. search needs)
     (λ c. search needs)
-    (λ c. upper-fits w32 (4294967295 - c .before .args .n % 4294967296) (c .before .args .n % 4294967296) (omega arith) (omega arith))
-    (λ c. upper-is w32 (4294967295 - c .before .args .n % 4294967296) (c .before .args .n % 4294967296) (omega arith) (omega arith) (omega arith)))
+    (λ c. upper-fits w32 (4294967295 - c .before .args .n % 4294967296) (c .before .args .n % 4294967296) (omega arith)
+    (omega arith))
+    (λ c. upper-is w32 (4294967295 - c .before .args .n % 4294967296) (c .before .args .n % 4294967296) (omega arith)
+    (omega arith) (omega arith)))

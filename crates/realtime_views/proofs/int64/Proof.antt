@@ -1,4 +1,5 @@
--- `realtime_views::int64` meets its contract: below the half as it stands, above it by the bits that are lacking. Assumes nothing.
+-- `realtime_views::int64` meets its contract: below the half as it stands, above it by the bits that are lacking.
+-- Assumes nothing.
 use borrow.Author.Needs.{needs}
 use Prim.Native.Nat.{_-_}
 use native.Mathlib.Omega.{arith}
@@ -16,4 +17,5 @@ int64-spec =
     (λ c. search needs)
     (λ c. search needs)
     (λ c. upper-fits w64 (18446744073709551615 - c .before .args .n) (c .before .args .n) (omega arith) (omega arith))
-    (λ c. upper-is w64 (18446744073709551615 - c .before .args .n) (c .before .args .n) (omega arith) (omega arith) (omega arith)))
+    (λ c. upper-is w64 (18446744073709551615 - c .before .args .n) (c .before .args .n) (omega arith) (omega arith)
+    (omega arith)))

@@ -12,5 +12,8 @@ is-deleted-spec =
     (tie.spec
     (λ c. search needs)
     (λ c κs. search needs)
-    (λ c κs. let a = c .before .before .args in deleted-ready (now (a .s)) (a .start) (a .len) (c .before .before .pre) (c .part .ensures))
-    (λ c. let a = c .before .before .before .args in deleted-read (now (a .s)) (a .start) (a .len) (c .before .before .before .pre) (c .before .part .ensures) (c .last-number .ensures) refl))
+    (λ c κs. let a = c .before .before .args in
+    deleted-ready (now (a .s)) (a .start) (a .len) (c .before .before .pre) (c .part .ensures))
+    (λ c. let a = c .before .before .before .args in
+    deleted-read (now (a .s)) (a .start) (a .len) (c .before .before .before .pre) (c .before .part .ensures)
+    (c .last-number .ensures) refl))

@@ -14,7 +14,8 @@ use Rattle.realtime_views.proofs.last_number.Statement.{statement}
 use Rattle.realtime_views.proofs.last_number.Tie as tie
 
 abbrev Inv-loop : tie.InvT-loop
-Inv-loop s from message k at₀ last₀ at last = Reading (plain (λ n. n)) (taking (orZeroAt k)) feed message s from 0 at last
+Inv-loop s from message k at₀ last₀ at last =
+    Reading (plain (λ n. n)) (taking (orZeroAt k)) feed message s from 0 at last
 
 abbrev μ-loop : tie.MeasureT-loop
 μ-loop s from message k at₀ last₀ at last = length s - at
@@ -28,17 +29,36 @@ last-number-spec =
     (λ c. begins (record { inside = c .before .pre .inside; within = tt }))
     (λ c κs. tt)
     (λ c. search needs)
-    (λ c. stops (c .before .before .before .loop .inv) (step-is (c .before .before .next .ensures) (c .enum-told .given .1)))
+    (λ c. stops (c .before .before .before .loop .inv)
+    (step-is (c .before .before .next .ensures) (c .enum-told .given .1)))
     (λ c. search needs)
-    (λ c. says (c .before .before .before .loop .inv) (step-is (c .before .before .next .ensures) (c .enum-told2 .given .1)))
+    (λ c. says (c .before .before .before .loop .inv)
+    (step-is (c .before .before .next .ensures) (c .enum-told2 .given .1)))
     (λ c. search needs)
-    (λ c. let S = (step-is (c .before .before .before .before .next .ensures) (c .before .before .field .given .1)) in omega (arith, S .forward))
-    (λ c. mine-number (orZeroAt (c .before .before .before .before .before .before .before .args .k)) (c .before .before .before .before .before .loop .inv) (step-is (c .before .before .before .before .next .ensures) (c .before .before .field .given .1)) (c .if1 .taken) refl tt)
-    (λ c. let S = (step-is (c .before .before .before .before .next .ensures) (c .before .before .field .given .1)) in omega (arith, S .forward))
-    (λ c. other-number (orZeroAt (c .before .before .before .before .before .before .before .args .k)) (c .before .before .before .before .before .loop .inv) (step-is (c .before .before .before .before .next .ensures) (c .before .before .field .given .1)) (c .if1 .left))
+    (λ c. let S = (step-is (c .before .before .before .before .next .ensures) (c .before .before .field .given .1)) in
+    omega (arith, S .forward))
+    (λ c. mine-number (orZeroAt (c .before .before .before .before .before .before .before .args .k))
+    (c .before .before .before .before .before .loop .inv)
+    (step-is (c .before .before .before .before .next .ensures) (c .before .before .field .given .1))
+    (c .if1 .taken) refl tt)
+    (λ c. let S = (step-is (c .before .before .before .before .next .ensures) (c .before .before .field .given .1)) in
+    omega (arith, S .forward))
+    (λ c. other-number (orZeroAt (c .before .before .before .before .before .before .before .args .k))
+    (c .before .before .before .before .before .loop .inv)
+    (step-is (c .before .before .before .before .next .ensures) (c .before .before .field .given .1))
+    (c .if1 .left))
     (λ c. search needs)
-    (λ c. let S = (step-is (c .before .before .before .next .ensures) (c .before .after .given .1)) in omega (arith, S .forward))
-    (λ c. let S = (step-is (c .before .before .before .next .ensures) (c .before .after .given .1)) in other-text (orZeroAt (c .before .before .before .before .before .before .args .k)) (c .before .before .before .before .loop .inv) S (λ e. clash (c .before .before .before .before .before .before .args .message) (c .before .before .before .before .before .before .args .k) _ (c .before .before .before .before .before .before .pre .listed) (S .typed) (sym e)))
+    (λ c. let S = (step-is (c .before .before .before .next .ensures) (c .before .after .given .1)) in
+    omega (arith, S .forward))
+    (λ c. let S = (step-is (c .before .before .before .next .ensures) (c .before .after .given .1)) in
+    other-text (orZeroAt (c .before .before .before .before .before .before .args .k))
+    (c .before .before .before .before .loop .inv) S
+    (λ e. clash (c .before .before .before .before .before .before .args .message)
+    (c .before .before .before .before .before .before .args .k) _
+    (c .before .before .before .before .before .before .pre .listed) (S .typed) (sym e)))
     (λ c. search needs)
-    (λ c. let S = (step-is (c .before .before .before .next .ensures) (c .before .after2 .given .1)) in omega (arith, S .forward))
-    (λ c. no-message (orZeroAt (c .before .before .before .before .before .before .args .k)) (c .before .before .before .before .loop .inv) (step-is (c .before .before .before .next .ensures) (c .before .after2 .given .1))))
+    (λ c. let S = (step-is (c .before .before .before .next .ensures) (c .before .after2 .given .1)) in
+    omega (arith, S .forward))
+    (λ c. no-message (orZeroAt (c .before .before .before .before .before .before .args .k))
+    (c .before .before .before .before .loop .inv)
+    (step-is (c .before .before .before .next .ensures) (c .before .after2 .given .1))))

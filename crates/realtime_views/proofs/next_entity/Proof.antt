@@ -4,4 +4,6 @@ use Rattle.realtime_views.proofs.next_entity.Statement.{statement}
 use Rattle.realtime_views.proofs.next_entity.Tie as tie
 
 pub next-entity-spec : {M : Type 1} → statement M
-next-entity-spec = tie.close (tie.spec (λ c κs. walking.entity-walks (c .before .pre)) (λ c. walking.next-entity (c .next-item .ensures)))
+next-entity-spec =
+    tie.close
+    (tie.spec (λ c κs. walking.entity-walks (c .before .pre)) (λ c. walking.next-entity (c .next-item .ensures)))

@@ -4,4 +4,6 @@ use Rattle.realtime_views.proofs.next_update.Statement.{statement}
 use Rattle.realtime_views.proofs.next_update.Tie as tie
 
 pub next-update-spec : {M : Type 1} → statement M
-next-update-spec = tie.close (tie.spec (λ c κs. walking.update-walks (c .before .pre)) (λ c. walking.next-update (c .next-item .ensures)))
+next-update-spec =
+    tie.close
+    (tie.spec (λ c κs. walking.update-walks (c .before .pre)) (λ c. walking.next-update (c .next-item .ensures)))

@@ -1,4 +1,5 @@
--- `realtime_views::over_field` meets its contract. The invariant: what is left, over what is known now, makes what the whole makes. Assumes nothing.
+-- `realtime_views::over_field` meets its contract. The invariant: what is left, over what is known now, makes what
+-- the whole makes. Assumes nothing.
 use borrow.Author.Needs.{needs}
 use Prim.Native.Nat.{_-_}
 use native.Mathlib.Omega.{arith}
@@ -28,19 +29,39 @@ over-field-spec =
     (λ c. begins (c .before .pre))
     (λ c κs. tt)
     (λ c. search needs)
-    (λ c. stops (c .before .before .before .loop .inv) (step-is (c .before .before .next .ensures) (c .enum-told .given .1)))
+    (λ c. stops (c .before .before .before .loop .inv)
+    (step-is (c .before .before .next .ensures) (c .enum-told .given .1)))
     (λ c. search needs)
-    (λ c. says (c .before .before .before .loop .inv) (step-is (c .before .before .next .ensures) (c .enum-told2 .given .1)))
+    (λ c. says (c .before .before .before .loop .inv)
+    (step-is (c .before .before .next .ensures) (c .enum-told2 .given .1)))
     (λ c. search needs)
-    (λ c. let S = (step-is (c .before .before .before .next .ensures) (c .before .after .given .1)) in omega (arith, S .forward))
-    (λ c. on-number (c .before .before .before .before .loop .inv) (step-is (c .before .before .before .next .ensures) (c .before .after .given .1)) refl (λ h. h))
+    (λ c. let S = (step-is (c .before .before .before .next .ensures) (c .before .after .given .1)) in
+    omega (arith, S .forward))
+    (λ c. on-number (c .before .before .before .before .loop .inv)
+    (step-is (c .before .before .before .next .ensures) (c .before .after .given .1)) refl (λ h. h))
     (λ c. search needs)
-    (λ c. let S = (step-is (c .before .before .before .next .ensures) (c .before .after2 .given .1)) in omega (arith, S .forward))
-    (λ c. on-text (c .before .before .before .before .loop .inv) (step-is (c .before .before .before .next .ensures) (c .before .after2 .given .1)) refl (λ p h. h))
+    (λ c. let S = (step-is (c .before .before .before .next .ensures) (c .before .after2 .given .1)) in
+    omega (arith, S .forward))
+    (λ c. on-text (c .before .before .before .before .loop .inv)
+    (step-is (c .before .before .before .next .ensures) (c .before .after2 .given .1)) refl (λ p h. h))
     (λ c. search needs)
-    (λ c κs. let S = (step-is (c .before .before .before .before .next .ensures) (c .before .before .field .given .1)) in omega (arith, S .forward))
-    (λ c κs. ready (c .before .before .before .before .before .before .loop .inv) (now (c .part .result)) (step-is (c .before .before .before .before .before .next .ensures) (c .before .before .before .field .given .1)) (c .part .ensures))
-    (λ c. let S = (step-is (c .before .before .before .before .before .before .next .ensures) (c .before .before .before .before .field .given .1)) in omega (arith, S .forward))
-    (λ c. taken (c .before .before .before .before .before .before .before .before .before .args .a) own (c .before .before .before .before .before .before .before .loop .inv) (now (c .before .part .result)) (step-is (c .before .before .before .before .before .before .next .ensures) (c .before .before .before .before .field .given .1)) (c .before .before .if1 .taken) (c .before .part .ensures) (c .over-message .ensures))
-    (λ c. let S = (step-is (c .before .before .before .before .next .ensures) (c .before .before .field .given .1)) in omega (arith, S .forward))
-    (λ c. passed (c .before .before .before .before .before .before .before .args .a) own (c .before .before .before .before .before .loop .inv) (step-is (c .before .before .before .before .next .ensures) (c .before .before .field .given .1)) (c .if1 .left)))
+    (λ c κs. let S =
+    (step-is (c .before .before .before .before .next .ensures) (c .before .before .field .given .1)) in
+    omega (arith, S .forward))
+    (λ c κs. ready (c .before .before .before .before .before .before .loop .inv) (now (c .part .result))
+    (step-is (c .before .before .before .before .before .next .ensures)
+    (c .before .before .before .field .given .1)) (c .part .ensures))
+    (λ c. let S =
+    (step-is (c .before .before .before .before .before .before .next .ensures)
+    (c .before .before .before .before .field .given .1)) in omega (arith, S .forward))
+    (λ c. taken (c .before .before .before .before .before .before .before .before .before .args .a) own
+    (c .before .before .before .before .before .before .before .loop .inv) (now (c .before .part .result))
+    (step-is (c .before .before .before .before .before .before .next .ensures)
+    (c .before .before .before .before .field .given .1)) (c .before .before .if1 .taken)
+    (c .before .part .ensures) (c .over-message .ensures))
+    (λ c. let S = (step-is (c .before .before .before .before .next .ensures) (c .before .before .field .given .1)) in
+    omega (arith, S .forward))
+    (λ c. passed (c .before .before .before .before .before .before .before .args .a) own
+    (c .before .before .before .before .before .loop .inv)
+    (step-is (c .before .before .before .before .next .ensures) (c .before .before .field .given .1))
+    (c .if1 .left)))

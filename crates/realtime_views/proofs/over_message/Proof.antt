@@ -1,4 +1,5 @@
--- `realtime_views::over_message` meets its contract. The invariant: what is left, over what is known now, makes what the whole makes. Assumes nothing.
+-- `realtime_views::over_message` meets its contract. The invariant: what is left, over what is known now, makes what
+-- the whole makes. Assumes nothing.
 use borrow.Author.Needs.{needs}
 use Prim.Native.Nat.{_-_}
 use mathlib.Core.Path.{refl}
@@ -26,17 +27,27 @@ over-message-spec =
     (λ c. begins (c .before .pre))
     (λ c κs. tt)
     (λ c. search needs)
-    (λ c. stops (c .before .before .before .loop .inv) (step-is (c .before .before .next .ensures) (c .enum-told .given .1)))
+    (λ c. stops (c .before .before .before .loop .inv)
+    (step-is (c .before .before .next .ensures) (c .enum-told .given .1)))
     (λ c. search needs)
-    (λ c. says (c .before .before .before .loop .inv) (step-is (c .before .before .next .ensures) (c .enum-told2 .given .1)))
-    (λ c. search needs)
-    (λ c κs. tt)
-    (λ c. let S = step-is (c .before .before .before .before .next .ensures) (c .before .before .field .given .1) in omega (arith, S .forward))
-    (λ c. keep-number (c .before .before .before .before .before .loop .inv) (step-is (c .before .before .before .before .next .ensures) (c .before .before .field .given .1)) (c .keep .ensures))
+    (λ c. says (c .before .before .before .loop .inv)
+    (step-is (c .before .before .next .ensures) (c .enum-told2 .given .1)))
     (λ c. search needs)
     (λ c κs. tt)
-    (λ c. let S = step-is (c .before .before .before .before .next .ensures) (c .before .before .field2 .given .1) in omega (arith, S .forward))
-    (λ c. keep-text (c .before .before .before .before .before .loop .inv) (step-is (c .before .before .before .before .next .ensures) (c .before .before .field2 .given .1)) (c .keep2 .ensures))
+    (λ c. let S = step-is (c .before .before .before .before .next .ensures) (c .before .before .field .given .1) in
+    omega (arith, S .forward))
+    (λ c. keep-number (c .before .before .before .before .before .loop .inv)
+    (step-is (c .before .before .before .before .next .ensures) (c .before .before .field .given .1))
+    (c .keep .ensures))
     (λ c. search needs)
-    (λ c. let S = step-is (c .before .before .before .next .ensures) (c .before .after .given .1) in omega (arith, S .forward))
-    (λ c. past-message (c .before .before .before .before .loop .inv) (step-is (c .before .before .before .next .ensures) (c .before .after .given .1)) (λ m. refl)))
+    (λ c κs. tt)
+    (λ c. let S = step-is (c .before .before .before .before .next .ensures) (c .before .before .field2 .given .1) in
+    omega (arith, S .forward))
+    (λ c. keep-text (c .before .before .before .before .before .loop .inv)
+    (step-is (c .before .before .before .before .next .ensures) (c .before .before .field2 .given .1))
+    (c .keep2 .ensures))
+    (λ c. search needs)
+    (λ c. let S = step-is (c .before .before .before .next .ensures) (c .before .after .given .1) in
+    omega (arith, S .forward))
+    (λ c. past-message (c .before .before .before .before .loop .inv)
+    (step-is (c .before .before .before .next .ensures) (c .before .after .given .1)) (λ m. refl)))

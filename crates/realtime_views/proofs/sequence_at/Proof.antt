@@ -11,6 +11,9 @@ sequence-at-spec =
     (tie.spec
     (λ c. search needs)
     (λ c κs. search needs)
-    (λ c κs. let a = c .before .before .args in sequence-ready (now (a .s)) (a .start) (a .len) (c .before .before .pre) (c .part .ensures))
+    (λ c κs. let a = c .before .before .args in
+    sequence-ready (now (a .s)) (a .start) (a .len) (c .before .before .pre) (c .part .ensures))
     (λ c κs. search needs)
-    (λ c. let a = c .before .before .before .before .args in sequence-read (now (a .s)) (a .start) (a .len) (c .before .before .before .before .pre) (c .before .before .part .ensures) (c .before .last-number .ensures) (c .uint32 .ensures)))
+    (λ c. let a = c .before .before .before .before .args in
+    sequence-read (now (a .s)) (a .start) (a .len) (c .before .before .before .before .pre)
+    (c .before .before .part .ensures) (c .before .last-number .ensures) (c .uint32 .ensures)))

@@ -15,5 +15,8 @@ stop-of-spec =
     (tie.spec
     (λ c. search needs)
     (λ c κs. search needs)
-    (λ c κs. let a = c .before .before .args in omega (arith, ap length (c .part .ensures), length-take (a .start + a .len) (now (a .s)), c .before .before .pre))
-    (λ c. let a = c .before .before .before .args in stop-read (now (a .s)) (a .start) (a .len) (c .before .before .before .pre) (c .before .part .ensures) (c .over-stop .ensures)))
+    (λ c κs. let a = c .before .before .args in
+    omega (arith, ap length (c .part .ensures), length-take (a .start + a .len) (now (a .s)), c .before .before .pre))
+    (λ c. let a = c .before .before .before .args in
+    stop-read (now (a .s)) (a .start) (a .len) (c .before .before .before .pre) (c .before .part .ensures)
+    (c .over-stop .ensures)))

@@ -14,5 +14,7 @@ time-from-spec =
     tie.close
     (tie.spec
     (λ c κs. search needs)
-    (λ c. let a = c .before .before .before .args in rw (eq-eqb (a .n .given) 1 (c .before .if1 .taken)) (ap Time.Given (held w64 (a .n .value) (record { fits = omega arith }) (c .int64 .ensures))))
+    (λ c. let a = c .before .before .before .args in
+    rw (eq-eqb (a .n .given) 1 (c .before .if1 .taken))
+    (ap Time.Given (held w64 (a .n .value) (record { fits = omega arith }) (c .int64 .ensures))))
     (λ c. rw (ne-eqb _ 1 (c .if1 .left))))

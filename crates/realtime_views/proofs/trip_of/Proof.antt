@@ -1,4 +1,5 @@
--- `realtime_views::trip_of` meets its contract: the descriptor is what is merged at 3 and 1, the delay at 3. Assumes nothing.
+-- `realtime_views::trip_of` meets its contract: the descriptor is what is merged at 3 and 1, the delay at 3. Assumes
+-- nothing.
 use borrow.Author.Needs.{needs}
 use Prim.Native.Nat.{_+_}
 use native.Mathlib.Omega.{arith}
@@ -17,6 +18,13 @@ trip-of-spec =
     (tie.spec
     (λ c. search needs)
     (λ c κs. search needs)
-    (λ c κs. let a = c .before .before .args in omega (arith, ap length (c .part .ensures), length-take (a .start + a .len) (now (a .s)), c .before .before .pre))
+    (λ c κs. let a = c .before .before .args in
+    omega (arith, ap length (c .part .ensures), length-take (a .start + a .len) (now (a .s)), c .before .before .pre))
     (λ c κs. search needs)
-    (λ c. trip-read (lasting (3 ∷ 1 ∷ []) (c .before .before .before .before .before .before .pre) (c .before .before .before .before .part .ensures) refl (c .before .before .before .over-updates .ensures .trip)) (lasting (3 ∷ []) (c .before .before .before .before .before .before .pre) (c .before .before .before .before .part .ensures) refl (c .before .before .before .over-updates .ensures .update)) (c .trip-from .ensures)))
+    (λ c. trip-read
+    (lasting (3 ∷ 1 ∷ []) (c .before .before .before .before .before .before .pre)
+    (c .before .before .before .before .part .ensures) refl
+    (c .before .before .before .over-updates .ensures .trip))
+    (lasting (3 ∷ []) (c .before .before .before .before .before .before .pre)
+    (c .before .before .before .before .part .ensures) refl
+    (c .before .before .before .over-updates .ensures .update)) (c .trip-from .ensures)))

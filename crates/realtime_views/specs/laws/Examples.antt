@@ -105,7 +105,8 @@ unfolding descriptor
 no-id = refl
 
 -- a header in two parts, one of them behind an entity
-header-merged : header (msg 1 1 (num 2 1 end) (msg 2 2 end (msg 1 1 (num 3 7 end) end))) ≡ record { differential = true; timestamp = some 7 }
+header-merged : header (msg 1 1 (num 2 1 end) (msg 2 2 end (msg 1 1 (num 3 7 end) end))) ≡
+    record { differential = true; timestamp = some 7 }
 header-merged = refl
 
 -- a delay of -60 in the second of two trip_updates

@@ -11,7 +11,8 @@ pub front-part : (s : List ℕ) (n i l : ℕ) → i + l ≤ n → n ≤ length s
 front-part s n i l h h′ =
     let e : n ≡ i + (n - i) = omega arith in
     ap (λ k. take l (drop i (take k s))) e ∙ ap (λ x. take l (drop i x)) (take-add i (n - i) s)
-    ∙ ap (take l) (drop-at (take i s) (take (n - i) (drop i s)) i (length-take i s ∙ omega arith)) ∙ take-take l (n - i) (drop i s) (omega arith)
+    ∙ ap (take l) (drop-at (take i s) (take (n - i) (drop i s)) i (length-take i s ∙ omega arith))
+    ∙ take-take l (n - i) (drop i s) (omega arith)
 
 -- and where it ends at n, what stands there from i on
 pub front-rest : (s : List ℕ) (n i l : ℕ) → i + l ≡ n → n ≤ length s → drop i (take n s) ≡ take l (drop i s)

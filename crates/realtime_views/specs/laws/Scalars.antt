@@ -12,7 +12,8 @@ use Rattle.realtime_views.specs.laws.Last.{leaf, taking-last, each-takin
 use Rattle.realtime_views.specs.promises.Fold.{folded}
 use Rattle.realtime_views.specs.declared.Scalar.{Scalar}
 use Rattle.realtime_views.specs.declared.Scalars.{Scalars}
-use Rattle.realtime_views.specs.promises.Scalars.{said, Lying, Slot, one, two, three, four, five, six, fieldOf, at, Lasts, kept, scalarAt, own}
+use Rattle.realtime_views.specs.promises.Scalars.{said, Lying, Slot, one, two, three, four, five, six, fieldOf}
+use Rattle.realtime_views.specs.promises.Scalars.{at, Lasts, kept, scalarAt, own}
 use Rattle.realtime_views.specs.promises.Scalars.{takesAlong}
 
 abbrev pub nothing : Lasts
@@ -46,7 +47,9 @@ pub along-last : (ps : List ℕ) (t : Tree) → folded (takesAlong ps) nothing t
 along-last [] t = own-last t
 along-last (p ∷ ps) t = inside-sub p (takesAlong ps) nothing t ∙ along-last ps (sub p t)
 
--- THE ANSWER r for the message of type t in the l bytes at i of s: where it is not broken, its last scalars along the path. What they say lies in s
+-- THE ANSWER r for the message of type t in the l bytes at i of s: where it is not broken, its last scalars along
+-- the path. What they say lies in s
 pub record Lasting (σ : Schema) (t : ℕ) (s : List ℕ) (i l : ℕ) (ps : List ℕ) (r : Scalars) : Type 0 where
-  pub of : (m : Tree) → tree σ t (take l (drop i s)) ≡ some m → (k : Slot) → said s (at r k) ≡ last (fieldOf k) (along ps m)
+  pub of : (m : Tree) → tree σ t (take l (drop i s)) ≡ some m → (k : Slot)
+      → said s (at r k) ≡ last (fieldOf k) (along ps m)
   pub within : (k : Slot) → Lying (length s) (at r k)

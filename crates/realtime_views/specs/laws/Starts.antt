@@ -19,7 +19,8 @@ pub left-merged : (σ : Schema) (t a u k : ℕ) (s : List ℕ) (i l : ℕ) → i
     → left σ t a u k (take (i + l) s) (atMerged i) ≡ Option·map (λ m. rep k (sub a m)) (tree σ t (take l (drop i s)))
 left-merged σ t a u k s i l h =
     let z : length (take i (take (i + l) s)) ≤ i = omega (arith, length-take i (take (i + l) s)) in
-    ap (λ x. leftOf a k (tree σ u x) (tree σ t (drop i (take (i + l) s)))) (drop-of-length-le (take i (take (i + l) s)) z)
+    ap (λ x. leftOf a k (tree σ u x) (tree σ t (drop i (take (i + l) s))))
+    (drop-of-length-le (take i (take (i + l) s)) z)
     ∙ ap (λ o. leftOf a k o (tree σ t (drop i (take (i + l) s)))) (tree-nil σ u)
     ∙ ap (λ x. Option·map (λ m. rep k (sub a m)) (tree σ t x)) (front-rest s (i + l) i l refl h)
 
@@ -29,7 +30,8 @@ join-end (num f n t) = ap (num f n) (join-end t)
 join-end (txt f x t) = ap (txt f x) (join-end t)
 join-end (msg f u m t) = ap (msg f u m) (join-end t)
 
-pub left-plain : (σ : Schema) (t a u k : ℕ) (s : List ℕ) → left σ t a u k s (atPlain s) ≡ Option·map (rep k) (tree σ u s)
+pub left-plain : (σ : Schema) (t a u k : ℕ) (s : List ℕ)
+    → left σ t a u k s (atPlain s) ≡ Option·map (rep k) (tree σ u s)
 left-plain σ t a u k s =
     ap (λ y. leftOf a k (tree σ u y) (tree σ t (drop (length s) s))) (take-length s)
     ∙ ap (leftOf a k (tree σ u s)) (ap (tree σ t) (drop-length s) ∙ tree-nil σ t) ∙ go (tree σ u s)
@@ -39,13 +41,19 @@ left-plain σ t a u k s =
     go (some m) = ap (λ j. some (rep k j)) (join-end m)
 
 pub plain-sound : {s : List ℕ} {w : Walk} → w ≡ atPlain s → SoundWalk s (w .outer) (w .end) (w .at)
-plain-sound {s} e = subst (λ w. SoundWalk s (w .outer) (w .end) (w .at)) (sym e) (record { ahead = omega arith; behind = omega arith; inside = omega arith })
+plain-sound {s} e =
+    subst (λ w. SoundWalk s (w .outer) (w .end) (w .at)) (sym e)
+    (record { ahead = omega arith; behind = omega arith; inside = omega arith })
 
-pub merged-sound : {s : List ℕ} {w : Walk} (i : ℕ) → i ≤ length s → w ≡ atMerged i → SoundWalk s (w .outer) (w .end) (w .at)
-merged-sound {s} i h e = subst (λ w. SoundWalk s (w .outer) (w .end) (w .at)) (sym e) (record { ahead = omega arith; behind = omega arith; inside = omega arith })
+pub merged-sound : {s : List ℕ} {w : Walk} (i : ℕ) → i ≤ length s → w ≡ atMerged i
+    → SoundWalk s (w .outer) (w .end) (w .at)
+merged-sound {s} i h e =
+    subst (λ w. SoundWalk s (w .outer) (w .end) (w .at)) (sym e)
+    (record { ahead = omega arith; behind = omega arith; inside = omega arith })
 
 -- THE ENTITIES of a message, and THE STOP TIME UPDATES of an entity: where a walk starts, all are left
-pub entities-left : (s : List ℕ) {w : Walk} → w ≡ atPlain s → leftEntities s w ≡ Option·map (rep 2) (tree feed feedMessage s)
+pub entities-left : (s : List ℕ) {w : Walk} → w ≡ atPlain s
+    → leftEntities s w ≡ Option·map (rep 2) (tree feed feedMessage s)
 entities-left s e = ap (leftEntities s) e ∙ left-plain feed feedMessage 0 feedMessage 2 s
 
 pub updates-left : (s : List ℕ) (i l : ℕ) {w : Walk} → i + l ≤ length s → w ≡ atMerged i

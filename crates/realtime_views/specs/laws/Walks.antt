@@ -17,7 +17,8 @@ module _ {σ : Schema} {t a u k v : ℕ} {s : List ℕ} {w : Walk} {r : Item} (Y
   pub yielded : {q : Item} → r ≡ q → (l : List Tree) → left σ t a u k s w ≡ some l → Yield σ t a u k v s l q
   yielded e l h = subst (Yield σ t a u k v s l) e (Y .of l h)
 
--- of a message: its entities, 2. Of an entity, whose last byte is the last of s: the stop_time_updates, 2, of all its trip_updates, 3
+-- of a message: its entities, 2. Of an entity, whose last byte is the last of s: the stop_time_updates, 2, of all
+-- its trip_updates, 3
 abbrev pub leftEntities : List ℕ → Walk → Option (List Tree)
 leftEntities s w = left feed feedMessage 0 feedMessage 2 s w
 

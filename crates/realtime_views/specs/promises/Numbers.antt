@@ -87,7 +87,8 @@ abbrev pub fromEvent : EventNumbers → Event
 fromEvent e = record { delay = fromDelay (e .delay); time = fromTime (e .time) }
 
 abbrev pub fromStop : ℕ → Span → ℕ → EventNumbers → EventNumbers → StopUpdate
-fromStop q p k a d = record { sequence = uint32 q; stop = p; arrival = fromEvent a; departure = fromEvent d; skipped = eqb (enum k) 1 }
+fromStop q p k a d =
+    record { sequence = uint32 q; stop = p; arrival = fromEvent a; departure = fromEvent d; skipped = eqb (enum k) 1 }
 
 -- THE ANSWER r for an event from `from` on, over b
 pub record EventReads (s : List ℕ) (from : ℕ) (b r : EventNumbers) : Type 0 where

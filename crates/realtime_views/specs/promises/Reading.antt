@@ -7,7 +7,8 @@ use lib.ListN.{length, take}
 use Rattle.realtime.specs.Tree.{Schema}
 use Rattle.realtime_views.specs.promises.Fold.{Takes, Made}
 
--- an answer d says `look s d` of the bytes s; `In n d`: its positions lie in the first n bytes. There it says the same, and so farther on
+-- an answer d says `look s d` of the bytes s; `In n d`: its positions lie in the first n bytes. There it says the
+-- same, and so farther on
 pub record Lens (D B : Type 0) : Type 1 where
   pub look : List ℕ → D → B
   pub In : ℕ → D → Type 0
@@ -20,6 +21,7 @@ pub record Ready {D B : Type 0} (L : Lens D B) (s : List ℕ) (from : ℕ) (d : 
   pub within : L .In from d
 
 -- and answers r
-pub record Reads {D B : Type 0} (L : Lens D B) (φ : Takes B) (σ : Schema) (t : ℕ) (s : List ℕ) (from : ℕ) (d r : D) : Type 0 where
+pub record Reads {D B : Type 0} (L : Lens D B) (φ : Takes B) (σ : Schema) (t : ℕ) (s : List ℕ) (from : ℕ) (d r : D) :
+    Type 0 where
   pub made : Made φ (L .look s d) σ t s from (L .look s r)
   pub within : L .In (length s) r

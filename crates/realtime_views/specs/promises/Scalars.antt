@@ -71,11 +71,13 @@ Lasts = Slot → Option Leaf
 pub scalars-far : (n m : ℕ) (d : Scalars) → n ≤ m → ((i : Slot) → Lying n (at d i)) → (i : Slot) → Lying m (at d i)
 scalars-far n m d h l i = lying-far n m (at d i) h (l i)
 
-pub scalars-front : (s : List ℕ) (n : ℕ) (d : Scalars) → n ≤ length s → ((i : Slot) → Lying n (at d i)) → _≡_ {A = Lasts} (λ i. said (take n s) (at d i)) (λ i. said s (at d i))
+pub scalars-front : (s : List ℕ) (n : ℕ) (d : Scalars) → n ≤ length s → ((i : Slot) → Lying n (at d i))
+    → _≡_ {A = Lasts} (λ i. said (take n s) (at d i)) (λ i. said s (at d i))
 scalars-front s n d h l = λ j i. said-front s n (at d i) h (l i) j
 
 abbrev pub scalars : Lens Scalars Lasts
-scalars = record { look = λ s d i. said s (at d i); In = λ n d. (i : Slot) → Lying n (at d i); far = scalars-far; front = scalars-front }
+scalars =
+    record { look = λ s d i. said s (at d i); In = λ n d. (i : Slot) → Lying n (at d i); far = scalars-far; front = scalars-front }
 
 -- the scalar x is kept at its field f
 abbrev pub kept : Scalars → ℕ → Scalar → Scalars

@@ -11,7 +11,8 @@ clear-block-spec =
     (tie.spec
     (λ c κs. search needs)
     (λ c. search needs)
-    (λ c. zeros-true (c .before .before .before .before .args .s .now) (sym (c .before .zero-block .ensures) ∙ c .if1 .taken))
+    (λ c. zeros-true (c .before .before .before .before .args .s .now)
+    (sym (c .before .zero-block .ensures) ∙ c .if1 .taken))
     (λ c κs. search needs)
     (λ c. search needs)
     (λ c. search needs))

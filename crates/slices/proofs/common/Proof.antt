@@ -1,6 +1,7 @@
 -- `slices::common` meets its contract: both loops keep that what is in common goes on at i. Assumes nothing.
 use Prim.Native.Nat.{_-_}
-use Rattle.slices.proofs.Agreement.{Common, common-none, common-more, common-alike, common-left, common-right, common-differ}
+use Rattle.slices.proofs.Agreement.{Common, common-none, common-more, common-alike, common-left, common-right}
+use Rattle.slices.proofs.Agreement.{common-differ}
 use borrow.Author.Needs.{needs}
 use lib.ListN.{length}
 use mathlib.Core.Path.{sym, _∙_}
@@ -33,13 +34,16 @@ common-spec =
     (λ c κs. search needs)
     (λ c. search needs)
     (λ c. search needs)
-    (λ c. common-alike 8 _ (c .before .before .before .before .loop .inv) (search needs) (search needs) (sym (c .before .alike8 .ensures) ∙ c .if2 .taken))
+    (λ c. common-alike 8 _ (c .before .before .before .before .loop .inv) (search needs) (search needs)
+    (sym (c .before .alike8 .ensures) ∙ c .if2 .taken))
     (λ c. c .before .loop .inv)
     (λ c. common-right (c .before .before .loop2 .inv) (search needs) (search needs))
     (λ c. search needs)
     (λ c. search needs)
-    (λ c. common-differ (c .before .before .before .before .before .loop2 .inv) (search needs) (search needs) (c .if4 .taken))
+    (λ c. common-differ (c .before .before .before .before .before .loop2 .inv) (search needs) (search needs)
+    (c .if4 .taken))
     (λ c. search needs)
     (λ c. search needs)
-    (λ c. common-more (c .before .before .before .before .before .loop2 .inv) (search needs) (search needs) (c .if4 .left))
+    (λ c. common-more (c .before .before .before .before .before .loop2 .inv) (search needs) (search needs)
+    (c .if4 .left))
     (λ c. common-left (c .before .loop2 .inv) (search needs)))

@@ -40,4 +40,6 @@ copy-block-spec =
     (λ c. search needs)
     (λ c. copied-more (c .before .loop2 .inv) (search needs))
     (λ c. search needs)
-    (λ c. ext-getD 0 (c .before .loop2 .d) (c .before .before .before .before .args .s .now) (search needs) (λ k l. c .before .loop2 .inv .same k (search needs) ∙ c .before .before .before .loop .inv .same k (search needs))))
+    (λ c. ext-getD 0 (c .before .loop2 .d) (c .before .before .before .before .args .s .now) (search needs)
+    (λ k l. c .before .loop2 .inv .same k (search needs)
+    ∙ c .before .before .before .loop .inv .same k (search needs))))

@@ -16,4 +16,14 @@ write-spec =
     (λ c κs. search needs)
     (λ c κs. search needs)
     (λ c. search needs)
-    (λ c. let f : SFits w64 (c .before .before .before .before .before .before .before .before .before .before .before .before .before .before .before .before .args .v .updated) = search needs in Laws.place-out (c .before .before .before .before .before .before .before .before .before .before .before .before .before .before .before .before .args .v) (c .before .before .before .before .before .before .before .before .before .before .before .before .before .to-bits .ensures) (c .before .before .before .before .before .before .before .before .to-bits2 .ensures) f (c .before .before .before .before .before .before .before .before .before .before .before .before .optional-float .ensures) (c .before .before .before .before .before .before .before .optional-float2 .ensures) (c .before .before .optional-signed .ensures)))
+    (λ c. let f : SFits w64
+    (c .before .before .before .before .before .before .before .before .before .before .before .before .before
+    .before .before .before .args .v .updated) = search needs in
+    Laws.place-out
+    (c .before .before .before .before .before .before .before .before .before .before .before .before .before
+    .before .before .before .args .v)
+    (c .before .before .before .before .before .before .before .before .before .before .before .before .before
+    .to-bits .ensures) (c .before .before .before .before .before .before .before .before .to-bits2 .ensures) f
+    (c .before .before .before .before .before .before .before .before .before .before .before .before
+    .optional-float .ensures) (c .before .before .before .before .before .before .before .optional-float2 .ensures)
+    (c .before .before .optional-signed .ensures)))

@@ -16,7 +16,9 @@ abbrev pub placeOf : ℕ → ℕ → ℤ → VehiclePlace
 placeOf x y z = record { latitude = coordinateOf x; longitude = coordinateOf y; updated = z }
 
 pub record ReadsPlace (s : List ℕ) (a b c : ℕ) (r : VehiclePlace) : Type 0 where
-  pub is : {x y p q t : ℕ} {lo hi z : ℤ} → Here float s a p x → Here float s b q y → Here (signed lo hi) s c t z → r ≡ placeOf x y z
+  pub is : {x y p q t : ℕ} {lo hi z : ℤ} → Here float s a p x → Here float s b q y → Here (signed lo hi) s c t z
+      → r ≡ placeOf x y z
 
 abbrev pub placeW : VehiclePlace → List ℕ
-placeW v = optionalW (littleW 8) (inr (bitsOf (v .latitude))) ++ (optionalW (littleW 8) (inr (bitsOf (v .longitude))) ++ optionalW (λ z. numberW (zig z)) (inr (v .updated)))
+placeW v = optionalW (littleW 8) (inr (bitsOf (v .latitude)))
+    ++ (optionalW (littleW 8) (inr (bitsOf (v .longitude))) ++ optionalW (λ z. numberW (zig z)) (inr (v .updated)))

@@ -11,8 +11,10 @@ use mathlib.Core.Bool.{Bool, true, false, cond}
 use Rattle.wire.specs.Wire.{Read, broken, read, andThen, varint, Key, key, bytes, lengthDelimited, Value, value}
 use Rattle.wire.specs.Wire.{field, LEN}
 use Rattle.wire.specs.laws.Values.{value-2}
-use Rattle.wire.specs.laws.Wire.{never, moves, stays, key-nil, ReaderLaw, reader-varint, reader-key, reader-text, reader-value}
-use Rattle.wire.specs.promises.Places.{cursorAt, gotNumber, numberAt, gotKey, keyAt, gotText, textAt, gotSkipped, skippedAt}
+use Rattle.wire.specs.laws.Wire.{never, moves, stays, key-nil, ReaderLaw, reader-varint, reader-key, reader-text}
+use Rattle.wire.specs.laws.Wire.{reader-value}
+use Rattle.wire.specs.promises.Places.{cursorAt, gotNumber, numberAt, gotKey, keyAt, gotText, textAt, gotSkipped}
+use Rattle.wire.specs.promises.Places.{skippedAt}
 use Rattle.wire.specs.declared.Cursor.{Cursor}
 use Rattle.wire.specs.declared.GotNumber.{GotNumber}
 use Rattle.wire.specs.declared.GotKey.{GotKey}
@@ -24,7 +26,8 @@ place s p h = omega (arith, length-drop p s)
 
 rest-at : (s w r : List ℕ) → s ≡ w ++ r → drop (length s - length r) s ≡ r
 rest-at s w r e =
-    ap (drop (length s - length r)) e ∙ drop-at w r (length s - length r) (omega (arith, ap length e, length-append w r))
+    ap (drop (length s - length r)) e
+    ∙ drop-at w r (length s - length r) (omega (arith, ap length e, length-append w r))
 
 -- at `at` p reads a, and what it leaves starts at `next`
 pub record ReadAt {A : Type 0} (p : List ℕ → Read A) (s : List ℕ) (at : ℕ) (a : A) (next : ℕ) : Type 0 where
@@ -37,7 +40,8 @@ module _ {A : Type 0} (p : List ℕ → Read A) (P : ReaderLaw p) (s : List ℕ)
       let F = P (drop at s) a r e in
       record {
         same = e ∙ ap (read a) (sym (rest-at s (take at s ++ F .used) r
-            (sym (take-append-drop at s) ∙ ap (λ l. take at s ++ l) (F .splits) ∙ sym (append-assoc (take at s) (F .used) r))));
+            (sym (take-append-drop at s) ∙ ap (λ l. take at s ++ l) (F .splits)
+            ∙ sym (append-assoc (take at s) (F .used) r))));
         inside = omega arith;
       }
 
@@ -50,7 +54,8 @@ module _ (s : List ℕ) (at : ℕ) where
       go (read m r) e₁ e₂ =
           let a : m ≡ n = cc in
           let b : cursorAt s r ≡ c = cc in
-          subst (λ k. ReadAt varint s at n (k .at)) b (subst (λ k. ReadAt varint s at k (cursorAt s r .at)) a (read-at varint reader-varint s at m r e₁))
+          subst (λ k. ReadAt varint s at n (k .at)) b
+          (subst (λ k. ReadAt varint s at k (cursorAt s r .at)) a (read-at varint reader-varint s at m r e₁))
 
   pub number-broken : GotNumber.Broken ≡ numberAt s at → varint (drop at s) ≡ broken
   number-broken e = go (varint (drop at s)) e
@@ -59,10 +64,12 @@ module _ (s : List ℕ) (at : ℕ) where
       go broken e₂ = refl
       go (read m r) e₂ = let z : _≡_ {A = ℕ} 0 1 = cc in absurd (omega arith)
 
-  pub key-read : (n w : ℕ) (c : Cursor) → GotKey.Read n w c ≡ keyAt s at → ReadAt key s at (record { number = n; wire = w }) (c .at)
+  pub key-read : (n w : ℕ) (c : Cursor)
+      → GotKey.Read n w c ≡ keyAt s at → ReadAt key s at (record { number = n; wire = w }) (c .at)
   key-read n w c e = go (key (drop at s)) refl e
     where
-      go : (o : Read Key) → key (drop at s) ≡ o → GotKey.Read n w c ≡ gotKey s o → ReadAt key s at (record { number = n; wire = w }) (c .at)
+      go : (o : Read Key) → key (drop at s) ≡ o → GotKey.Read n w c ≡ gotKey s o
+          → ReadAt key s at (record { number = n; wire = w }) (c .at)
       go broken e₁ e₂ = let z : _≡_ {A = ℕ} 0 1 = cc in absurd (omega arith)
       go (read k r) e₁ e₂ =
           let p : k .number ≡ n = cc in
@@ -86,13 +93,15 @@ module _ (s : List ℕ) (at : ℕ) where
       k : Key
       k = record { number = n; wire = w }
 
-      go : (o : Read Value) → value d k (drop at s) ≡ o → Skipped.Past c ≡ gotSkipped s o → (v : Value) × ReadAt (value d k) s at v (c .at)
+      go : (o : Read Value) → value d k (drop at s) ≡ o → Skipped.Past c ≡ gotSkipped s o
+          → (v : Value) × ReadAt (value d k) s at v (c .at)
       go broken e₁ e₂ = let z : _≡_ {A = ℕ} 0 1 = cc in absurd (omega arith)
       go (read v r) e₁ e₂ =
           let b : cursorAt s r ≡ c = cc in
           (v, subst (λ j. ReadAt (value d k) s at v (j .at)) b (read-at (value d k) (reader-value d k) s at v r e₁))
 
-  pub skipped-broken : (n w d : ℕ) → Skipped.Broken ≡ skippedAt s at n w d → value d (record { number = n; wire = w }) (drop at s) ≡ broken
+  pub skipped-broken : (n w d : ℕ) → Skipped.Broken ≡ skippedAt s at n w d
+      → value d (record { number = n; wire = w }) (drop at s) ≡ broken
   skipped-broken n w d e = go (value d (record { number = n; wire = w }) (drop at s)) e
     where
       go : (o : Read Value) → Skipped.Broken ≡ gotSkipped s o → o ≡ broken
@@ -121,7 +130,8 @@ text-split t x r e = go (varint t) refl e
 part-at : (s w x r : List ℕ) → s ≡ w ++ (x ++ r) → take (length x) (drop (length s - length r - length x) s) ≡ x
 part-at s w x r e =
     ap (take (length x)) (ap (drop (length s - length r - length x)) e
-    ∙ drop-at w (x ++ r) (length s - length r - length x) (omega (arith, ap length e, length-append w (x ++ r), length-append x r)))
+    ∙ drop-at w (x ++ r) (length s - length r - length x)
+    (omega (arith, ap length e, length-append w (x ++ r), length-append x r)))
     ∙ take-at x r (length x) refl
 
 -- at `at` stands a text: the n bytes from i on, which end at `next`
@@ -133,7 +143,8 @@ pub record TextAt (s : List ℕ) (at i n next : ℕ) : Type 0 where
 pub text-read : (s : List ℕ) (at i n : ℕ) (c : Cursor) → GotText.Read i n c ≡ textAt s at → TextAt s at i n (c .at)
 text-read s at i n c e = go (lengthDelimited (drop at s)) refl e
   where
-    go : (o : Read (List ℕ)) → lengthDelimited (drop at s) ≡ o → GotText.Read i n c ≡ gotText s o → TextAt s at i n (c .at)
+    go : (o : Read (List ℕ)) → lengthDelimited (drop at s) ≡ o → GotText.Read i n c ≡ gotText s o
+        → TextAt s at i n (c .at)
     go broken e₁ e₂ = let z : _≡_ {A = ℕ} 0 1 = cc in absurd (omega arith)
     go (read x r) e₁ e₂ =
         let p : length s - length r - length x ≡ i = cc in
@@ -143,7 +154,8 @@ text-read s at i n c e = go (lengthDelimited (drop at s)) refl e
         let R = read-at lengthDelimited reader-text s at x r e₁ in
         let T = text-split (drop at s) x r e₁ in
         let w : s ≡ (take at s ++ T .0) ++ (x ++ r) =
-        sym (take-append-drop at s) ∙ ap (λ l. take at s ++ l) (T .1) ∙ sym (append-assoc (take at s) (T .0) (x ++ r)) in
+        sym (take-append-drop at s) ∙ ap (λ l. take at s ++ l) (T .1)
+        ∙ sym (append-assoc (take at s) (T .0) (x ++ r)) in
         record {
           same = rw (← p, ← q, part-at s (take at s ++ T .0) x r w, ← b) (R .same);
           ends = omega (arith, ap length w, length-append (take at s ++ T .0) (x ++ r), length-append x r);
@@ -158,7 +170,8 @@ text-broken s at e = go (lengthDelimited (drop at s)) e
     go (read m r) e₂ = let z : _≡_ {A = ℕ} 0 1 = cc in absurd (omega arith)
 
 -- a key and the value behind it are a field
-pub field-read : (s : List ℕ) (at d : ℕ) (k : Key) (next : ℕ) (v : Value) (after : ℕ) → ReadAt key s at k next → ReadAt (value d k) s next v after
+pub field-read : (s : List ℕ) (at d : ℕ) (k : Key) (next : ℕ) (v : Value) (after : ℕ) → ReadAt key s at k next
+    → ReadAt (value d k) s next v after
     → field d (drop at s) ≡ read (record { number = k .number; value = v }) (drop after s)
 unfolding field
 field-read s at d k next v after K Q = rw (K .same, Q .same)
@@ -167,12 +180,14 @@ pub field-broken-key : (t : List ℕ) (d : ℕ) → key t ≡ broken → field d
 unfolding field
 field-broken-key t d e = rw e
 
-pub field-broken-value : (s : List ℕ) (at d : ℕ) (k : Key) (next : ℕ) → ReadAt key s at k next → value d k (drop next s) ≡ broken → field d (drop at s) ≡ broken
+pub field-broken-value : (s : List ℕ) (at d : ℕ) (k : Key) (next : ℕ) → ReadAt key s at k next
+    → value d k (drop next s) ≡ broken → field d (drop at s) ≡ broken
 unfolding field
 field-broken-value s at d k next K e = rw (K .same, e)
 
 -- behind a field less is left: a loop over fields ends
-pub field-less : (s : List ℕ) (at d : ℕ) (k : Key) (next : ℕ) (v : Value) (after : ℕ) → ReadAt key s at k next → ReadAt (value d k) s next v after
+pub field-less : (s : List ℕ) (at d : ℕ) (k : Key) (next : ℕ) (v : Value) (after : ℕ) → ReadAt key s at k next
+    → ReadAt (value d k) s next v after
     → length s - after < length s - at
 field-less s at d k next v after K Q =
     omega (
@@ -187,7 +202,9 @@ field-less s at d k next v after K Q =
 -- behind a key of wire type 2 a text is the value
 pub text-value : (s : List ℕ) (number w d next i n after : ℕ) → w ≡ 2 → TextAt s next i n after
     → ReadAt (value d (record { number = number; wire = w })) s next (LEN (take n (drop i s))) after
-text-value s number w d next i n after e N = record { same = rw (e, value-2 d number (drop next s), N .same); inside = N .inside }
+text-value s number w d next i n after e N =
+    record { same = rw (e, value-2 d number (drop next s), N .same); inside = N .inside }
 
-pub text-value-broken : (s : List ℕ) (number w d next : ℕ) → w ≡ 2 → lengthDelimited (drop next s) ≡ broken → value d (record { number = number; wire = w }) (drop next s) ≡ broken
+pub text-value-broken : (s : List ℕ) (number w d next : ℕ) → w ≡ 2 → lengthDelimited (drop next s) ≡ broken
+    → value d (record { number = number; wire = w }) (drop next s) ≡ broken
 text-value-broken s number w d next e N = rw (e, value-2 d number (drop next s), N)

@@ -40,7 +40,8 @@ small-digits (suc k) (b ∷ s) n r e = go (small-digits k s) (ltb b 128) refl e
         record { below = omega (arith, S .below, pow-succ' 128 k); short = omega (arith, S .short, ap length q) }
 
     go : ((m : ℕ) (r′ : List ℕ) → digits k s ≡ read m r′ → Small k s m r′) → (t : Bool) → ltb b 128 ≡ t
-        → cond t (read b s) (andThen (digits k s) (λ m r. read (b % 128 + 128 * m) r)) ≡ read n r → Small (suc k) (b ∷ s) n r
+        → cond t (read b s) (andThen (digits k s) (λ m r. read (b % 128 + 128 * m) r)) ≡ read n r
+        → Small (suc k) (b ∷ s) n r
     go ih true e₁ e₂ =
         let p : b ≡ n = cc in
         let q : s ≡ r = cc in
@@ -57,12 +58,14 @@ unfolding varint
 varint-short s n r e = omega (arith, small-digits 9 s n r e .short)
 
 -- a field's number is at least 1 and below 2 ^ 29, and a wire type below 8
-pub key-below : (s : List ℕ) (k : Key) (r : List ℕ) → key s ≡ read k r → (1 ≤ k .number) × (k .number < 2 ^ 29) × (k .wire < 8)
+pub key-below : (s : List ℕ) (k : Key) (r : List ℕ) → key s ≡ read k r
+    → (1 ≤ k .number) × (k .number < 2 ^ 29) × (k .wire < 8)
 unfolding key
 key-below s k r e = go (varint s) e
   where
     inner : (x : ℕ) (m : List ℕ) (t u : Bool) → leb 8 x ≡ t → ltb x (2 ^ 32) ≡ u
-        → cond t (cond u (read (record { number = x / 8; wire = x % 8 }) m) broken) broken ≡ read k r → (1 ≤ k .number) × (k .number < 2 ^ 29) × (k .wire < 8)
+        → cond t (cond u (read (record { number = x / 8; wire = x % 8 }) m) broken) broken ≡ read k r
+        → (1 ≤ k .number) × (k .number < 2 ^ 29) × (k .wire < 8)
     inner x m false u e₁ e₂ e₃ = never e₃
     inner x m true false e₁ e₂ e₃ = never e₃
     inner x m true true e₁ e₂ e₃ =
@@ -71,7 +74,10 @@ key-below s k r e = go (varint s) e
         let q : x % 8 ≡ k .wire = ap (λ j. j .wire) h in
         omega (arith, leb-true 8 x e₁, ltb-true x (2 ^ 32) e₂)
 
-    go : (o : Read ℕ) → andThen o (λ k r. cond (leb 8 k) (cond (ltb k (2 ^ 32)) (read (record { number = k / 8; wire = k % 8 }) r) broken) broken) ≡ read k r
+    go : (o : Read ℕ)
+        → andThen o
+        (λ k r. cond (leb 8 k) (cond (ltb k (2 ^ 32)) (read (record { number = k / 8; wire = k % 8 }) r) broken)
+        broken) ≡ read k r
         → (1 ≤ k .number) × (k .number < 2 ^ 29) × (k .wire < 8)
     go broken e = never e
     go (read x m) e = inner x m (leb 8 x) (ltb x (2 ^ 32)) refl refl e

@@ -3,7 +3,8 @@ use mathlib.Core.Path.{_≡_, refl}
 use mathlib.Core.List.{[], _∷_, _++_}
 use mathlib.Core.Option.{some}
 use lib.ListN.{replicate}
-use Rattle.wire.specs.Wire.{broken, read, digits, varint, key, bytes, lengthDelimited, VARINT, I64, LEN, GROUP, I32}
+use Rattle.wire.specs.Wire.{broken, read, digits, varint, key, bytes, lengthDelimited, VARINT, I64, LEN, GROUP}
+use Rattle.wire.specs.Wire.{I32}
 use Rattle.wire.specs.Wire.{payload, until, value, field, many, fields}
 
 -- 150 is 96 01

@@ -50,12 +50,14 @@ wireOf GROUP = 3
 wireOf (I32 x) = 5
 
 module _ (v : Value) (r : List ℕ) where
-  of-cond : (w : ℕ) (t : Bool) (a b : Read Value) → (t ≡ true → a ≡ read v r → wireOf v ≡ w) → (b ≡ read v r → wireOf v ≡ w)
+  of-cond : (w : ℕ) (t : Bool) (a b : Read Value) → (t ≡ true → a ≡ read v r → wireOf v ≡ w)
+      → (b ≡ read v r → wireOf v ≡ w)
       → cond t a b ≡ read v r → wireOf v ≡ w
   of-cond w true a b h h′ e = h refl e
   of-cond w false a b h h′ e = h′ e
 
-  of-then : {X : Type 0} (w : ℕ) (f : X → Value) (o : Read X) → ((x : X) → wireOf (f x) ≡ w) → andThen o (λ x r. read (f x) r) ≡ read v r → wireOf v ≡ w
+  of-then : {X : Type 0} (w : ℕ) (f : X → Value) (o : Read X) → ((x : X) → wireOf (f x) ≡ w)
+      → andThen o (λ x r. read (f x) r) ≡ read v r → wireOf v ≡ w
   of-then w f broken h e = never e
   of-then w f (read x m) h e = let p : f x ≡ v = cc in ap wireOf (sym p) ∙ h x
 
@@ -82,7 +84,8 @@ module _ (v : Value) (r : List ℕ) where
   of-until inside zero n s e = never e
   of-until inside (suc f) n s e = of-item inside n (until inside f n) s (of-until inside f n) e
 
-  of-payload : (w : ℕ) (inner : List ℕ → Read Value) (s : List ℕ) → (inner s ≡ read v r → wireOf v ≡ 3) → payload w inner s ≡ read v r → wireOf v ≡ w
+  of-payload : (w : ℕ) (inner : List ℕ → Read Value) (s : List ℕ) → (inner s ≡ read v r → wireOf v ≡ 3)
+      → payload w inner s ≡ read v r → wireOf v ≡ w
   unfolding payload
   of-payload w inner s h =
       of-cond w (eqb w 0) _ _ (λ t e. of-then 0 VARINT (varint s) (λ x. refl) e ∙ sym (eqb-true w 0 t))
@@ -96,4 +99,5 @@ module _ (v : Value) (r : List ℕ) where
   pub value-wire : (d : ℕ) (k : Key) (s : List ℕ) → value d k s ≡ read v r → wireOf v ≡ k .wire
   unfolding value
   value-wire zero k s e = of-payload (k .wire) (λ m. broken) s (λ h. never h) e
-  value-wire (suc d) k s e = of-payload (k .wire) (inGroup (value d) (k .number)) s (of-until (value d) (length s) (k .number) s) e
+  value-wire (suc d) k s e =
+      of-payload (k .wire) (inGroup (value d) (k .number)) s (of-until (value d) (length s) (k .number) s) e

@@ -33,12 +33,14 @@ reader-broken s a r e = never e
 pub reader-read : {A : Type 0} (b : A) → ReaderLaw (λ s. read b s)
 reader-read b s a r e = record { used = []; splits = cc; again = λ t. cc }
 
-pub reader-cond : {A : Type 0} (b : Bool) (p q : List ℕ → Read A) → ReaderLaw p → ReaderLaw q → ReaderLaw (λ s. cond b (p s) (q s))
+pub reader-cond : {A : Type 0} (b : Bool) (p q : List ℕ → Read A) → ReaderLaw p → ReaderLaw q
+    → ReaderLaw (λ s. cond b (p s) (q s))
 reader-cond true p q P Q = P
 reader-cond false p q P Q = Q
 
 module _ {A B : Type 0} (p : List ℕ → Read A) (q : A → List ℕ → Read B) where
-  pub front-then : {s m r : List ℕ} {a : A} {b : B} → Front p s a m → Front (q a) m b r → Front (λ s. andThen (p s) q) s b r
+  pub front-then : {s m r : List ℕ} {a : A} {b : B} → Front p s a m → Front (q a) m b r
+      → Front (λ s. andThen (p s) q) s b r
   front-then {s} {m} {r} {a} {b} F G = record {
     used = F .used ++ G .used;
     splits = F .splits ∙ ap (λ l. F .used ++ l) (G .splits) ∙ sym (append-assoc (F .used) (G .used) r);
@@ -63,7 +65,8 @@ reader-digits zero (b ∷ s) a r e = go (leb b 1) refl e
     go false e₁ e₂ = never e₂
 reader-digits (suc more) (b ∷ s) a r e = go (reader-digits more) (ltb b 128) refl e
   where
-    go : ReaderLaw (digits more) → (t : Bool) → ltb b 128 ≡ t → cond t (read b s) (andThen (digits more s) (λ n r. read (b % 128 + 128 * n) r)) ≡ read a r
+    go : ReaderLaw (digits more) → (t : Bool) → ltb b 128 ≡ t
+        → cond t (read b s) (andThen (digits more s) (λ n r. read (b % 128 + 128 * n) r)) ≡ read a r
         → Front (digits (suc more)) (b ∷ s) a r
     go D true e₁ e₂ = record { used = b ∷ []; splits = cc; again = λ t. rw e₁ (cc) }
     go D false e₁ e₂ =
@@ -84,14 +87,16 @@ pub reader-bytes : (n : ℕ) → ReaderLaw (bytes n)
 unfolding bytes
 reader-bytes n s a r e = go (leb n (length s)) refl e
   where
-    go : (t : Bool) → leb n (length s) ≡ t → cond t (read (take n s) (drop n s)) broken ≡ read a r → Front (bytes n) s a r
+    go : (t : Bool) → leb n (length s) ≡ t → cond t (read (take n s) (drop n s)) broken ≡ read a r
+        → Front (bytes n) s a r
     go true e₁ e₂ =
         let h : n ≤ length s = leb-true n (length s) e₁ in
         let l : length (take n s) ≡ n = length-take n s ∙ omega arith in
         record {
           used = take n s;
           splits = sym (take-append-drop n s) ∙ cc;
-          again = λ t. rw (le-leb n (length (take n s ++ t)) (omega (arith, length-append (take n s) t)), take-at (take n s) t n l, drop-at (take n s) t n l) (cc);
+          again = λ t. rw
+              (le-leb n (length (take n s ++ t)) (omega (arith, length-append (take n s) t)), take-at (take n s) t n l, drop-at (take n s) t n l) (cc);
         }
     go false e₁ e₂ = never e₂
 
@@ -125,7 +130,8 @@ module _ (inside : Key → List ℕ → Read Value) (I : (k : Key) → ReaderLaw
       → item inside n f s ≡ item inside n g s
   item-cong n f g s h = go (key s) refl
     where
-      last : (k : Key) (m : List ℕ) → length m < length s → (o : Read Value) → inside k m ≡ o → andThen o (λ v r. f r) ≡ andThen o (λ v r. g r)
+      last : (k : Key) (m : List ℕ) → length m < length s → (o : Read Value) → inside k m ≡ o
+          → andThen o (λ v r. f r) ≡ andThen o (λ v r. g r)
       last k m l broken e = refl
       last k m l (read v r) e = h r (omega (arith, stays (inside k) (I k) m v r e))
 
@@ -159,7 +165,8 @@ module _ (inside : Key → List ℕ → Read Value) (I : (k : Key) → ReaderLaw
       item-cong n (until inside f n) (until inside g n) s (λ r l. until-fuel f g n r (omega arith) (omega arith))
 
   -- the fields of a group, with no fuel in sight
-  pub until-step : (n : ℕ) (s : List ℕ) → until inside (length s) n s ≡ item inside n (λ r. until inside (length r) n r) s
+  pub until-step : (n : ℕ) (s : List ℕ)
+      → until inside (length s) n s ≡ item inside n (λ r. until inside (length r) n r) s
   unfolding until
   until-step n [] = sym (item-nil n (λ r. until inside (length r) n r))
   until-step n (x ∷ s) =
@@ -170,15 +177,18 @@ module _ (inside : Key → List ℕ → Read Value) (I : (k : Key) → ReaderLaw
     abbrev ends : List ℕ → Read Value
     ends r = until inside (length r) n r
 
-    item-front : (s : List ℕ) (a : Value) (r : List ℕ) → ((m : List ℕ) → length m < length s → ends m ≡ read a r → Front ends m a r)
+    item-front : (s : List ℕ) (a : Value) (r : List ℕ)
+        → ((m : List ℕ) → length m < length s → ends m ≡ read a r → Front ends m a r)
         → item inside n ends s ≡ read a r → Front (item inside n ends) s a r
     item-front s a r ih e = go (key s) refl e
       where
-        last : (k : Key) (m : List ℕ) → length m < length s → (o : Read Value) → inside k m ≡ o → andThen o (λ v r′. ends r′) ≡ read a r
+        last : (k : Key) (m : List ℕ) → length m < length s → (o : Read Value) → inside k m ≡ o
+            → andThen o (λ v r′. ends r′) ≡ read a r
             → Front (λ m. andThen (inside k m) (λ v r′. ends r′)) m a r
         last k m l broken e₁ e₂ = never e₂
         last k m l (read v r′) e₁ e₂ =
-            front-then (inside k) (λ v r′. ends r′) (I k m v r′ e₁) (ih r′ (omega (arith, stays (inside k) (I k) m v r′ e₁)) e₂)
+            front-then (inside k) (λ v r′. ends r′) (I k m v r′ e₁)
+            (ih r′ (omega (arith, stays (inside k) (I k) m v r′ e₁)) e₂)
 
         mid : (k : Key) (m : List ℕ) → length m < length s → (b : Bool)
             → cond b (cond (eqb (k .number) n) (read GROUP m) broken) (andThen (inside k m) (λ v r′. ends r′))
@@ -194,7 +204,8 @@ module _ (inside : Key → List ℕ → Read Value) (I : (k : Key) → ReaderLaw
             → Front (item inside n ends) s a r
         go broken e₁ e₂ = never e₂
         go (read k m) e₁ e₂ =
-            front-then key _ (reader-key s k m e₁) (mid k m (moves key reader-key key-nil s k m e₁) (eqb (k .wire) 4) e₂)
+            front-then key _ (reader-key s k m e₁)
+            (mid k m (moves key reader-key key-nil s k m e₁) (eqb (k .wire) 4) e₂)
 
     until-front : (f : ℕ) (s : List ℕ) → length s < f → (a : Value) (r : List ℕ) → ends s ≡ read a r → Front ends s a r
     until-front zero s h a r e = absurd (omega arith)

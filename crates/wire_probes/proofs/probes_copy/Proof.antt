@@ -12,5 +12,8 @@ probes-copy-spec =
     (tie.spec
     (λ c κs. search needs)
     (λ c. search needs)
-    (λ c. rw (le-leb (length (c .before .before .before .before .before .before .before .args .s .now)) (length (c .before .before .before .before .before .before .before .args .d .now)) (c .before .before .before .before .if1 .taken)) (c .before .before .copy .ensures))
-    (λ c. rw (lt-leb (length (c .before .before .before .args .s .now)) (length (c .before .before .before .args .d .now)) (c .if1 .left)) refl))
+    (λ c. rw (le-leb (length (c .before .before .before .before .before .before .before .args .s .now))
+    (length (c .before .before .before .before .before .before .before .args .d .now))
+    (c .before .before .before .before .if1 .taken)) (c .before .before .copy .ensures))
+    (λ c. rw (lt-leb (length (c .before .before .before .args .s .now))
+    (length (c .before .before .before .args .d .now)) (c .if1 .left)) refl))

@@ -16,6 +16,15 @@ probes-field-end-spec =
     (λ c κs. search needs)
     (λ c. search needs)
     (λ c. search needs)
-    (λ c. end-no-key (now (c .before .before .before .before .args .s)) (c .before .before .before .before .args .at) (sym (c .enum-told .given .1) ∙ c .before .before .key .ensures))
-    (λ c. end-no-value (now (c .before .before .before .before .before .before .before .before .args .s)) (c .before .before .before .before .before .before .before .before .args .at) _ _ _ (sym (c .before .before .before .before .number .given .1) ∙ c .before .before .before .before .before .before .key .ensures) (sym (c .enum-told2 .given .1) ∙ c .before .before .skip .ensures))
-    (λ c. end-past (now (c .before .before .before .before .before .before .before .before .before .args .s)) (c .before .before .before .before .before .before .before .before .before .args .at) _ _ _ (sym (c .before .before .before .before .before .number .given .1) ∙ c .before .before .before .before .before .before .before .key .ensures) _ (sym (c .before .after .given .1) ∙ c .before .before .before .skip .ensures)))
+    (λ c. end-no-key (now (c .before .before .before .before .args .s)) (c .before .before .before .before .args .at)
+    (sym (c .enum-told .given .1) ∙ c .before .before .key .ensures))
+    (λ c. end-no-value (now (c .before .before .before .before .before .before .before .before .args .s))
+    (c .before .before .before .before .before .before .before .before .args .at) _ _ _
+    (sym (c .before .before .before .before .number .given .1)
+    ∙ c .before .before .before .before .before .before .key .ensures)
+    (sym (c .enum-told2 .given .1) ∙ c .before .before .skip .ensures))
+    (λ c. end-past (now (c .before .before .before .before .before .before .before .before .before .args .s))
+    (c .before .before .before .before .before .before .before .before .before .args .at) _ _ _
+    (sym (c .before .before .before .before .before .number .given .1)
+    ∙ c .before .before .before .before .before .before .before .key .ensures) _
+    (sym (c .before .after .given .1) ∙ c .before .before .before .skip .ensures)))

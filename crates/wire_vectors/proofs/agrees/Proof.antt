@@ -12,7 +12,9 @@ agrees-spec =
     (λ c κs. search needs)
     (λ c κs. search needs)
     (λ c. search needs)
-    (λ c. sym (length-take-le (c .before .before .before .before .bytes .result .count) _ (c .before .before .before .before .bytes .ensures .0)))
+    (λ c. sym
+    (length-take-le (c .before .before .before .before .bytes .result .count) _
+    (c .before .before .before .before .bytes .ensures .0)))
     (λ c κs. search needs)
     (λ c. search needs)
     (λ c. search needs))

@@ -11,9 +11,15 @@ road-alert-spec =
     (λ c κs. search needs)
     (λ c κs.
     let a = c .before .before .before .before .before .before .before .before .before .args in
-    cause-room _ _ (a .header .now) (a .description .now) (a .cause .now) _ (c .before .before .before .before .before .before .before .before .before .pre) (c .before .before .before .write-both .ensures))
+    cause-room _ _ (a .header .now) (a .description .now) (a .cause .now) _
+    (c .before .before .before .before .before .before .before .before .before .pre)
+    (c .before .before .before .write-both .ensures))
     (λ c κs.
-    let a = c .before .before .before .before .before .before .before .before .before .before .before .before .before .args in
-    road-room _ _ (a .header .now) (a .description .now) (a .cause .now) _ (c .before .before .before .before .before .before .before .before .before .before .before .before .before .pre) (c .before .before .before .before .before .before .before .write-both .ensures) _ _ (c .before .before .before .write-next .ensures))
+    let a = c .before .before .before .before .before .before .before .before .before .before .before .before .before
+    .args in
+    road-room _ _ (a .header .now) (a .description .now) (a .cause .now) _
+    (c .before .before .before .before .before .before .before .before .before .before .before .before .before
+    .pre) (c .before .before .before .before .before .before .before .write-both .ensures) _ _
+    (c .before .before .before .write-next .ensures))
     (λ c. search needs)
     (λ c. search (road-answer)))

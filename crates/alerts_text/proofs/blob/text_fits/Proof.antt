@@ -12,9 +12,15 @@ text-fits-spec =
     (λ c κs. search needs)
     (λ c κs.
     let a = c .before .before .before .before .before .before .before .before .before .before .args in
-    short-room _ _ (a .header .now) (a .description .now) (a .short .now) _ (c .before .before .before .before .before .before .before .before .before .before .pre) (c .before .before .before .write-both .ensures))
+    short-room _ _ (a .header .now) (a .description .now) (a .short .now) _
+    (c .before .before .before .before .before .before .before .before .before .before .pre)
+    (c .before .before .before .write-both .ensures))
     (λ c κs.
-    let a = c .before .before .before .before .before .before .before .before .before .before .before .before .before .before .args in
-    name-room _ _ _ (a .header .now) (a .description .now) (a .short .now) _ _ (c .before .before .before .before .before .before .before .before .before .before .before .before .before .before .pre) (c .before .before .before .before .before .before .before .write-both .ensures) (c .before .before .before .write .ensures))
+    let a = c .before .before .before .before .before .before .before .before .before .before .before .before .before
+    .before .args in
+    name-room _ _ _ (a .header .now) (a .description .now) (a .short .now) _ _
+    (c .before .before .before .before .before .before .before .before .before .before .before .before .before
+    .before .pre) (c .before .before .before .before .before .before .before .write-both .ensures)
+    (c .before .before .before .write .ensures))
     (λ c. search needs)
     (λ c. search (fits-text)))

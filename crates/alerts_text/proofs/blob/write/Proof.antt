@@ -1,4 +1,5 @@
--- `alerts_text::blob::write` meets its contract. The invariant: what is written, and what is left, is the text as it is searched.
+-- `alerts_text::blob::write` meets its contract. The invariant: what is written, and what is left, is the text as it
+-- is searched.
 use native.Mathlib.Omega.{arith}
 use Prim.Native.Nat.{_-_}
 use lib.ListN.{length}

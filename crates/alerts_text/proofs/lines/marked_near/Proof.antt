@@ -16,15 +16,18 @@ marked-near-spec =
     (λ c κs. search needs)
     (λ c.
     let a = c .before .before .before .args in
-    let b = lesser-within (a .i + a .n + 24) (length (a .s .now)) (a .i - 48) (omega (arith, c .before .before .before .pre)) (omega (arith, c .before .before .before .pre)) in
+    let b = lesser-within (a .i + a .n + 24) (length (a .s .now)) (a .i - 48)
+    (omega (arith, c .before .before .before .pre)) (omega (arith, c .before .before .before .pre)) in
     omega (arith, c .ahead .ensures, c .before .back .ensures, b .0, b .1))
     (λ c.
     let a = c .before .before .before .args in
-    let b = lesser-within (a .i + a .n + 24) (length (a .s .now)) (a .i - 48) (omega (arith, c .before .before .before .pre)) (omega (arith, c .before .before .before .pre)) in
+    let b = lesser-within (a .i + a .n + 24) (length (a .s .now)) (a .i - 48)
+    (omega (arith, c .before .before .before .pre)) (omega (arith, c .before .before .before .pre)) in
     omega (arith, c .ahead .ensures, c .before .back .ensures, b .0, b .1))
     (λ c.
     let a = c .before .before .before .args in
-    let b = lesser-within (a .i + a .n + 24) (length (a .s .now)) (a .i - 48) (omega (arith, c .before .before .before .pre)) (omega (arith, c .before .before .before .pre)) in
+    let b = lesser-within (a .i + a .n + 24) (length (a .s .now)) (a .i - 48)
+    (omega (arith, c .before .before .before .pre)) (omega (arith, c .before .before .before .pre)) in
     omega (arith, c .ahead .ensures, c .before .back .ensures, b .0, b .1))
     (λ c κs. search needs)
     (λ c. search (window-marked)))

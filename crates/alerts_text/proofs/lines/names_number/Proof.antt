@@ -18,8 +18,16 @@ names-number-spec =
     (λ c κs. search needs)
     (λ c.
     let a = c .before .before .before .before .before .before .before .before .before .before .before .args in
-    number-bare (a .s .now) (a .name .now) _ _ _ (c .before .before .before .before .before .before .before .any-in .ensures) (c .before .before .before .before .before .before .if1 .left) (c .before .before .before .before .any-in2 .ensures) (c .before .before .before .if2 .left) (c .before .any-in3 .ensures) (c .if3 .taken))
+    number-bare (a .s .now) (a .name .now) _ _ _
+    (c .before .before .before .before .before .before .before .any-in .ensures)
+    (c .before .before .before .before .before .before .if1 .left)
+    (c .before .before .before .before .any-in2 .ensures) (c .before .before .before .if2 .left)
+    (c .before .any-in3 .ensures) (c .if3 .taken))
     (λ c κs. search needs)
     (λ c.
     let a = c .before .before .before .before .before .before .before .before .before .before .before .before .args in
-    number-last (a .s .now) (a .name .now) _ _ _ _ (c .before .before .before .before .before .before .before .before .any-in .ensures) (c .before .before .before .before .before .before .before .if1 .left) (c .before .before .before .before .before .any-in2 .ensures) (c .before .before .before .before .if2 .left) (c .before .before .any-in3 .ensures) (c .before .if3 .left) (c .ends-spaced .ensures)))
+    number-last (a .s .now) (a .name .now) _ _ _ _
+    (c .before .before .before .before .before .before .before .before .any-in .ensures)
+    (c .before .before .before .before .before .before .before .if1 .left)
+    (c .before .before .before .before .before .any-in2 .ensures) (c .before .before .before .before .if2 .left)
+    (c .before .before .any-in3 .ensures) (c .before .if3 .left) (c .ends-spaced .ensures)))

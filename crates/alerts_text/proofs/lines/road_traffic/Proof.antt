@@ -16,7 +16,18 @@ road-traffic-spec =
     (λ c. search (road-no-stop))
     (λ c. search needs)
     (λ c κs. search needs)
-    (λ c. road-unmoved (c .before .before .before .before .before .before .before .before .before .before .args .s .now) _ (c .before .before .before .before .before .before .before .any-in .ensures) (c .before .before .before .before .before .before .if1 .left) _ (c .before .before .before .before .any-in2 .ensures) (c .before .before .before .if2 .left) _ (c .before .any-in3 .ensures) (c .if3 .taken))
+    (λ c. road-unmoved
+    (c .before .before .before .before .before .before .before .before .before .before .args .s .now) _
+    (c .before .before .before .before .before .before .before .any-in .ensures)
+    (c .before .before .before .before .before .before .if1 .left) _
+    (c .before .before .before .before .any-in2 .ensures) (c .before .before .before .if2 .left) _
+    (c .before .any-in3 .ensures) (c .if3 .taken))
     (λ c. search needs)
     (λ c κs. search needs)
-    (λ c. road-last (c .before .before .before .before .before .before .before .before .before .before .before .before .args .s .now) _ (c .before .before .before .before .before .before .before .before .before .any-in .ensures) (c .before .before .before .before .before .before .before .before .if1 .left) _ (c .before .before .before .before .before .before .any-in2 .ensures) (c .before .before .before .before .before .if2 .left) _ (c .before .before .before .any-in3 .ensures) (c .before .before .if3 .left) _ (c .any-in4 .ensures)))
+    (λ c. road-last
+    (c .before .before .before .before .before .before .before .before .before .before .before .before .args .s
+    .now) _ (c .before .before .before .before .before .before .before .before .before .any-in .ensures)
+    (c .before .before .before .before .before .before .before .before .if1 .left) _
+    (c .before .before .before .before .before .before .any-in2 .ensures)
+    (c .before .before .before .before .before .if2 .left) _ (c .before .before .before .any-in3 .ensures)
+    (c .before .before .if3 .left) _ (c .any-in4 .ensures)))

@@ -10,9 +10,16 @@ secondary-spec =
     (tie.spec
     (λ c. search needs)
     (λ c κs. search needs)
-    (λ c. secondary-near (c .before .before .before .before .before .args .s .now) (c .before .before .before .before .before .args .name .now) _ (c .before .any-piece .ensures) (c .if1 .taken))
+    (λ c. secondary-near (c .before .before .before .before .before .args .s .now)
+    (c .before .before .before .before .before .args .name .now) _ (c .before .any-piece .ensures) (c .if1 .taken))
     (λ c κs. search needs)
-    (λ c. secondary-not (c .before .before .before .before .before .before .before .args .s .now) (c .before .before .before .before .before .before .before .args .name .now) _ _ (c .before .before .before .any-piece .ensures) (c .before .before .if1 .left) (c .before .marked .ensures) (c .if2 .taken))
+    (λ c. secondary-not (c .before .before .before .before .before .before .before .args .s .now)
+    (c .before .before .before .before .before .before .before .args .name .now) _ _
+    (c .before .before .before .any-piece .ensures) (c .before .before .if1 .left) (c .before .marked .ensures)
+    (c .if2 .taken))
     (λ c. search needs)
     (λ c κs. search needs)
-    (λ c. secondary-all (c .before .before .before .before .before .before .before .before .before .args .s .now) (c .before .before .before .before .before .before .before .before .before .args .name .now) _ _ _ (c .before .before .before .before .before .any-piece .ensures) (c .before .before .before .before .if1 .left) (c .before .before .before .marked .ensures) (c .before .before .if2 .left) (c .any-in .ensures)))
+    (λ c. secondary-all (c .before .before .before .before .before .before .before .before .before .args .s .now)
+    (c .before .before .before .before .before .before .before .before .before .args .name .now) _ _ _
+    (c .before .before .before .before .before .any-piece .ensures) (c .before .before .before .before .if1 .left)
+    (c .before .before .before .marked .ensures) (c .before .before .if2 .left) (c .any-in .ensures)))

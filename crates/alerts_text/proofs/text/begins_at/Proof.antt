@@ -2,7 +2,8 @@
 use Prim.Native.Nat.{_-_}
 use native.Mathlib.Omega.{arith}
 use lib.ListN.{length}
-use Rattle.alerts_text.proofs.Searching.{Stands, stands-start, stands-short, stands-differs, stands-more, stands-whole}
+use Rattle.alerts_text.proofs.Searching.{Stands, stands-start, stands-short, stands-differs, stands-more}
+use Rattle.alerts_text.proofs.Searching.{stands-whole}
 use Rattle.alerts_text.proofs.text.begins_at.Statement.{statement}
 use Rattle.alerts_text.proofs.text.begins_at.Tie as tie
 

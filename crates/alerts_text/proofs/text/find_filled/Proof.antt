@@ -16,7 +16,9 @@ find-filled-spec =
     (λ c κs. search needs)
     (λ c. search (unfilled))
     (λ c. search needs)
-    (λ c. sym (length-take-le (c .before .before .next .result) (c .before .before .before .before .before .before .args .pattern .now) (omega arith)))
+    (λ c. sym
+    (length-take-le (c .before .before .next .result)
+    (c .before .before .before .before .before .before .args .pattern .now) (omega arith)))
     (λ c. search needs)
     (λ c. search needs)
     (λ c. search needs)
