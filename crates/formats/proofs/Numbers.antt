@@ -128,21 +128,21 @@ module _ (s : List ℕ) (at b : ℕ) (h : at < length s) (e : b ≡ getD s at 0)
       more-below h = omega (arith, got-fits (groupsLaw (k - 1)) s (at + 1) n q rest, top-le (k - 1) (omega arith))
 
   -- another byte follows
-  module _ (k : ℕ) (z : k ≡ 0 → ⊥) (u : b < 256) (o : Numeral) (r : o ≡ numbered s (littleR (k - 1) (drop (at + 1) s)))
-    where
-      next : littleR k (drop at s) ≡ bind (littleR (k - 1) (drop (at + 1) s)) (λ h t. some (b + 256 * h, t))
-      next = let i : k ≡ suc (k - 1) = omega arith in ap (λ k. littleR k (drop at s)) i ∙ rw (opened, lt-ltb b 256 u) refl
+  module _ (k : ℕ) (z : k ≡ 0 → ⊥) (u : b < 256) (o : Numeral)
+      (r : o ≡ numbered s (littleR (k - 1) (drop (at + 1) s))) where
+    next : littleR k (drop at s) ≡ bind (littleR (k - 1) (drop (at + 1) s)) (λ h t. some (b + 256 * h, t))
+    next = let i : k ≡ suc (k - 1) = omega arith in ap (λ k. littleR k (drop at s)) i ∙ rw (opened, lt-ltb b 256 u) refl
 
-      pub little-bad : o ≡ Bad → Bad ≡ numbered s (littleR k (drop at s))
-      little-bad f = rw (next, bad-none s (littleR (k - 1) (drop (at + 1) s)) o r f) refl
+    pub little-bad : o ≡ Bad → Bad ≡ numbered s (littleR k (drop at s))
+    little-bad f = rw (next, bad-none s (littleR (k - 1) (drop (at + 1) s)) o r f) refl
 
-      module _ (n q : ℕ) (f : o ≡ Got n q) where
-        others : Found (littleR (k - 1)) s (at + 1) n q
-        others = got (littleLaw (k - 1)) s (at + 1) n q o r f
+    module _ (n q : ℕ) (f : o ≡ Got n q) where
+      others : Found (littleR (k - 1)) s (at + 1) n q
+      others = got (littleLaw (k - 1)) s (at + 1) n q o r f
 
-        pub little-good : Got (b + 256 * n) q ≡ numbered s (littleR k (drop at s))
-        little-good = rw (next, others .reads, place s q (others .within)) refl
+      pub little-good : Got (b + 256 * n) q ≡ numbered s (littleR k (drop at s))
+      little-good = rw (next, others .reads, place s q (others .within)) refl
 
-        pub little-below : k ≤ 8 → n < 2 ^ 56
-        little-below h = let i : k - 1 ≤ 7 = omega arith in let p : 256 ^ (k - 1) ≤ 256 ^ 7 =
-            pow-le-pow-right (omega arith) i in omega (arith, got-fits (littleLaw (k - 1)) s (at + 1) n q others)
+      pub little-below : k ≤ 8 → n < 2 ^ 56
+      little-below h = let i : k - 1 ≤ 7 = omega arith in let p : 256 ^ (k - 1) ≤ 256 ^ 7 =
+          pow-le-pow-right (omega arith) i in omega (arith, got-fits (littleLaw (k - 1)) s (at + 1) n q others)

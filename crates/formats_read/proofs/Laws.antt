@@ -58,16 +58,16 @@ module _ {s : List ℕ} {at : ℕ} {r : Numeral} (e : r ≡ numbered s (numberR 
   number-got b = record { value = λ h. let z = got h in cc; next = λ h. let z = got h in cc }
 
 -- a float
-module _ {s : List ℕ} {at n q : ℕ} (h : Here float s at q n) {r : Numeral} (e : r ≡ numbered s (littleR 8 (drop at s)))
-  where
-    bits : r ≡ Got n q
-    bits = e ∙ ap (numbered s) (reads h) ∙ ap (Got n) (place s q (h .within))
+module _ {s : List ℕ} {at n q : ℕ} (h : Here float s at q n) {r : Numeral}
+    (e : r ≡ numbered s (littleR 8 (drop at s))) where
+  bits : r ≡ Got n q
+  bits = e ∙ ap (numbered s) (reads h) ∙ ap (Got n) (place s q (h .within))
 
-    pub float-none : r ≡ Bad → ⊥
-    float-none b = let z = bits in (let z : _≡_ {A = ℕ} 0 1 = cc in omega arith)
+  pub float-none : r ≡ Bad → ⊥
+  float-none b = let z = bits in (let z : _≡_ {A = ℕ} 0 1 = cc in omega arith)
 
-    pub float-got : {m p : ℕ} → r ≡ Got m p → m ≡ n
-    float-got b = let z = bits in cc
+  pub float-got : {m p : ℕ} → r ≡ Got m p → m ≡ n
+  float-got b = let z = bits in cc
 
 -- a signed number
 pub signed-is : {s : List ℕ} {at q n e : ℕ} {lo hi z : ℤ} → Here (signed lo hi) s at q z → ReadsNumber s at n e

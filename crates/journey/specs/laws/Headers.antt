@@ -67,35 +67,35 @@ set l = puts texts (map entry l) []
 
 -- ---- what holds of every label holds of every header
 
-module _ (B : Feeds) (P : List ℕ → Type 0) (h : (f : List ℕ) → Given (λ R. All (λ a. P (label a)) (R .alerts)) (B f))
-  where
-    alerts-each : (t : Transit) → All (λ a. P (label a)) (alerts-of B t)
-    unfolding alerts-of
-    alerts-each t =
-        each-filter (λ a. P (label a)) (applies t) (alertsIn (B (feed-of (t .trip))))
-        (go (B (feed-of (t .trip))) (h (feed-of (t .trip))))
-      where
-        go : (o : Option Records) → Given (λ R. All (λ a. P (label a)) (R .alerts)) o
-            → All (λ a. P (label a)) (alertsIn o)
-        go none x = tt
-        go (some R) x = x
+module _ (B : Feeds) (P : List ℕ → Type 0)
+    (h : (f : List ℕ) → Given (λ R. All (λ a. P (label a)) (R .alerts)) (B f)) where
+  alerts-each : (t : Transit) → All (λ a. P (label a)) (alerts-of B t)
+  unfolding alerts-of
+  alerts-each t =
+      each-filter (λ a. P (label a)) (applies t) (alertsIn (B (feed-of (t .trip))))
+      (go (B (feed-of (t .trip))) (h (feed-of (t .trip))))
+    where
+      go : (o : Option Records) → Given (λ R. All (λ a. P (label a)) (R .alerts)) o
+          → All (λ a. P (label a)) (alertsIn o)
+      go none x = tt
+      go (some R) x = x
 
-    legs-each : (ts : List Transit) → All P (concatMap (λ t. map label (alerts-of B t)) ts)
-    legs-each [] = tt
-    legs-each (t ∷ ts) =
-        each-append P (map label (alerts-of B t)) _ (each-mapped label P (alerts-of B t) (alerts-each t)) (legs-each ts)
+  legs-each : (ts : List Transit) → All P (concatMap (λ t. map label (alerts-of B t)) ts)
+  legs-each [] = tt
+  legs-each (t ∷ ts) =
+      each-append P (map label (alerts-of B t)) _ (each-mapped label P (alerts-of B t) (alerts-each t)) (legs-each ts)
 
-    labels-each : (ts : List Transit) → All (λ e. P (e .0)) (set (labels-of B ts))
-    unfolding labels-of
-    labels-each ts =
-        let every = concatMap (λ t. map label (alerts-of B t)) ts in
-        let l = filter (λ x. not (isEmpty x)) every in
-        each-puts texts (λ e. P (e .0)) (map entry l) []
-        (each-mapped entry (λ e. P (e .0)) l (each-filter P (λ x. not (isEmpty x)) every (legs-each ts))) tt
+  labels-each : (ts : List Transit) → All (λ e. P (e .0)) (set (labels-of B ts))
+  unfolding labels-of
+  labels-each ts =
+      let every = concatMap (λ t. map label (alerts-of B t)) ts in
+      let l = filter (λ x. not (isEmpty x)) every in
+      each-puts texts (λ e. P (e .0)) (map entry l) []
+      (each-mapped entry (λ e. P (e .0)) l (each-filter P (λ x. not (isEmpty x)) every (legs-each ts))) tt
 
-    pub headers-each : (ts : List Transit) → All P (headers-of B ts)
-    unfolding headers-of
-    headers-each ts = keys-each P (set (labels-of B ts)) (labels-each ts)
+  pub headers-each : (ts : List Transit) → All P (headers-of B ts)
+  unfolding headers-of
+  headers-each ts = keys-each P (set (labels-of B ts)) (labels-each ts)
 
 -- ---- a set has no more members than one that has them all
 
