@@ -388,7 +388,17 @@ module _ (s u : List ℕ) where
               → not y ≡ textOk s (commercial-lines-in-text s) u
           ok-last h y hy =
               sym (text-is
-              ∙ rw (← hn, not-false n named, ← hm, not-false m own, ← ho, not-false o listed, ← hx, not-false x h, ← hy) refl)
+              ∙ rw (
+                ← hn,
+                not-false n named,
+                ← hm,
+                not-false m own,
+                ← ho,
+                not-false o listed,
+                ← hx,
+                not-false x h,
+                ← hy,
+              ) refl)
 
 -- road traffic
 module _ (s : List ℕ) (t : Bool) (ht : t ≡ anyIn (text "TRAFIC ROUTIER") s s) where

@@ -190,7 +190,8 @@ fn text_ok_at(s: &[u8], n: usize, e: usize) -> bool
 // Whether the alert's texts may be about the line; out is what they are folded into.
 pub fn text_fits(out: &mut [u8], header: &[u8], description: &[u8], short: &[u8]) -> bool
     requires { ⌜ length (now header) + length (now description) + length (now short) < length (now out) ⌝ }
-    ensures { λ r. ⌜ Answered (now (out .entry)) (now (out .exit)) r (fitsOf (now (header .entry)) (now (description .entry)) (now (short .entry))) ⌝ }
+    ensures { λ r. ⌜ Answered (now (out .entry)) (now (out .exit)) r
+        (fitsOf (now (header .entry)) (now (description .entry)) (now (short .entry))) ⌝ }
 {
     if short.len() == 0 {
         return true;
@@ -210,7 +211,8 @@ fn road_at(s: &[u8], n: usize) -> bool
 // Whether the alert is about road traffic; out is what its texts are written into.
 pub fn road_alert(out: &mut [u8], header: &[u8], description: &[u8], cause: &[u8]) -> bool
     requires { ⌜ length (now header) + length (now description) + length (now cause) + 1 < length (now out) ⌝ }
-    ensures { λ r. ⌜ Answered (now (out .entry)) (now (out .exit)) r (roadOf (now (header .entry)) (now (description .entry)) (now (cause .entry))) ⌝ }
+    ensures { λ r. ⌜ Answered (now (out .entry)) (now (out .exit)) r
+        (roadOf (now (header .entry)) (now (description .entry)) (now (cause .entry))) ⌝ }
 {
     let a = write_both(out, header, description, false);
     let n = write_next(out, a, cause, false);

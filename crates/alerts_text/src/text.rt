@@ -34,7 +34,8 @@ pub fn begins_at(s: &[u8], i: usize, p: &[u8]) -> bool
 
 // Whether the three parts stand in s at i, one after the other.
 pub fn around_at(s: &[u8], i: usize, before: &[u8], name: &[u8], after: &[u8]) -> bool
-    ensures { λ r. ⌜ r ≡ begins (now (before .entry) ++ now (name .entry) ++ now (after .entry)) (drop i (now (s .entry))) ⌝ }
+    ensures { λ r. ⌜ r ≡ begins (now (before .entry) ++ now (name .entry) ++ now (after .entry))
+        (drop i (now (s .entry))) ⌝ }
 {
     if !begins_at(s, i, before) {
         return false;
@@ -49,7 +50,8 @@ pub fn around_at(s: &[u8], i: usize, before: &[u8], name: &[u8], after: &[u8]) -
 
 // Where the three parts first stand in s.
 pub fn find_around(s: &[u8], before: &[u8], name: &[u8], after: &[u8]) -> Found
-    ensures { λ r. ⌜ r ≡ foundOf (find (now (before .entry) ++ now (name .entry) ++ now (after .entry)) (now (s .entry))) ⌝ }
+    ensures { λ r. ⌜ r ≡
+        foundOf (find (now (before .entry) ++ now (name .entry) ++ now (after .entry)) (now (s .entry))) ⌝ }
 {
     let mut i = 0;
     while i < s.len() {

@@ -15,8 +15,13 @@ bit b = cond b 1 0
 -- what a stop_time_update holds
 unfoldable pub updateIn : Tree → StopUpdate
 updateIn s =
-    let u = stopUpdate s in
-    (u .stop, (maybe (u .arrival .delay), (maybe (u .arrival .time), (maybe (u .departure .delay), (maybe (u .departure .time), bit (u .skipped))))))
+    let u = stopUpdate s in (
+      u .stop,
+      (
+        maybe (u .arrival .delay),
+        (maybe (u .arrival .time), (maybe (u .departure .delay), (maybe (u .departure .time), bit (u .skipped)))),
+      ),
+    )
 
 -- the updates of an entity, a later one at a sequence over an earlier one
 unfoldable pub updatesIn : Tree → List (ℕ × StopUpdate)

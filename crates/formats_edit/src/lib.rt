@@ -26,7 +26,8 @@ pub fn edit(
     out: &mut [u8],
     w: Put,
 ) -> Put
-    ensures { λ r. ⌜ Edits (formatAt depth (now (t .entry)) node) (now (s .entry)) p q i k count (now (new .entry)) (now (out .entry)) w (now (out .exit)) r ⌝ }
+    ensures { λ r. ⌜ Edits (formatAt depth (now (t .entry)) node) (now (s .entry)) p q i k count (now (new .entry))
+        (now (out .entry)) w (now (out .exit)) r ⌝ }
 {
     let c = formats_read::number(s, p);
     let a = c.next;
@@ -59,7 +60,8 @@ pub fn insert(
     out: &mut [u8],
     w: Put,
 ) -> Put
-    ensures { λ r. ⌜ Edits (formatAt depth (now (t .entry)) node) (now (s .entry)) p q i 0 1 (now (new .entry)) (now (out .entry)) w (now (out .exit)) r ⌝ }
+    ensures { λ r. ⌜ Edits (formatAt depth (now (t .entry)) node) (now (s .entry)) p q i 0 1 (now (new .entry))
+        (now (out .entry)) w (now (out .exit)) r ⌝ }
 {
     edit(t, depth, node, s, p, q, i, 0, 1, new, out, w)
 }
@@ -77,7 +79,8 @@ pub fn replace(
     out: &mut [u8],
     w: Put,
 ) -> Put
-    ensures { λ r. ⌜ Edits (formatAt depth (now (t .entry)) node) (now (s .entry)) p q i 1 1 (now (new .entry)) (now (out .entry)) w (now (out .exit)) r ⌝ }
+    ensures { λ r. ⌜ Edits (formatAt depth (now (t .entry)) node) (now (s .entry)) p q i 1 1 (now (new .entry))
+        (now (out .entry)) w (now (out .exit)) r ⌝ }
 {
     edit(t, depth, node, s, p, q, i, 1, 1, new, out, w)
 }
@@ -94,7 +97,8 @@ pub fn remove(
     out: &mut [u8],
     w: Put,
 ) -> Put
-    ensures { λ r. ⌜ Edits (formatAt depth (now (t .entry)) node) (now (s .entry)) p q i 1 0 [] (now (out .entry)) w (now (out .exit)) r ⌝ }
+    ensures { λ r. ⌜ Edits (formatAt depth (now (t .entry)) node) (now (s .entry)) p q i 1 0 [] (now (out .entry)) w
+        (now (out .exit)) r ⌝ }
 {
     edit(t, depth, node, s, p, q, i, 1, 0, b"", out, w)
 }
@@ -111,7 +115,10 @@ fn mark(m: &[u32], i: usize) -> usize
 
 // The list of the n texts of s that the marks point at.
 pub fn texts(out: &mut [u8], w: Put, s: &[u8], from: &[u32], to: &[u32], n: usize) -> Put
-    ensures { λ r. ⌜ ((l k : ℕ) (c : Class) → Marks (now (s .entry)) (now (from .entry)) (now (to .entry)) n → Adds (now (out .entry)) w (now (out .exit)) r (write (list k (text l c)) (marked (now (s .entry)) (now (from .entry)) (now (to .entry)) n))) ⌝ }
+    ensures { λ r. ⌜
+        ((l k : ℕ) (c : Class) → Marks (now (s .entry)) (now (from .entry)) (now (to .entry)) n
+        → Adds (now (out .entry)) w (now (out .exit)) r
+        (write (list k (text l c)) (marked (now (s .entry)) (now (from .entry)) (now (to .entry)) n))) ⌝ }
 {
     let mut q = formats_write::number(out, w, n as u64);
     let mut i = 0;

@@ -43,7 +43,9 @@ pub fn judge(s: &[u8], at: usize) -> Judge
 
 // The place of field k of the ticket at `at`.
 fn field(k: u32, s: &[u8], at: usize) -> usize
-    ensures { λ r. ⌜ ((i : Has k ticket) (v : Value ticket) (q : ℕ) → Here ticket (now (s .entry)) at q v → Field k ticket i (now (s .entry)) at q v r) ⌝ }
+    ensures { λ r. ⌜
+        ((i : Has k ticket) (v : Value ticket) (q : ℕ) → Here ticket (now (s .entry)) at q v
+        → Field k ticket i (now (s .entry)) at q v r) ⌝ }
 {
     formats_read::place(&TICKET, DEPTH, NODE, k, s, at)
 }
@@ -57,7 +59,9 @@ pub fn id(s: &[u8], at: usize) -> u64
 
 // The ticket that s is, written with another number.
 pub fn renumber(s: &[u8], n: u64, out: &mut [u8]) -> Put
-    ensures { λ r. ⌜ ((v : Value ticket) → read ticket (now (s .entry)) ≡ some (v, []) → Wrote (now (out .entry)) (now (out .exit)) r (write ticket (renumbered n v))) ⌝ }
+    ensures { λ r. ⌜
+        ((v : Value ticket) → read ticket (now (s .entry)) ≡ some (v, [])
+        → Wrote (now (out .entry)) (now (out .exit)) r (write ticket (renumbered n v))) ⌝ }
 {
     let a = field(1, s, 0);
     let b = field(2, s, 0);
@@ -69,7 +73,10 @@ pub fn renumber(s: &[u8], n: u64, out: &mut [u8]) -> Put
 
 // The ticket that s is, written with one ride more, whose bytes are `new`, before ride i.
 pub fn add_ride(s: &[u8], i: u64, new: &[u8], out: &mut [u8]) -> Put
-    ensures { λ r. ⌜ ((v : Value ticket) (x : Value ride) → read ticket (now (s .entry)) ≡ some (v, []) → i ≤ length (ridesOf v) → length (ridesOf v) ≤ 4 → now (new .entry) ≡ write ride x → Wrote (now (out .entry)) (now (out .exit)) r (write ticket (withRide i x v))) ⌝ }
+    ensures { λ r. ⌜
+        ((v : Value ticket) (x : Value ride) → read ticket (now (s .entry)) ≡ some (v, []) → i ≤ length (ridesOf v)
+        → length (ridesOf v) ≤ 4 → now (new .entry) ≡ write ride x
+        → Wrote (now (out .entry)) (now (out .exit)) r (write ticket (withRide i x v))) ⌝ }
 {
     let a = field(5, s, 0);
     let b = formats_read::past(&TICKET, DEPTH, RIDES, s, a);

@@ -52,7 +52,10 @@ pub fn locate(t: &[u64], depth: u32, node: u64, k: u32, s: &[u8], at: usize) -> 
 
 // The place of field k of the record at `at`.
 pub fn place(t: &[u64], depth: u32, node: u64, k: u32, s: &[u8], at: usize) -> usize
-    ensures { λ r. ⌜ ((i : Has k (formatAt depth (now (t .entry)) node)) (v : Value (formatAt depth (now (t .entry)) node)) (q : ℕ) → Here (formatAt depth (now (t .entry)) node) (now (s .entry)) at q v → Field k (formatAt depth (now (t .entry)) node) i (now (s .entry)) at q v r) ⌝ }
+    ensures { λ r. ⌜
+        ((i : Has k (formatAt depth (now (t .entry)) node)) (v : Value (formatAt depth (now (t .entry)) node)) (q : ℕ)
+        → Here (formatAt depth (now (t .entry)) node) (now (s .entry)) at q v
+        → Field k (formatAt depth (now (t .entry)) node) i (now (s .entry)) at q v r) ⌝ }
 {
     if s.len() < at {
         return 0;
@@ -65,7 +68,9 @@ pub fn place(t: &[u64], depth: u32, node: u64, k: u32, s: &[u8], at: usize) -> u
 
 // The place past the value at `at`.
 pub fn past(t: &[u64], depth: u32, node: u64, s: &[u8], at: usize) -> usize
-    ensures { λ r. ⌜ ((v : Value (formatAt depth (now (t .entry)) node)) (q : ℕ) → Here (formatAt depth (now (t .entry)) node) (now (s .entry)) at q v → r ≡ q) ⌝ }
+    ensures { λ r. ⌜
+        ((v : Value (formatAt depth (now (t .entry)) node)) (q : ℕ)
+        → Here (formatAt depth (now (t .entry)) node) (now (s .entry)) at q v → r ≡ q) ⌝ }
 {
     if s.len() < at {
         return 0;
@@ -141,7 +146,9 @@ pub fn text(s: &[u8], at: usize) -> Span
 }
 
 pub fn optional_number(s: &[u8], at: usize) -> OptionalNumber
-    ensures { λ r. ⌜ ((lo hi : ℕ) (v : Value (optional (number lo hi))) (q : ℕ) → Here (optional (number lo hi)) (now (s .entry)) at q v → givenNumber r ≡ v) ⌝ }
+    ensures { λ r. ⌜
+        ((lo hi : ℕ) (v : Value (optional (number lo hi))) (q : ℕ)
+        → Here (optional (number lo hi)) (now (s .entry)) at q v → givenNumber r ≡ v) ⌝ }
 {
     if s.len() <= at {
         return OptionalNumber::Absent;
@@ -153,7 +160,9 @@ pub fn optional_number(s: &[u8], at: usize) -> OptionalNumber
 }
 
 pub fn optional_signed(s: &[u8], at: usize) -> OptionalSigned
-    ensures { λ r. ⌜ ((lo hi : ℤ) (v : Value (optional (signed lo hi))) (q : ℕ) → Here (optional (signed lo hi)) (now (s .entry)) at q v → givenSigned r ≡ v) ⌝ }
+    ensures { λ r. ⌜
+        ((lo hi : ℤ) (v : Value (optional (signed lo hi))) (q : ℕ)
+        → Here (optional (signed lo hi)) (now (s .entry)) at q v → givenSigned r ≡ v) ⌝ }
 {
     if s.len() <= at {
         return OptionalSigned::Absent;
@@ -165,7 +174,8 @@ pub fn optional_signed(s: &[u8], at: usize) -> OptionalSigned
 }
 
 pub fn optional_float(s: &[u8], at: usize) -> OptionalNumber
-    ensures { λ r. ⌜ ((v : Value (optional float)) (q : ℕ) → Here (optional float) (now (s .entry)) at q v → givenNumber r ≡ v) ⌝ }
+    ensures { λ r. ⌜
+        ((v : Value (optional float)) (q : ℕ) → Here (optional float) (now (s .entry)) at q v → givenNumber r ≡ v) ⌝ }
 {
     if s.len() <= at {
         return OptionalNumber::Absent;
@@ -177,7 +187,10 @@ pub fn optional_float(s: &[u8], at: usize) -> OptionalNumber
 }
 
 pub fn optional_text(s: &[u8], at: usize) -> OptionalText
-    ensures { λ r. ⌜ ((l : ℕ) (c : Class) (v : Value (optional (text l c))) (q : ℕ) → Here (optional (text l c)) (now (s .entry)) at q v → (givenText (now (s .entry)) r ≡ v) × Inside (now (s .entry)) r) ⌝ }
+    ensures { λ r. ⌜
+        ((l : ℕ) (c : Class) (v : Value (optional (text l c))) (q : ℕ)
+        → Here (optional (text l c)) (now (s .entry)) at q v
+        → (givenText (now (s .entry)) r ≡ v) × Inside (now (s .entry)) r) ⌝ }
 {
     if s.len() <= at {
         return OptionalText::Absent;

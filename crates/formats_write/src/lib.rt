@@ -106,7 +106,9 @@ pub fn float(out: &mut [u8], w: Put, bits: u64) -> Put
 
 // The bytes of s from `from` up to `to`: of a value that stands there, its writing.
 pub fn stretch(out: &mut [u8], w: Put, s: &[u8], from: usize, to: usize) -> Put
-    ensures { λ r. ⌜ (from ≤ to → to ≤ length (now (s .entry)) → Adds (now (out .entry)) w (now (out .exit)) r (slice from to (now (s .entry)))) ⌝ }
+    ensures { λ r. ⌜
+        (from ≤ to → to ≤ length (now (s .entry))
+        → Adds (now (out .entry)) w (now (out .exit)) r (slice from to (now (s .entry)))) ⌝ }
 {
     let Put::At(at) = w else {
         return Put::Full;
@@ -130,7 +132,9 @@ pub fn stretch(out: &mut [u8], w: Put, s: &[u8], from: usize, to: usize) -> Put
 
 // The bytes of s from `from` up to `to`, as a text: their number first.
 pub fn text(out: &mut [u8], w: Put, s: &[u8], from: usize, to: usize) -> Put
-    ensures { λ r. ⌜ (from ≤ to → to ≤ length (now (s .entry)) → Adds (now (out .entry)) w (now (out .exit)) r (textW (slice from to (now (s .entry))))) ⌝ }
+    ensures { λ r. ⌜
+        (from ≤ to → to ≤ length (now (s .entry))
+        → Adds (now (out .entry)) w (now (out .exit)) r (textW (slice from to (now (s .entry))))) ⌝ }
 {
     if to < from {
         return Put::Full;
@@ -177,7 +181,9 @@ pub fn optional_float(out: &mut [u8], w: Put, v: OptionalNumber) -> Put
 }
 
 pub fn optional_text(out: &mut [u8], w: Put, s: &[u8], v: OptionalText) -> Put
-    ensures { λ r. ⌜ (Inside (now (s .entry)) v → Adds (now (out .entry)) w (now (out .exit)) r (optionalW textW (givenText (now (s .entry)) v))) ⌝ }
+    ensures { λ r. ⌜
+        (Inside (now (s .entry)) v → Adds (now (out .entry)) w (now (out .exit)) r
+        (optionalW textW (givenText (now (s .entry)) v))) ⌝ }
 {
     match v {
         OptionalText::Absent => byte(out, w, 0),

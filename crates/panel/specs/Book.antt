@@ -49,7 +49,11 @@ ifRead (some a) b k = k a
 -- passed over (`leaves`)
 abbrev pub messageEnters : List ℕ → Tree → Book → Book
 messageEnters f t bk =
-    enter f (record { trips = leaves f t (recordsIn bk f .trips); vehicles = recordsIn bk f .vehicles; alerts = recordsIn bk f .alerts }) bk
+    enter f (record {
+      trips = leaves f t (recordsIn bk f .trips);
+      vehicles = recordsIn bk f .vehicles;
+      alerts = recordsIn bk f .alerts;
+    }) bk
 
 -- an alert sheet replaces the alerts
 abbrev pub alertsEnter : List ℕ → List Alert → Book → Book

@@ -110,18 +110,27 @@ module _ {s : List ℕ} {from : ℕ} {b : EventNumbers} {at : ℕ} {e i : Number
   module _ {f m n : ℕ} (S : Stepped feed stopTimeEvent s at (Step.Number f m n)) where
     pub event-delay : f ≡ 1 → Events s from b n (record { given = 1; value = m }) i
     event-delay h =
-        record { delay = mine-number delay (R .delay) S h refl tt; time = other-number time (R .time) S (λ g. omega arith) }
+        record {
+          delay = mine-number delay (R .delay) S h refl tt;
+          time = other-number time (R .time) S (λ g. omega arith);
+        }
 
     pub event-time : f ≡ 2 → Events s from b n e (record { given = 1; value = m })
     event-time h =
-        record { delay = other-number delay (R .delay) S (λ g. omega arith); time = mine-number time (R .time) S h refl tt }
+        record {
+          delay = other-number delay (R .delay) S (λ g. omega arith);
+          time = mine-number time (R .time) S h refl tt;
+        }
 
     pub event-number : (f ≡ 1 → ⊥) → (f ≡ 2 → ⊥) → Events s from b n e i
     event-number h h′ = record { delay = other-number delay (R .delay) S h; time = other-number time (R .time) S h′ }
 
   pub event-text : {f j l n : ℕ} → Stepped feed stopTimeEvent s at (Step.Text f j l n) → Events s from b n e i
   event-text {f} S =
-      record { delay = other-text delay (R .delay) S (delay-number f (S .typed)); time = other-text time (R .time) S (time-number f (S .typed)) }
+      record {
+        delay = other-text delay (R .delay) S (delay-number f (S .typed));
+        time = other-text time (R .time) S (time-number f (S .typed));
+      }
 
   pub event-message : {f u j l n : ℕ} → Stepped feed stopTimeEvent s at (Step.Message f u j l n) → Events s from b n e i
   event-message S = record { delay = no-message delay (R .delay) S; time = no-message time (R .time) S }

@@ -204,11 +204,21 @@ module _ {σ : Schema} {t a inner k : ℕ} {s : List ℕ} {w : Walk} {outer stop
       record {
         of = λ l e.
             let F = in-found a k l f u (tree σ u (take m (drop i x))) (tree σ inner (drop n x)) O (eq-eqb f k h)
-            (seen-in (S .same) l e) in
-            (F .0, F .1, F .2, ap (λ v. tree σ v (take m (drop i s))) (ap (λ g. typeOf (σ inner g)) (sym h) ∙ ap typeOf (S .typed)) ∙ ap (tree σ u) (sym P) ∙ F .3, ap (λ y. leftOf a k (tree σ inner (drop n y)) O) (sym X) ∙ F .4);
+            (seen-in (S .same) l e) in (
+              F .0,
+              F .1,
+              F .2,
+              ap (λ v. tree σ v (take m (drop i s))) (ap (λ g. typeOf (σ inner g)) (sym h) ∙ ap typeOf (S .typed))
+                  ∙ ap (tree σ u) (sym P) ∙ F .3,
+              ap (λ y. leftOf a k (tree σ inner (drop n y)) O) (sym X) ∙ F .4,
+            );
         lying = record {
           inside = omega (arith, S .forward, size, L .sound);
-          sound = record { ahead = omega (arith, S .forward, size); behind = L .sound .behind; inside = L .sound .inside };
+          sound = record {
+            ahead = omega (arith, S .forward, size);
+            behind = L .sound .behind;
+            inside = L .sound .inside;
+          };
           less = omega (arith, S .forward, size, L .fewer, L .sound);
         };
       }
@@ -233,7 +243,11 @@ module _ {σ : Schema} {t a inner k : ℕ} {s : List ℕ} {w : Walk} {outer stop
     out-number-on : {f v n : ℕ} → Stepped σ t s outer (Step.Number f v n) → Leads σ t a inner k s w n stop at
     out-number-on {f} {v} {n} S = record {
       of = λ l h. still n l (sym (out-number a k f v (some end) (tree σ t (drop n s))) ∙ seen-out (S .same) l h);
-      sound = record { ahead = L .sound .ahead; behind = omega (arith, L .sound, S .forward); inside = S .forward .inside };
+      sound = record {
+        ahead = L .sound .ahead;
+        behind = omega (arith, L .sound, S .forward);
+        inside = S .forward .inside;
+      };
       fewer = omega (arith, S .forward, L .fewer);
     }
 
@@ -241,7 +255,11 @@ module _ {σ : Schema} {t a inner k : ℕ} {s : List ℕ} {w : Walk} {outer stop
     out-text-on {f} {i} {m} {n} S = record {
       of = λ l h. still n l
           (sym (out-text a k f (take m (drop i s)) (some end) (tree σ t (drop n s))) ∙ seen-out (S .same) l h);
-      sound = record { ahead = L .sound .ahead; behind = omega (arith, L .sound, S .forward); inside = S .forward .inside };
+      sound = record {
+        ahead = L .sound .ahead;
+        behind = omega (arith, L .sound, S .forward);
+        inside = S .forward .inside;
+      };
       fewer = omega (arith, S .forward, L .fewer);
     }
 
@@ -251,7 +269,11 @@ module _ {σ : Schema} {t a inner k : ℕ} {s : List ℕ} {w : Walk} {outer stop
       of = λ l e. still n l
           (out-other a k l f u (tree σ u (take m (drop i s))) (some end) (tree σ t (drop n s)) (ne-eqb f a h)
           (seen-out (S .same) l e));
-      sound = record { ahead = L .sound .ahead; behind = omega (arith, L .sound, S .forward); inside = S .forward .inside };
+      sound = record {
+        ahead = L .sound .ahead;
+        behind = omega (arith, L .sound, S .forward);
+        inside = S .forward .inside;
+      };
       fewer = omega (arith, S .forward, L .fewer);
     }
 

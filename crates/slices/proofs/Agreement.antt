@@ -158,4 +158,9 @@ module _ (a b : List ℕ) (n : ℕ) (c : n ≡ commonOf a b) where
   lex-more p q l =
       let other : getD a n 0 ≡ getD b n 0 → ⊥ = rw c (common-next a b (omega arith) (omega arith)) in
       sym (behind
-      ∙ rw (drop-cons a n 0 p, drop-cons b n 0 q, le-ltb (getD a n 0) (getD b n 0) l, lt-ltb (getD b n 0) (getD a n 0) (omega (arith, other))))
+      ∙ rw (
+        drop-cons a n 0 p,
+        drop-cons b n 0 q,
+        le-ltb (getD a n 0) (getD b n 0) l,
+        lt-ltb (getD b n 0) (getD a n 0) (omega (arith, other)),
+      ))

@@ -316,7 +316,12 @@ subject true x₂ x₃ x₄ x₅ r b₁ b₂ b₃ h₄ h₅ k₂ k₃ = refl
 subject false true x₃ x₄ x₅ r b₁ b₂ b₃ h₄ h₅ k₂ k₃ = refl
 subject false false true x₄ x₅ r b₁ b₂ b₃ h₄ h₅ k₂ k₃ = refl
 subject false false false x₄ x₅ r b₁ b₂ b₃ h₄ h₅ k₂ k₃ =
-    rw (implied-false x₄ false h₄ refl, implied-false x₅ false h₅ refl, implied-false b₂ false k₂ refl, implied-false b₃ false k₃ refl)
+    rw (
+      implied-false x₄ false h₄ refl,
+      implied-false x₅ false h₅ refl,
+      implied-false b₂ false k₂ refl,
+      implied-false b₃ false k₃ refl,
+    )
     (or-false (r || b₁ || false) ∙ or-false (r || b₁))
 
 primary-reduced : (blob m : List ℕ) → is-primary-context blob m ≡ primary blob m

@@ -26,8 +26,12 @@ month-of-spec =
     (λ c. search needs)
     (λ c. search needs)
     (λ c. search needs)
-    (λ c. omega
-    (arith, c .if1 .taken, month-short (c .before .before .before .before .args .at .year) (c .before .before .before .leap-day .result) (c .before .before .loop .month) (c .before .before .before .leap-day .ensures)))
+    (λ c. omega (
+      arith,
+      c .if1 .taken,
+      month-short (c .before .before .before .before .args .at .year) (c .before .before .before .leap-day .result)
+          (c .before .before .loop .month) (c .before .before .before .leap-day .ensures),
+    ))
     (λ c. month-here (c .before .before .loop .inv) (search needs) (c .if1 .taken)
     ∙ month-days _ _ _ (c .before .before .before .leap-day .ensures))
     (λ c. search needs)

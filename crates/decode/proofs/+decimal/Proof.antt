@@ -46,7 +46,12 @@ pub +decimal-spec : {M : Type 1} → statement M
     (λ c κs. (omega arith, omega arith))
     (λ c κs. omega arith)
     (λ c κs. let a = c .before .before .before .before .before .before .before .before .before .args in
-    omega (arith, c .before .before .before .before .decimal .ensures .next, decimal-short (a .k - 1) (a .n / 10), written-whole (c .before .before .before .before .decimal .ensures)))
+    omega (
+      arith,
+      c .before .before .before .before .decimal .ensures .next,
+      decimal-short (a .k - 1) (a .n / 10),
+      written-whole (c .before .before .before .before .decimal .ensures),
+    ))
     (λ c. written-whole
     (then (c .before .before .before .before .before .before .before .decimal .ensures)
     (c .before .before .add-byte2 .ensures)))

@@ -139,7 +139,12 @@ module _ {A B : Type 0} {wa : A → List ℕ} {wb : B → List ℕ} {ra : Reader
 
 bytes-there : (n : ℕ) (v rest : List ℕ) → length v ≡ n → bytesR n (v ++ rest) ≡ some (v, rest)
 bytes-there n v rest h =
-    rw (← h, le-leb (length v) (length (v ++ rest)) (omega (arith, length-append v rest)), take-append-seam, drop-append-seam) refl
+    rw (
+      ← h,
+      le-leb (length v) (length (v ++ rest)) (omega (arith, length-append v rest)),
+      take-append-seam,
+      drop-append-seam,
+    ) refl
 
 bytes-back : (n : ℕ) (s v rest : List ℕ) → bytesR n s ≡ some (v, rest) → (s ≡ v ++ rest) × (length v ≡ n)
 bytes-back n s v rest e =

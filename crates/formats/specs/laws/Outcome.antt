@@ -39,8 +39,13 @@ module _ {A : Type 0} {w : A → List ℕ} {r : Reader A} {ok : A → Type 0} (l
   at-go : (o : Option (A × List ℕ)) → r (drop p s) ≡ o → (q : ℕ) → skipped s o ≡ At q
       → (a : A) × (r (drop p s) ≡ some (a, drop q s))
   at-go none e q h = broken-at h
-  at-go (some x) e q h =
-      (x .0, e ∙ ap {B = Option (A × List ℕ)} (λ t. some (x .0, t)) (suffix p s (w (x .0)) (x .1) (l .back (drop p s) (x .0) (x .1) e .0) ∙ ap (λ n. drop n s) (unAt h)))
+  at-go (some x) e q h = (
+    x .0,
+    e ∙ ap {B = Option (A × List ℕ)} (λ t. some (
+      x .0,
+      t,
+    )) (suffix p s (w (x .0)) (x .1) (l .back (drop p s) (x .0) (x .1) e .0) ∙ ap (λ n. drop n s) (unAt h)),
+  )
 
   pub at-place : (q : ℕ) → skipped s (r (drop p s)) ≡ At q → (a : A) × (r (drop p s) ≡ some (a, drop q s))
   at-place q h = at-go (r (drop p s)) refl q h

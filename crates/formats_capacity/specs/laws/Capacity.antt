@@ -85,11 +85,19 @@ right false y e = absurd (false≢true e)
 signed-size : (lo hi z : ℤ) → atMost lo z ≡ true → atMost z hi ≡ true
     → size (zig z) ≤ larger (size (zig lo)) (size (zig hi))
 signed-size lo (pos m) (pos n) a b =
-    omega (arith, size-mono (2 * n) (2 * m) (omega (arith, leb-true n m b)), larger-right (size (zig lo)) (size (2 * m)))
+    omega (
+      arith,
+      size-mono (2 * n) (2 * m) (omega (arith, leb-true n m b)),
+      larger-right (size (zig lo)) (size (2 * m)),
+    )
 signed-size lo (negsuc m) (pos n) a b = absurd (false≢true b)
 signed-size (pos m) hi (negsuc n) a b = absurd (false≢true a)
 signed-size (negsuc m) hi (negsuc n) a b =
-    omega (arith, size-mono (2 * n + 1) (2 * m + 1) (omega (arith, leb-true n m a)), larger-left (size (2 * m + 1)) (size (zig hi)))
+    omega (
+      arith,
+      size-mono (2 * n + 1) (2 * m + 1) (omega (arith, leb-true n m a)),
+      larger-left (size (2 * m + 1)) (size (zig hi)),
+    )
 
 little-size : (k n : ℕ) → length (littleW k n) ≡ k
 little-size zero n = refl
@@ -215,9 +223,19 @@ largest-signed lo hi e = go (leb (size (zig lo)) (size (zig hi))) refl
 
     go : (t : Bool) → leb (size (zig lo)) (size (zig hi)) ≡ t → Largest (signed lo hi)
     go true t =
-        record { value = hi; fits = high; keeps = λ q l m. put-yes q 6 _ (both _ _ order (at-most-same hi)); long = rw t refl }
+        record {
+          value = hi;
+          fits = high;
+          keeps = λ q l m. put-yes q 6 _ (both _ _ order (at-most-same hi));
+          long = rw t refl;
+        }
     go false t =
-        record { value = lo; fits = low; keeps = λ q l m. put-yes q 6 _ (both _ _ (at-most-same lo) order); long = rw t refl }
+        record {
+          value = lo;
+          fits = low;
+          keeps = λ q l m. put-yes q 6 _ (both _ _ (at-most-same lo) order);
+          long = rw t refl;
+        }
 
 largest-text : (l : ℕ) (c : Class) (v : List ℕ) → length v ≡ l → inClass c v ≡ true → l < 2 ^ 64 → Largest (text l c)
 largest-text l c v s i h = record {
@@ -261,7 +279,10 @@ capacity-met (list n f) e =
     let s : length (replicate n (x .value)) ≡ n = length-replicate n (x .value) in
     record {
       value = replicate n (x .value);
-      fits = (rw s (ltb-true n (2 ^ 64) (left (ltb n (2 ^ 64)) _ e)), every-same (x .value) (λ y. Fits f y × (takes f y ≡ true)) (x .fits, some) n);
+      fits = (
+        rw s (ltb-true n (2 ^ 64) (left (ltb n (2 ^ 64)) _ e)),
+        every-same (x .value) (λ y. Fits f y × (takes f y ≡ true)) (x .fits, some) n,
+      );
       keeps = λ q l m. both _ _ (put-yes q 7 _ (rw s (le-leb n n (omega arith))))
           (all-same (x .value) (ok q f) (x .keeps q l m) n);
       long = rw (length-append, s, many-same (x .value) (write f) n, x .long) refl;

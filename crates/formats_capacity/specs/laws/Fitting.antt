@@ -77,8 +77,14 @@ keeps-fits (signed lo hi) e v h k =
     (ltb-true (zig hi) (2 ^ 64) (right (ltb (zig lo) (2 ^ 64)) (ltb (zig hi) (2 ^ 64)) e))
     (left (atMost lo v) (atMost v hi) a) (right (atMost lo v) (atMost v hi) a)
 keeps-fits (small m) e v h k = (omega (arith, ltb-true m (2 ^ 64) e), le-leb v m h)
-keeps-fits (text l c) e v h k =
-    (omega (arith, leb-true (length v) l (left (leb (length v) l) (inClass c v) (k 5 (omega arith) (omega arith))), ltb-true l (2 ^ 64) e), tt)
+keeps-fits (text l c) e v h k = (
+  omega (
+    arith,
+    leb-true (length v) l (left (leb (length v) l) (inClass c v) (k 5 (omega arith) (omega arith))),
+    ltb-true l (2 ^ 64) e,
+  ),
+  tt,
+)
 keeps-fits float e v h k = h
 keeps-fits (constant c) e v h k = tt
 keeps-fits (list l f) e v h k =

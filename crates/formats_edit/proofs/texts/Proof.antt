@@ -28,7 +28,16 @@ texts-spec =
     (λ c κs. search needs)
     (λ c. omega arith)
     (λ c. omega arith)
-    (λ c. (omega arith, search needs, Marked.step (c .before .before .before .before .before .before .before .loop .inv .2) (c .before .before .before .before .before .before .loop-test .taken) (Marked.at-marks (c .before .before .before .before .before .before .before .before .before .before .before .before .before .before .before .before .args .s .now) (c .before .before .before .before .before .mark .ensures) (c .before .before .before .before .mark2 .ensures) (c .before .before .text .ensures))))
+    (λ c. (
+      omega arith,
+      search needs,
+      Marked.step (c .before .before .before .before .before .before .before .loop .inv .2)
+          (c .before .before .before .before .before .before .loop-test .taken)
+          (Marked.at-marks
+          (c .before .before .before .before .before .before .before .before .before .before .before .before .before
+          .before .before .before .args .s .now) (c .before .before .before .before .before .mark .ensures)
+          (c .before .before .before .before .mark2 .ensures) (c .before .before .text .ensures)),
+    ))
     (λ c. search needs)
     (λ c. λ l k f H. Marked.stop (c .before .before .before .before .number .ensures) (c .before .loop .inv .2)
     (c .before .loop .inv .0) (c .loop-test .left) H))

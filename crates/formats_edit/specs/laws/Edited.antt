@@ -35,7 +35,13 @@ edited-is front cut back us i k e h =
 edited-length : {A : Type 0} (front cut back us : List A) (k count : ℕ) → length cut ≡ k → length us ≡ count
     → length (front ++ (cut ++ back)) - k + count ≡ length (front ++ (us ++ back))
 edited-length front cut back us k count h u =
-    omega (arith, length-append front (cut ++ back), length-append cut back, length-append front (us ++ back), length-append us back)
+    omega (
+      arith,
+      length-append front (cut ++ back),
+      length-append cut back,
+      length-append front (us ++ back),
+      length-append us back,
+    )
 
 -- the count, what stands before, the new values, what stands behind
 pieces : (f : Format) (c : ℕ) {i k n count : ℕ} (front cut back us : List (Value f)) → length front ≡ i

@@ -18,7 +18,10 @@ bytes = 1 ∷ 0xac ∷ 0x02 ∷ 2 ∷ 65 ∷ 66 ∷ 1 ∷ 1 ∷ 7 ∷ 2 ∷ 1 �
 
 -- number 300, seat 7, two rides, a fare of 1.5, valid from half an hour before midnight
 value : Value ticket
-value = (tt, (300, (65 ∷ 66 ∷ [], (1, (inr 7, ((97 ∷ [], 5) ∷ (98 ∷ [], 41) ∷ [], (inr 0x3ff8000000000000, negsuc 29)))))))
+value = (
+  tt,
+  (300, (65 ∷ 66 ∷ [], (1, (inr 7, ((97 ∷ [], 5) ∷ (98 ∷ [], 41) ∷ [], (inr 0x3ff8000000000000, negsuc 29)))))),
+)
 
 reads : read ticket bytes ≡ some (value, [])
 unfolding bytes value

@@ -45,7 +45,12 @@ meet s p q x y e h k =
     let a = slice p (p + length x) s in
     let b = slice (p + length x) q s in
     let j : a ++ b ≡ x ++ y = slice-join p (p + length x) q s (omega arith) (omega arith) k ∙ e in
-    record { first = apart-front a b x y m j; second = apart-back a b x y m j; after = omega arith; before = omega arith }
+    record {
+      first = apart-front a b x y m j;
+      second = apart-back a b x y m j;
+      after = omega arith;
+      before = omega arith;
+    }
 
 -- the whole past a place: what stands there, and the rest
 past-place : (s : List ℕ) (p q : ℕ) → p ≤ q → q ≤ length s → drop p s ≡ slice p q s ++ drop q s
@@ -75,7 +80,12 @@ pub halves : {a b : Format} {s : List ℕ} {p q : ℕ} {v : Value (a & b)} → H
 halves {a} {b} {s} {p} {q} {v} h =
     let m = meet s p q (write a (v .0)) (write b (v .1)) (h .written) (h .forward) (h .within) in
     record {
-      first = record { written = m .first; fits = h .fits .0; forward = m .after; within = omega (arith, m .before, h .within) };
+      first = record {
+        written = m .first;
+        fits = h .fits .0;
+        forward = m .after;
+        within = omega (arith, m .before, h .within);
+      };
       second = record { written = m .second; fits = h .fits .1; forward = m .before; within = h .within };
     }
 
@@ -188,7 +198,12 @@ text-here {l} {c} {s} {p} {q} {v} h =
     let m = meet s p q (write (number 0 0) (length v)) v (h .written) (h .forward) (h .within) in (
       n,
       record {
-        count = record { written = m .first; fits = h .fits .0; forward = m .after; within = omega (arith, m .before, h .within) };
+        count = record {
+          written = m .first;
+          fits = h .fits .0;
+          forward = m .after;
+          within = omega (arith, m .before, h .within);
+        };
         bytes = m .second;
         size = omega (arith, sym (length-slice n q s (h .within)) ∙ ap length (m .second), m .before);
       },

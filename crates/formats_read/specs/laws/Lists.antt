@@ -33,7 +33,12 @@ listed {l} {f} {s} {p} {q} {vs} h =
     let m = meet s p q (write (number 0 0) (length vs)) (manyW (write f) vs) (h .written) (h .forward) (h .within) in (
       _,
       record {
-        count = record { written = m .first; fits = h .fits .0; forward = m .after; within = omega (arith, m .before, h .within) };
+        count = record {
+          written = m .first;
+          fits = h .fits .0;
+          forward = m .after;
+          within = omega (arith, m .before, h .within);
+        };
         values = many f s _ q vs (m .second) (h .fits .1) (m .before) (h .within);
       },
     )
@@ -71,7 +76,14 @@ module _ {f : Format} {s : List ℕ} {a : ℕ} where
   pub reach-start : Reaches f s a 0 a
   reach-start = record {
     splits = λ vs q l h. let r = run f s a q vs h in
-        record { front = []; back = vs; joined = refl; count = refl; passed = (refl, omega (arith, r .forward, r .within)); ahead = h };
+        record {
+          front = [];
+          back = vs;
+          joined = refl;
+          count = refl;
+          passed = (refl, omega (arith, r .forward, r .within));
+          ahead = h;
+        };
   }
 
   split-step : (vs : List (Value f)) (q i r e : ℕ) (xs ys : List (Value f)) → xs ++ ys ≡ vs → length xs ≡ i

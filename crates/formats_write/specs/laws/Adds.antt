@@ -61,7 +61,13 @@ module _ {l m n : List ℕ} {r q o : Put} {x y : List ℕ} (f : Adds l r m q x) 
         go false t = g .full (f .over p e h (leb-false (p + length x) (length l) t))
 
   pub then : Adds l r n o (x ++ y)
-  then = record { size = g .size ∙ f .size; full = λ e. g .full (f .full e); next = then-next; holds = then-holds; over = then-over }
+  then = record {
+    size = g .size ∙ f .size;
+    full = λ e. g .full (f .full e);
+    next = then-next;
+    holds = then-holds;
+    over = then-over;
+  }
 
 pub same : {l m : List ℕ} {r q : Put} {x y : List ℕ} → Adds l r m q x → x ≡ y → Adds l r m q y
 same {l} {m} {r} {q} f e = rw (← e) f

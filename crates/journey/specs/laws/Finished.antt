@@ -111,7 +111,10 @@ timed-judged : (z : ℤ) (t : Maybe ℤ) (r : StopRealtime) → Judged56 (option
     → EventJudged (timed z t r)
 timed-judged z (inl x) r k h = h
 timed-judged z (inr t) r k h =
-    record { time = instant-range t (record { formed = k .formed; five = k .five; six = k .six }); delay = wrap-range (t -ℤ z) }
+    record {
+      time = instant-range t (record { formed = k .formed; five = k .five; six = k .six });
+      delay = wrap-range (t -ℤ z);
+    }
 
 module _ (u : StopUpdate) (j : Judged56 stopUpdate u) where
   time-judged : (e : Event) → Judged56 (optional instant) (eventTime e u)

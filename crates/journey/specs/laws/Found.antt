@@ -44,7 +44,11 @@ shown-judged s k f = go (get texts f (feedsOf s)) refl
     go none e = tt
     go (some F) e =
         let h = get-each texts-order FeedKept f F (feedsOf s) (k .feeds) e in
-        record { trips = each-map {P = TripKept f} (λ e x. x .judged) (tripsOf F) (h .trips); vehicles = h .vehicles; alerts = h .alerts }
+        record {
+          trips = each-map {P = TripKept f} (λ e x. x .judged) (tripsOf F) (h .trips);
+          vehicles = h .vehicles;
+          alerts = h .alerts;
+        }
 
 -- ---- facts on what is found
 

@@ -209,8 +209,10 @@ every-label s = concatMap (λ e. map label (alertsOf (e .1))) (feedsOf s)
 feed-labels : (P : List ℕ → Type 0) (l : List (List ℕ × Feed)) → All P (concatMap (λ e. map label (alertsOf (e .1))) l)
     → All (λ e. All (λ a. P (label a)) (alertsOf (e .1))) l
 feed-labels P [] h = tt
-feed-labels P (e ∷ l) h =
-    (unmapped (alertsOf (e .1)) (front (map label (alertsOf (e .1))) h), feed-labels P l (back (map label (alertsOf (e .1))) h))
+feed-labels P (e ∷ l) h = (
+  unmapped (alertsOf (e .1)) (front (map label (alertsOf (e .1))) h),
+  feed-labels P l (back (map label (alertsOf (e .1))) h),
+)
   where
     rest : List (List ℕ)
     rest = concatMap (λ e. map label (alertsOf (e .1))) l

@@ -81,7 +81,10 @@ filled-length n x h = rw (length-append, length-replicate) (omega arith)
 pub one-buffer : (n : ℕ) (s : State) (b : List ℕ) → Buffer n s b ↔ ((length b ≡ n) × (stateOf b ≡ some s))
 unfolding image
 one-buffer n s b = (
-  λ B. (ap length (B .is) ∙ filled-length n (write overlay s) (B .room), ap stateOf (B .is) ∙ image-state n s (B .held)),
+  λ B. (
+    ap length (B .is) ∙ filled-length n (write overlay s) (B .room),
+    ap stateOf (B .is) ∙ image-state n s (B .held),
+  ),
   λ h. rw (h .0) at (state-buffer b s (h .1)),
 )
 

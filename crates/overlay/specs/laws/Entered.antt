@@ -69,7 +69,11 @@ instant-judged n h =
 
 uint32-judged : (n : ℕ) → Judged56 number32 (uint32 n)
 uint32-judged n =
-    record { formed = tt; five = refl; six = both (leb·zero (n % 2 ^ 32)) (le-leb (n % 2 ^ 32) 4294967295 (omega arith)) }
+    record {
+      formed = tt;
+      five = refl;
+      six = both (leb·zero (n % 2 ^ 32)) (le-leb (n % 2 ^ 32) 4294967295 (omega arith));
+    }
 
 flag-judged : (b : Bool) → Judged56 (small 1) (bit b)
 flag-judged true = record { formed = omega arith; five = refl; six = refl }

@@ -47,7 +47,11 @@ text-fills l c v h e i = record {
 
 pub given-fills : {f : Format} {v : Value f} → Fills f v → Fills (optional f) (inr v)
 given-fills {f} {v} w =
-    record { fits = w .fits; keeps = w .keeps; long = rw (le-leb 0 (capacity f) (omega arith)) (omega (arith, w .long)) }
+    record {
+      fits = w .fits;
+      keeps = w .keeps;
+      long = rw (le-leb 0 (capacity f) (omega arith)) (omega (arith, w .long));
+    }
 
 pub pair-fills : {a b : Format} {x : Value a} {y : Value b} → Fills a x → Fills b y → Fills (a & b) (x, y)
 pair-fills {a} {b} {x} {y} v w = record {

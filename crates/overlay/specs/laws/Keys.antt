@@ -38,7 +38,10 @@ all-append p (c ∷ x) y a b = let q = both-true (p c) (all p x) a in both (q .0
 
 pub printed-append : (k l : ℕ) (x y : List ℕ) → Printed k x → Printed l y → Printed (k + l) (x ++ y)
 printed-append k l x y a b =
-    record { short = rw length-append (omega (arith, a .short, b .short)); fair = all-append (allowed printable) x y (a .fair) (b .fair) }
+    record {
+      short = rw length-append (omega (arith, a .short, b .short));
+      fair = all-append (allowed printable) x y (a .fair) (b .fair);
+    }
 
 pub printed-up : {k l : ℕ} {x : List ℕ} → k ≤ l → Printed k x → Printed l x
 printed-up h a = record { short = omega (arith, a .short); fair = a .fair }
@@ -47,7 +50,10 @@ printed-up h a = record { short = omega (arith, a .short); fair = a .fair }
 
 digit-printed : (n : ℕ) → n < 10 → Printed 1 ((48 + n) ∷ [])
 digit-printed n h =
-    record { short = omega arith; fair = both (both (le-leb 32 (48 + n) (omega arith)) (le-leb (48 + n) 126 (omega arith))) refl }
+    record {
+      short = omega arith;
+      fair = both (both (le-leb 32 (48 + n) (omega arith)) (le-leb (48 + n) 126 (omega arith))) refl;
+    }
 
 decimal-printed : (k n : ℕ) → Printed k (decimalOf k n)
 decimal-printed zero n = record { short = omega arith; fair = refl }
@@ -200,7 +206,11 @@ dated-given : (f x raw : List ℕ) (t : Trip) → not (isEmpty (dateOf t)) ≡ t
     → x ≡ datedKey raw (dateOf t) → Given f x t
 dated-given f x [] t d h e = absurd (false≢true h)
 dated-given f x (b ∷ raw) t d h e =
-    record { raw = b ∷ raw; rule = h; among = rw (not-true (isEmpty (dateOf t)) d) (List·Memᴰ·head (ap (λ y. (y, t)) e)) }
+    record {
+      raw = b ∷ raw;
+      rule = h;
+      among = rw (not-true (isEmpty (dateOf t)) d) (List·Memᴰ·head (ap (λ y. (y, t)) e));
+    }
 
 -- without a route the incomplete key is short enough to be a raw id
 no-route : (f r : List ℕ) → isEmpty r ≡ true → Printed 0 (prefixed f r)

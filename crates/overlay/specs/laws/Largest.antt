@@ -148,8 +148,11 @@ fullVehicle i = (longName 62 i, most vehicle refl)
 
 -- feed k: every list is full, and every key counts
 abbrev pub fullFeed : ℕ → List ℕ × Feed
-fullFeed k =
-    (longName 14 k, feedWith (most (optional timestamp) refl) 2048 (table (fullEntry k) 0 2048) (table fullVehicle 0 1024) (table (λ i. most alert refl) 0 256))
+fullFeed k = (
+  longName 14 k,
+  feedWith (most (optional timestamp) refl) 2048 (table (fullEntry k) 0 2048) (table fullVehicle 0 1024)
+      (table (λ i. most alert refl) 0 256),
+)
 
 feed-fills : (k : ℕ) → k < 4 → Fills feedEntry (fullFeed k)
 feed-fills k m =

@@ -163,7 +163,16 @@ kept-room s k h = le-leb (length (write overlay s)) published (held-room s (held
 no-feed : (f : List ℕ) → ok 5 (text 16 token) f ≡ true → FeedKept (f, noFeed)
 unfolding leaves.countWithoutAt
 no-feed f h =
-    record { name = h; stamp = absent timestamp; trips = tt; tripsUp = refl; vehicles = tt; vehiclesUp = refl; alerts = tt; count = refl }
+    record {
+      name = h;
+      stamp = absent timestamp;
+      trips = tt;
+      tripsUp = refl;
+      vehicles = tt;
+      vehiclesUp = refl;
+      alerts = tt;
+      count = refl;
+    }
 
 at-kept : (f : List ℕ) (s : State) → ok 5 (text 16 token) f ≡ true → StateKept s → FeedKept (f, feedAt f s)
 unfolding feedAt
@@ -177,7 +186,11 @@ put-kept : (f : List ℕ) (F : Feed) (n : ℕ) (s : State) → StateKept s → o
     → FeedKept (f, F) → StateKept (putFeed f F n s)
 unfolding putFeed
 put-kept f F n s k v h =
-    record { version = v; up = put-ascending texts-order f F (feedsOf s) (k .up); feeds = each-put texts FeedKept f F (feedsOf s) h (k .feeds) }
+    record {
+      version = v;
+      up = put-ascending texts-order f F (feedsOf s) (k .up);
+      feeds = each-put texts FeedKept f F (feedsOf s) h (k .feeds);
+    }
 
 -- AN ALERT SHEET
 pub alerts-kept : (f : List ℕ) (alerts : List Alert) (s : State) → ok 5 (text 16 token) f ≡ true

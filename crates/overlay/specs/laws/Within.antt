@@ -49,8 +49,10 @@ pub elements : (l : ℕ) (f : Format) (v : List (Value f)) → Judged56 (list l 
 elements l f [] w = tt
 elements l f (x ∷ v) w =
     let h5 = both-true (ok 5 f x) (all (ok 5 f) v) (w .five) in
-    let h6 = both-true (ok 6 f x) (all (ok 6 f) v) (w .six) in
-    (record { formed = w .formed .0; five = h5 .0; six = h6 .0 }, elements l f v (record { formed = w .formed .1; five = h5 .1; six = h6 .1 }))
+    let h6 = both-true (ok 6 f x) (all (ok 6 f) v) (w .six) in (
+      record { formed = w .formed .0; five = h5 .0; six = h6 .0 },
+      elements l f v (record { formed = w .formed .1; five = h5 .1; six = h6 .1 }),
+    )
 
 pub listed : (l : ℕ) (f : Format) (v : List (Value f)) → All (Judged56 f) v → Judged56 (list l f) v
 listed l f [] w = record { formed = tt; five = refl; six = refl }

@@ -81,7 +81,13 @@ module _ (L : Lengths) (old : List ℕ) (out due : ℕ) (work workDue : List ℕ
       (needSome (stateOf old) 2 (λ s. need short 3 (needSome input 4 (k s)))) (omega arith) e in
       let b = acceptedYes short 3 (needSome input 4 (k s)) (omega arith) (rw d at (a .next)) in
       let c = acceptedSome input 4 (k s) (omega arith) (b .next) in
-      record { value = c .value; is = c .is; same = a .same ∙ ap (λ o. needSome o 2 (λ s. need short 3 (needSome input 4 (k s)))) d ∙ b .same ∙ c .same; next = c .next }
+      record {
+        value = c .value;
+        is = c .is;
+        same = a .same ∙ ap (λ o. needSome o 2 (λ s. need short 3 (needSome input 4 (k s)))) d ∙ b .same
+            ∙ c .same;
+        next = c .next;
+      }
 
 -- question 7 is behind a changed state
 changed-leaves : (n : ℕ) (s : State) (bk : Book) → StateKept s → shown s ≡ bk → numberOf (changedState n s) ≡ 0
@@ -167,7 +173,11 @@ vehicles-leave L f sheet clock s v k is e =
     let b = acceptedYes (ok 6 vehicleForm v && ok 6 instant clock) 6 x (omega arith) (a .next) in
     let y = both-true (feedOk f) (ok 5 vehicleForm v) (a .yes) in
     let j : Judged56 vehicleForm v =
-    record { formed = whole-formed vehicleForm sheet v is; five = y .1; six = both-true (ok 6 vehicleForm v) (ok 6 instant clock) (b .yes) .0 } in
+    record {
+      formed = whole-formed vehicleForm sheet v is;
+      five = y .1;
+      six = both-true (ok 6 vehicleForm v) (ok 6 instant clock) (b .yes) .0;
+    } in
     leaves-same (a .same ∙ b .same)
     (changed-leaves (L .overlay) (afterVehicles f (v .1) clock s) _
     (vehicles-kept f (v .1) clock s (y .0) (elements 1024 vehicleEntry (v .1) (right j)) k)
@@ -186,7 +196,12 @@ pub fresh-leaves : (L : Lengths) (new : ℕ) → numberOf (freshOf L new) ≡ 0 
 unfolding freshOf shown valid within
 fresh-leaves L new e =
     let y = acceptedYes (freshFits L new) 1 (accepted (write overlay noState)) (omega arith) e in
-    record { state = noState; wrote = y .same; held = record { fits = (tt, (omega arith, (omega arith, tt))); valid = refl }; same = refl }
+    record {
+      state = noState;
+      wrote = y .same;
+      held = record { fits = (tt, (omega arith, (omega arith, tt))); valid = refl };
+      same = refl;
+    }
 
 pub fresh-accepted : (L : Lengths) → room (L .overlay) noState ≡ true → numberOf (freshOf L (L .overlay)) ≡ 0
 unfolding freshOf
@@ -233,7 +248,11 @@ position-leaves L old bk f sheet clock new work h e =
 pub written : {o : Outcome} {bk : Book} (n : ℕ) → Leaves o bk → Holds (bytesOf n o) bk
 unfolding image
 written n l =
-    record { state = l .state; is = ap stateOf (ap (bytesOf n) (l .wrote)) ∙ image-state n (l .state) (l .held); same = l .same }
+    record {
+      state = l .state;
+      is = ap stateOf (ap (bytesOf n) (l .wrote)) ∙ image-state n (l .state) (l .held);
+      same = l .same;
+    }
 
 -- an accepted call opened the overlay
 pub opened-state : (L : Lengths) (old : List ℕ) (out due : ℕ) (work workDue : List ℕ) (k : State → Outcome)

@@ -61,7 +61,11 @@ empty-held = record { fits = (tt, (omega arith, (omega arith, tt))); valid = ref
 module _ (L : Lengths) where
   lengths-yes : questions.lengthsOk L (freshOverlay L) (L .card) (L .card) (L .cardWork) (L .cardWork) ≡ true
   lengths-yes =
-      rw (eq-eqb (length (freshOverlay L)) (L .overlay) (out-long L [] (fresh (L .overlay))), eq-eqb (L .card) (L .card) refl, same-refl (L .cardWork))
+      rw (
+        eq-eqb (length (freshOverlay L)) (L .overlay) (out-long L [] (fresh (L .overlay))),
+        eq-eqb (L .card) (L .card) refl,
+        same-refl (L .cardWork),
+      )
       refl
 
   module _ (wide : 3 ≤ L .overlay) where

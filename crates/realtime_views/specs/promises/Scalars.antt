@@ -77,7 +77,12 @@ scalars-front s n d h l = λ j i. said-front s n (at d i) h (l i) j
 
 abbrev pub scalars : Lens Scalars Lasts
 scalars =
-    record { look = λ s d i. said s (at d i); In = λ n d. (i : Slot) → Lying n (at d i); far = scalars-far; front = scalars-front }
+    record {
+      look = λ s d i. said s (at d i);
+      In = λ n d. (i : Slot) → Lying n (at d i);
+      far = scalars-far;
+      front = scalars-front;
+    }
 
 -- the scalar x is kept at its field f
 abbrev pub kept : Scalars → ℕ → Scalar → Scalars
@@ -91,7 +96,14 @@ kept d f x = record {
 }
 
 abbrev pub blank : Scalars
-blank = record { f1 = Scalar.Nothing; f2 = Scalar.Nothing; f3 = Scalar.Nothing; f4 = Scalar.Nothing; f5 = Scalar.Nothing; f6 = Scalar.Nothing }
+blank = record {
+  f1 = Scalar.Nothing;
+  f2 = Scalar.Nothing;
+  f3 = Scalar.Nothing;
+  f4 = Scalar.Nothing;
+  f5 = Scalar.Nothing;
+  f6 = Scalar.Nothing;
+}
 
 -- a scalar as it stands, none where it is absent
 abbrev pub scalarAt : ℕ → Single (Option Leaf)

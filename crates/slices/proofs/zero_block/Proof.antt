@@ -26,6 +26,10 @@ zero-block-spec =
     (λ c. search needs)
     (λ c. search needs)
     (λ c. search needs)
-    (λ c. (search needs, or-more (c .before .before .before .args .s .now) (c .before .before .loop .acc) (c .before .before .loop .i) (search needs) (c .before .before .loop .inv .1)))
+    (λ c. (
+      search needs,
+      or-more (c .before .before .before .args .s .now) (c .before .before .loop .acc) (c .before .before .loop .i)
+          (search needs) (c .before .before .loop .inv .1),
+    ))
     (λ c. or-end (c .before .before .args .s .now) (c .before .loop .acc) (c .before .loop .i) (search needs)
     (c .before .loop .inv .1)))

@@ -45,7 +45,10 @@ small-digits (suc k) (b ∷ s) n r e = go (small-digits k s) (ltb b 128) refl e
     go ih true e₁ e₂ =
         let p : b ≡ n = cc in
         let q : s ≡ r = cc in
-        record { below = omega (arith, ltb-true b 128 e₁, pow-succ' 128 k, one-le-pow k 128 (omega arith)); short = omega (arith, ap length q) }
+        record {
+          below = omega (arith, ltb-true b 128 e₁, pow-succ' 128 k, one-le-pow k 128 (omega arith));
+          short = omega (arith, ap length q);
+        }
     go ih false e₁ e₂ = next ih (digits k s) refl e₂
 
 -- a varint is below 2 ^ 64, and takes ten bytes at most

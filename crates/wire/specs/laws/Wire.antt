@@ -95,8 +95,11 @@ reader-bytes n s a r e = go (leb n (length s)) refl e
         record {
           used = take n s;
           splits = sym (take-append-drop n s) ∙ cc;
-          again = λ t. rw
-              (le-leb n (length (take n s ++ t)) (omega (arith, length-append (take n s) t)), take-at (take n s) t n l, drop-at (take n s) t n l) (cc);
+          again = λ t. rw (
+            le-leb n (length (take n s ++ t)) (omega (arith, length-append (take n s) t)),
+            take-at (take n s) t n l,
+            drop-at (take n s) t n l,
+          ) (cc);
         }
     go false e₁ e₂ = never e₂
 

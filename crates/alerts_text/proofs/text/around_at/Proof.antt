@@ -23,6 +23,11 @@ around-at-spec =
     let first =
     room (a .before .now) (a .s .now) (a .i) _ (c .before .before .before .begins-at .ensures)
     (c .before .before .if1 .left) in
-    omega (arith, first, room (a .name .now) (a .s .now) (a .i + length (a .before .now)) _ (c .before .begins-at2 .ensures) (c .if2 .left)))
+    omega (
+      arith,
+      first,
+      room (a .name .now) (a .s .now) (a .i + length (a .before .now)) _ (c .before .begins-at2 .ensures)
+          (c .if2 .left),
+    ))
     (λ c κs. search needs)
     (λ c. search (then-after)))

@@ -26,10 +26,19 @@ long-number-spec =
     (λ c. search needs)
     (λ c. let l = c .before .before .before .before .before .loop in
     let w = c .before .before .wide in
-    omega (arith, room-last (l .scale) (l .more) (c .before .if1 .taken) (l .inv .room), scaled (w .result) 1 (l .scale) (c .if2 .taken)))
+    omega (
+      arith,
+      room-last (l .scale) (l .more) (c .before .if1 .taken) (l .inv .room),
+      scaled (w .result) 1 (l .scale) (c .if2 .taken),
+    ))
     (λ c. let l = c .before .before .before .before .before .loop in
     let w = c .before .before .wide in
-    omega (arith, l .inv .small, room-last (l .scale) (l .more) (c .before .if1 .taken) (l .inv .room), scaled (w .result) 1 (l .scale) (c .if2 .taken)))
+    omega (
+      arith,
+      l .inv .small,
+      room-last (l .scale) (l .more) (c .before .if1 .taken) (l .inv .room),
+      scaled (w .result) 1 (l .scale) (c .if2 .taken),
+    ))
     (λ c. let l = c .before .before .before .before .before .loop in
     let w = c .before .before .wide in
     number-ends _ _ (l .at) (l .value) (l .scale) (l .more) (w .result) (l .inv) (w .ensures)
@@ -42,10 +51,19 @@ long-number-spec =
     (digits-over (l .more) (w .result) _ (c .before .if1 .taken) (c .if2 .left)))
     (λ c. let l = c .before .before .before .before .before .loop in
     let w = c .before .before .wide in
-    omega (arith, room-more (l .scale) (l .more) (c .before .if1 .left) (l .inv .room), scaled (w .result) 127 (l .scale) (omega arith)))
+    omega (
+      arith,
+      room-more (l .scale) (l .more) (c .before .if1 .left) (l .inv .room),
+      scaled (w .result) 127 (l .scale) (omega arith),
+    ))
     (λ c. let l = c .before .before .before .before .before .loop in
     let w = c .before .before .wide in
-    omega (arith, l .inv .small, room-more (l .scale) (l .more) (c .before .if1 .left) (l .inv .room), scaled (w .result) 127 (l .scale) (omega arith)))
+    omega (
+      arith,
+      l .inv .small,
+      room-more (l .scale) (l .more) (c .before .if1 .left) (l .inv .room),
+      scaled (w .result) 127 (l .scale) (omega arith),
+    ))
     (λ c. let l = c .before .before .before .before .before .loop in
     let w = c .before .before .wide in
     number-ends _ _ (l .at) (l .value) (l .scale) (l .more) (w .result) (l .inv) (w .ensures)
@@ -53,10 +71,19 @@ long-number-spec =
     (digits-low (l .more) (w .result) _ (c .before .if1 .left) (c .if3 .taken)))
     (λ c. let l = c .before .before .before .before .before .loop in
     let w = c .before .before .wide in
-    omega (arith, room-more (l .scale) (l .more) (c .before .if1 .left) (l .inv .room), scaled (w .result % 128) 127 (l .scale) (omega arith)))
+    omega (
+      arith,
+      room-more (l .scale) (l .more) (c .before .if1 .left) (l .inv .room),
+      scaled (w .result % 128) 127 (l .scale) (omega arith),
+    ))
     (λ c. let l = c .before .before .before .before .before .loop in
     let w = c .before .before .wide in
-    omega (arith, l .inv .small, room-more (l .scale) (l .more) (c .before .if1 .left) (l .inv .room), scaled (w .result % 128) 127 (l .scale) (omega arith)))
+    omega (
+      arith,
+      l .inv .small,
+      room-more (l .scale) (l .more) (c .before .if1 .left) (l .inv .room),
+      scaled (w .result % 128) 127 (l .scale) (omega arith),
+    ))
     (λ c. let l = c .before .before .before .before .before .loop in
     omega (arith, room-more (l .scale) (l .more) (c .before .if1 .left) (l .inv .room)))
     (λ c. search needs)
