@@ -1,21 +1,19 @@
 -- What the readers of numbers find, by the tests that the code makes.
-use mathlib.Core.Bool.{cond}
 use mathlib.Core.Path.{_≡_, refl, sym, ap, _∙_}
-use mathlib.Core.List.{List, [], _∷_}
+use mathlib.Core.List.{List, _∷_}
 use mathlib.Core.Option.{Option, none, some}
 use Prim.Native.Nat.{ℕ, zero, suc, _+_, _-_, _*_, _^_, _≤_, _<_}
 use native.Mathlib.Omega.{arith}
-use native.Mathlib.Nat.{add-zero, add-suc, pow-le-pow-right}
+use native.Mathlib.Nat.{pow-le-pow-right}
 use native.Mathlib.Numerals.{add-one}
 use lib.ListN.{length, drop, getD, length-drop, drop-of-length-le}
 use lib.Seq.{drop-cons}
-use lib.Dec.{eqb}
-use borrow.Author.Tests.{lt-ltb, le-ltb, eq-eqb, ne-eqb}
+use borrow.Author.Tests.{lt-ltb, le-ltb}
 use Rattle.formats.specs.Readers.{Reader, bind}
 use Rattle.formats.specs.laws.Law.{Law}
-use Rattle.formats.specs.Number.{groupsR, numberR, littleR}
-use Rattle.formats.specs.promises.Number.{top}
-use Rattle.formats.specs.laws.Number.{groupsLaw, littleLaw}
+use Rattle.formats.specs.Number.{numberR, littleR}
+use Rattle.formats.specs.promises.Number.{moreR}
+use Rattle.formats.specs.laws.Number.{littleLaw}
 use Rattle.formats.specs.laws.Outcome.{suffix}
 use Rattle.formats.specs.promises.Outcome.{numbered}
 use Rattle.formats.specs.declared.Numeral.{Numeral}
@@ -58,19 +56,8 @@ module _ {w : ℕ → List ℕ} {r : Reader ℕ} {ok : ℕ → Type 0} (l : Law 
   got-fits : (n q : ℕ) → Found r s at n q → ok n
   got-fits n q f = l .back (drop at s) n (drop q s) (f .reads) .1
 
-top-more : (k d : ℕ) → top k ≤ top (k + d)
-top-more k zero = rw add-zero (omega arith)
-top-more k (suc d) = rw add-suc (omega (arith, top-more k d))
-
-top-le : (k : ℕ) → k ≤ 8 → top k ≤ 2 ^ 57
-top-le k h = let e : k + (8 - k) ≡ 8 = omega arith in rw e at (top-more k (8 - k))
-
-at-nothing : (k : ℕ) (s : List ℕ) → Bad ≡ numbered s (groupsR k [])
-at-nothing zero s = refl
-at-nothing (suc k) s = refl
-
-pub at-end : (k : ℕ) (s : List ℕ) (at : ℕ) → length s ≤ at → Bad ≡ numbered s (groupsR k (drop at s))
-at-end k s at h = rw (drop-of-length-le s h) (at-nothing k s)
+pub at-end : (s : List ℕ) (at : ℕ) → length s ≤ at → Bad ≡ numbered s (numberR (drop at s))
+at-end s at h = rw (drop-of-length-le s h) refl
 
 pub little-end : (k : ℕ) (s : List ℕ) (at : ℕ) → (k ≡ 0 → ⊥) → length s ≤ at → Bad ≡ numbered s (littleR k (drop at s))
 little-end zero s at z h = absurd (z refl)
@@ -90,42 +77,15 @@ module _ (s : List ℕ) (at b : ℕ) (h : at < length s) (e : b ≡ getD s at 0)
   alone : Got b (at + 1) ≡ numbered s (some (b, drop (at + 1) s))
   alone = rw (place s (at + 1) (omega arith)) refl
 
-  pub last-good : (k : ℕ) → k ≡ 0 → b < 2 → Got b (at + 1) ≡ numbered s (groupsR k (drop at s))
-  last-good k z l = rw (z, opened, lt-ltb b 2 l) alone
-
-  pub last-bad : (k : ℕ) → k ≡ 0 → 2 ≤ b → Bad ≡ numbered s (groupsR k (drop at s))
-  last-bad k z l = rw (z, opened, le-ltb b 2 l) refl
-
-  pub low-good : (k : ℕ) → (k ≡ 0 → ⊥) → b < 128 → Got b (at + 1) ≡ numbered s (groupsR k (drop at s))
-  low-good zero z l = absurd (z refl)
-  low-good (suc k) z l = rw (opened, lt-ltb b 128 l) alone
-
   pub front-good : b < 128 → Got b (at + 1) ≡ numbered s (numberR (drop at s))
-  front-good l = low-good 9 (λ z. omega arith) l
+  front-good l = rw (opened, lt-ltb b 128 l) alone
 
-  -- another group follows
-  module _ (k : ℕ) (z : k ≡ 0 → ⊥) (l : 128 ≤ b) (u : b < 256) (o : Numeral)
-      (r : o ≡ numbered s (groupsR (k - 1) (drop (at + 1) s))) where
-    after : groupsR k (drop at s) ≡
-        bind (groupsR (k - 1) (drop (at + 1) s)) (λ h t. cond (eqb h 0) none (some (b - 128 + 128 * h, t)))
-    after = let i : k ≡ suc (k - 1) = omega arith in
-        ap (λ k. groupsR k (drop at s)) i ∙ rw (opened, le-ltb b 128 l, lt-ltb b 256 u) refl
-
-    pub more-bad : o ≡ Bad → Bad ≡ numbered s (groupsR k (drop at s))
-    more-bad f = rw (after, bad-none s (groupsR (k - 1) (drop (at + 1) s)) o r f) refl
-
-    module _ (n q : ℕ) (f : o ≡ Got n q) where
-      rest : Found (groupsR (k - 1)) s (at + 1) n q
-      rest = got (groupsLaw (k - 1)) s (at + 1) n q o r f
-
-      pub more-zero : n ≡ 0 → Bad ≡ numbered s (groupsR k (drop at s))
-      more-zero i = rw (after, rest .reads, eq-eqb n 0 i) refl
-
-      pub more-good : (n ≡ 0 → ⊥) → Got (b - 128 + 128 * n) q ≡ numbered s (groupsR k (drop at s))
-      more-good i = rw (after, rest .reads, ne-eqb n 0 i, place s q (rest .within)) refl
-
-      pub more-below : k ≤ 9 → n < 2 ^ 57
-      more-below h = omega (arith, got-fits (groupsLaw (k - 1)) s (at + 1) n q rest, top-le (k - 1) (omega arith))
+  pub front-more : 128 ≤ b → b < 256 → (r : Numeral) → r ≡ numbered s (moreR 8 (b - 128) 128 (drop (at + 1) s))
+      → r ≡ numbered s (numberR (drop at s))
+  front-more l u r f =
+      let g : numberR (drop at s) ≡ moreR 8 (b - 128) 128 (drop (at + 1) s) =
+      rw (opened, le-ltb b 128 l, lt-ltb b 256 u) refl in
+      f ∙ sym (ap (numbered s) g)
 
   -- another byte follows
   module _ (k : ℕ) (z : k ≡ 0 → ⊥) (u : b < 256) (o : Numeral)

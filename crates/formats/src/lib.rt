@@ -3,7 +3,8 @@ ghost use mathlib.Core.Path.{_≡_};
 ghost use Prim.Native.Nat.{_+_, _*_, _<_, _≤_};
 ghost use lib.ListN.{length, getD, drop};
 ghost use Rattle.formats.specs.Readers.{bytesR, constR};
-ghost use Rattle.formats.specs.Number.{groupsR, numberR, littleR};
+ghost use Rattle.formats.specs.Number.{numberR, littleR};
+ghost use Rattle.formats.specs.promises.Number.{moreR};
 ghost use Rattle.formats.specs.promises.Outcome.{numbered, skipped, skipTo, skipMany, formatAt, leafFormat};
 ghost use Rattle.formats.specs.promises.Outcome.{tagAt};
 
@@ -61,36 +62,39 @@ pub fn wide(b: u8) -> u64
     b as u64
 }
 
-// A number of at most k + 1 groups at `at`.
-pub fn groups(k: u32, s: &[u8], at: usize) -> Numeral
-    requires { ⌜ k ≤ 9 ⌝ }
-    ensures { λ r. ⌜ r ≡ numbered (now (s .entry)) (groupsR k (drop at (now (s .entry)))) ⌝ }
+// The number whose first group says `low`, by the groups at `at` that follow it: each counts for 128 times the one
+// before.
+fn more(s: &[u8], at: usize, low: u64) -> Numeral
+    requires { ⌜ low < 128 ⌝ }
+    ensures { λ r. ⌜ r ≡ numbered (now (s .entry)) (moreR 8 low 128 (drop at (now (s .entry)))) ⌝ }
 {
-    if s.len() <= at {
-        return Numeral::Bad;
-    }
-    let b = wide(s[at]);
-    if k == 0 {
-        if b < 2 {
-            return Numeral::Got(b, at + 1);
+    let mut p = at;
+    let mut n = low;
+    let mut unit: u64 = 128;
+    let mut left: u32 = 8;
+    while p < s.len() {
+        let b = wide(s[p]);
+        if left == 0 {
+            if b == 1 {
+                return Numeral::Got(n + unit, p + 1);
+            }
+            return Numeral::Bad;
         }
-        return Numeral::Bad;
-    }
-    if b < 128 {
-        return Numeral::Got(b, at + 1);
-    }
-    match groups(k - 1, s, at + 1) {
-        Numeral::Got(h, next) => {
-            if h == 0 {
+        if b < 128 {
+            if b == 0 {
                 return Numeral::Bad;
             }
-            Numeral::Got(b - 128 + 128 * h, next)
+            return Numeral::Got(n + unit * b, p + 1);
         }
-        Numeral::Bad => Numeral::Bad,
+        n += unit * (b - 128);
+        unit *= 128;
+        left -= 1;
+        p += 1;
     }
+    Numeral::Bad
 }
 
-// A number at `at`. Most have one group: that case stands in front.
+// A number at `at`. Most have one group: that case stands in front, and is small enough to be put in place.
 pub fn number(s: &[u8], at: usize) -> Numeral
     ensures { λ r. ⌜ r ≡ numbered (now (s .entry)) (numberR (drop at (now (s .entry)))) ⌝ }
 {
@@ -101,7 +105,7 @@ pub fn number(s: &[u8], at: usize) -> Numeral
     if b < 128 {
         return Numeral::Got(b, at + 1);
     }
-    groups(9, s, at)
+    more(s, at + 1, b - 128)
 }
 
 // A number of k whole bytes at `at`, low byte first.

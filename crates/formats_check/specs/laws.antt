@@ -3,6 +3,4 @@ pub mod Checked
 pub mod Elements
 pub mod Walks
 pub mod Rising
-pub mod Groups
-pub mod Printable
 pub mod Climbing

@@ -4,13 +4,12 @@ use formats::Numeral;
 use formats::Skip;
 use slices::Order;
 ghost use mathlib.Core.Path.{_≡_};
-ghost use Prim.Native.Nat.{_+_, _-_, _≤_};
+ghost use Prim.Native.Nat.{_-_, _≤_};
 ghost use lib.ListN.{length, take, drop};
-ghost use Rattle.formats.specs.Class.{printable, inClass};
+ghost use Rattle.formats.specs.Class.{any, printable};
 ghost use Rattle.formats.specs.Format.{small, text, float, list, optional};
 ghost use Rattle.formats.specs.promises.Outcome.{classOf};
-ghost use Rattle.formats_check.specs.promises.Checked.{Groups, Fine};
-ghost use Rattle.formats_check.specs.laws.Printable.{span};
+ghost use Rattle.formats_check.specs.promises.Checked.{Number, Fine};
 ghost use Rattle.formats_check.specs.laws.Climbing.{Spans, known, follows};
 ghost use Rattle.formats_check.specs.laws.Walks.{Each};
 
@@ -26,124 +25,19 @@ pub enum Entry {
     No,
 }
 
-// The groups of a number after the fifth.
-fn groups4(s: &[u8], at: usize) -> Numeral
-    ensures { λ r. ⌜ Groups 4 (now (s .entry)) at r ⌝ }
-{
-    formats::groups(4, s, at)
-}
+// The class of printable texts, by the number that a table has for it.
+const PRINTABLE: u64 = 1;
 
-// The groups of a number after the first to fourth: one text for each, so that no call is left of a number of five
-// groups.
-fn groups5(s: &[u8], at: usize) -> Numeral
-    ensures { λ r. ⌜ Groups 5 (now (s .entry)) at r ⌝ }
-{
-    if s.len() <= at {
-        return Numeral::Bad;
-    }
-    let b = formats::wide(s[at]);
-    if b < 128 {
-        return Numeral::Got(b, at + 1);
-    }
-    match groups4(s, at + 1) {
-        Numeral::Got(h, next) => {
-            if h == 0 {
-                return Numeral::Bad;
-            }
-            Numeral::Got(b - 128 + 128 * h, next)
-        }
-        Numeral::Bad => Numeral::Bad,
-    }
-}
-
-fn groups6(s: &[u8], at: usize) -> Numeral
-    ensures { λ r. ⌜ Groups 6 (now (s .entry)) at r ⌝ }
-{
-    if s.len() <= at {
-        return Numeral::Bad;
-    }
-    let b = formats::wide(s[at]);
-    if b < 128 {
-        return Numeral::Got(b, at + 1);
-    }
-    match groups5(s, at + 1) {
-        Numeral::Got(h, next) => {
-            if h == 0 {
-                return Numeral::Bad;
-            }
-            Numeral::Got(b - 128 + 128 * h, next)
-        }
-        Numeral::Bad => Numeral::Bad,
-    }
-}
-
-fn groups7(s: &[u8], at: usize) -> Numeral
-    ensures { λ r. ⌜ Groups 7 (now (s .entry)) at r ⌝ }
-{
-    if s.len() <= at {
-        return Numeral::Bad;
-    }
-    let b = formats::wide(s[at]);
-    if b < 128 {
-        return Numeral::Got(b, at + 1);
-    }
-    match groups6(s, at + 1) {
-        Numeral::Got(h, next) => {
-            if h == 0 {
-                return Numeral::Bad;
-            }
-            Numeral::Got(b - 128 + 128 * h, next)
-        }
-        Numeral::Bad => Numeral::Bad,
-    }
-}
-
-fn groups8(s: &[u8], at: usize) -> Numeral
-    ensures { λ r. ⌜ Groups 8 (now (s .entry)) at r ⌝ }
-{
-    if s.len() <= at {
-        return Numeral::Bad;
-    }
-    let b = formats::wide(s[at]);
-    if b < 128 {
-        return Numeral::Got(b, at + 1);
-    }
-    match groups7(s, at + 1) {
-        Numeral::Got(h, next) => {
-            if h == 0 {
-                return Numeral::Bad;
-            }
-            Numeral::Got(b - 128 + 128 * h, next)
-        }
-        Numeral::Bad => Numeral::Bad,
-    }
-}
-
-// A number of more than one group, which is a call.
+// A number at `at`, as a call: the compiler leaves it one, since more than one function makes it.
 pub fn number_long(s: &[u8], at: usize) -> Numeral
-    ensures { λ r. ⌜ Groups 9 (now (s .entry)) at r ⌝ }
+    ensures { λ r. ⌜ Number (now (s .entry)) at r ⌝ }
 {
-    if s.len() <= at {
-        return Numeral::Bad;
-    }
-    let b = formats::wide(s[at]);
-    if b < 128 {
-        return Numeral::Got(b, at + 1);
-    }
-    match groups8(s, at + 1) {
-        Numeral::Got(h, next) => {
-            if h == 0 {
-                return Numeral::Bad;
-            }
-            Numeral::Got(b - 128 + 128 * h, next)
-        }
-        Numeral::Bad => Numeral::Bad,
-    }
+    formats::number(s, at)
 }
 
-// The number at `at`. Most have one group: that case stands in front, and is small enough to be put in place.
+// The same. Most have one group: that case stands in front, and is small enough to be put in place.
 pub fn number_at(s: &[u8], at: usize) -> Numeral
-    ensures { λ r. ⌜ Groups 9 (now (s .entry)) at r ⌝ }
+    ensures { λ r. ⌜ Number (now (s .entry)) at r ⌝ }
 {
     if s.len() <= at {
         return Numeral::Bad;
@@ -155,82 +49,9 @@ pub fn number_at(s: &[u8], at: usize) -> Numeral
     number_long(s, at)
 }
 
-// Eight bytes at a time: `&`, and no `&&`, so that the compiler makes one comparison of them.
-fn eight(v: &[u8], i: usize) -> bool
-    requires { ⌜ i + 8 ≤ length (now v) ⌝ }
-    ensures { λ r. ⌜ r ≡ span 8 (now (v .entry)) i ⌝ }
-{
-    ((32 <= v[i]) & (v[i] <= 126))
-        & ((32 <= v[i + 1]) & (v[i + 1] <= 126))
-        & ((32 <= v[i + 2]) & (v[i + 2] <= 126))
-        & ((32 <= v[i + 3]) & (v[i + 3] <= 126))
-        & ((32 <= v[i + 4]) & (v[i + 4] <= 126))
-        & ((32 <= v[i + 5]) & (v[i + 5] <= 126))
-        & ((32 <= v[i + 6]) & (v[i + 6] <= 126))
-        & ((32 <= v[i + 7]) & (v[i + 7] <= 126))
-}
-
-fn all_printable(v: &[u8]) -> bool
-    ensures { λ r. ⌜ r ≡ inClass printable (now (v .entry)) ⌝ }
-{
-    let mut i = 0;
-    while 8 <= v.len() - i {
-        if eight(v, i) {
-            i += 8;
-        } else {
-            return false;
-        }
-    }
-    while i < v.len() {
-        let b = v[i];
-        if b < 32 {
-            return false;
-        }
-        if 126 < b {
-            return false;
-        }
-        i += 1;
-    }
-    true
-}
-
-// A text of printable bytes, at most `limit` of them.
-pub fn printable(limit: u64, s: &[u8], at: usize) -> Skip
-    ensures { λ r. ⌜ Fine (text limit printable) (now (s .entry)) at r ⌝ }
-{
-    let Numeral::Got(n, p) = number_at(s, at) else {
-        return Skip::Broken;
-    };
-    if limit < n {
-        return Skip::Broken;
-    }
-    let left = s.len() - p;
-    let m = n as usize;
-    if left < m {
-        return Skip::Broken;
-    }
-    let e = p + m;
-    if all_printable(&s[p..e]) {
-        return Skip::At(e);
-    }
-    Skip::Broken
-}
-
-pub fn flag(s: &[u8], at: usize) -> Skip
-    ensures { λ r. ⌜ Fine (small 1) (now (s .entry)) at r ⌝ }
-{
-    let Numeral::Got(n, p) = number_at(s, at) else {
-        return Skip::Broken;
-    };
-    if 1 < n {
-        return Skip::Broken;
-    }
-    Skip::At(p)
-}
-
-// A text of printable bytes, and where they stand.
-pub fn printable_at(limit: u64, s: &[u8], at: usize) -> Span
-    ensures { λ r. ⌜ Spans limit printable (now (s .entry)) at r ⌝ }
+// A text of any bytes, at most `limit` of them, and where they stand.
+fn bytes_at(limit: u64, s: &[u8], at: usize) -> Span
+    ensures { λ r. ⌜ Spans limit any (now (s .entry)) at r ⌝ }
 {
     let Numeral::Got(n, p) = number_at(s, at) else {
         return Span::No;
@@ -243,48 +64,26 @@ pub fn printable_at(limit: u64, s: &[u8], at: usize) -> Span
     if left < m {
         return Span::No;
     }
-    let e = p + m;
-    if all_printable(&s[p..e]) {
-        return Span::At(p, e);
-    }
-    Span::No
-}
-
-// Whether the key from a to e may follow the one from b to d.
-pub fn follows(first: bool, s: &[u8], b: usize, d: usize, a: usize, e: usize) -> bool
-    requires { ⌜ (b ≤ d) × (d ≤ length (now s)) × (a ≤ e) × (e ≤ length (now s)) ⌝ }
-    ensures { λ r. ⌜ r ≡ follows (known first (now (s .entry)) b d) (take (e - a) (drop a (now (s .entry)))) ⌝ }
-{
-    if first {
-        return true;
-    }
-    match slices::compare(&s[b..d], &s[a..e]) {
-        Order::Less => true,
-        Order::Same => false,
-        Order::More => false,
-    }
+    Span::At(p, p + m)
 }
 
 // A text of a class, by the number that a table has for it, and where its bytes stand.
 pub fn text_at(class: u64, limit: u64, s: &[u8], at: usize) -> Span
     ensures { λ r. ⌜ Spans limit (classOf class) (now (s .entry)) at r ⌝ }
 {
-    let Numeral::Got(n, p) = number_at(s, at) else {
+    let Span::At(a, e) = bytes_at(limit, s, at) else {
         return Span::No;
     };
-    if limit < n {
-        return Span::No;
-    }
-    let left = s.len() - p;
-    let m = n as usize;
-    if left < m {
-        return Span::No;
-    }
-    let e = p + m;
-    if formats_text::in_class(class, &s[p..e]) {
-        return Span::At(p, e);
+    if formats_text::in_class(class, &s[a..e]) {
+        return Span::At(a, e);
     }
     Span::No
+}
+
+pub fn printable_at(limit: u64, s: &[u8], at: usize) -> Span
+    ensures { λ r. ⌜ Spans limit printable (now (s .entry)) at r ⌝ }
+{
+    text_at(PRINTABLE, limit, s, at)
 }
 
 pub fn text(class: u64, limit: u64, s: &[u8], at: usize) -> Skip
@@ -294,6 +93,12 @@ pub fn text(class: u64, limit: u64, s: &[u8], at: usize) -> Skip
         Span::At(a, e) => Skip::At(e),
         Span::No => Skip::Broken,
     }
+}
+
+pub fn printable(limit: u64, s: &[u8], at: usize) -> Skip
+    ensures { λ r. ⌜ Fine (text limit printable) (now (s .entry)) at r ⌝ }
+{
+    text(PRINTABLE, limit, s, at)
 }
 
 pub fn optional_text(class: u64, limit: u64, s: &[u8], at: usize) -> Skip
@@ -315,17 +120,34 @@ pub fn optional_text(class: u64, limit: u64, s: &[u8], at: usize) -> Skip
 pub fn optional_printable(limit: u64, s: &[u8], at: usize) -> Skip
     ensures { λ r. ⌜ Fine (optional (text limit printable)) (now (s .entry)) at r ⌝ }
 {
-    if s.len() <= at {
+    optional_text(PRINTABLE, limit, s, at)
+}
+
+pub fn flag(s: &[u8], at: usize) -> Skip
+    ensures { λ r. ⌜ Fine (small 1) (now (s .entry)) at r ⌝ }
+{
+    let Numeral::Got(n, p) = number_at(s, at) else {
+        return Skip::Broken;
+    };
+    if 1 < n {
         return Skip::Broken;
     }
-    let c = s[at];
-    if c == 0 {
-        return Skip::At(at + 1);
+    Skip::At(p)
+}
+
+// Whether the key from a to e may follow the one from b to d.
+pub fn follows(first: bool, s: &[u8], b: usize, d: usize, a: usize, e: usize) -> bool
+    requires { ⌜ (b ≤ d) × (d ≤ length (now s)) × (a ≤ e) × (e ≤ length (now s)) ⌝ }
+    ensures { λ r. ⌜ r ≡ follows (known first (now (s .entry)) b d) (take (e - a) (drop a (now (s .entry)))) ⌝ }
+{
+    if first {
+        return true;
     }
-    if c == 1 {
-        return printable(limit, s, at + 1);
+    match slices::compare(&s[b..d], &s[a..e]) {
+        Order::Less => true,
+        Order::Same => false,
+        Order::More => false,
     }
-    Skip::Broken
 }
 
 // n texts of printable bytes one after another.

@@ -91,7 +91,8 @@ pub fn text(limit: u64, c: u64, v: &[u8]) -> u32
 // Past n bytes at `at`, judged as a text.
 fn bytes(limit: u64, c: u64, s: &[u8], at: usize, n: u64) -> Judge
     requires { ⌜ at ≤ length (now s) ⌝ }
-    ensures { λ r. ⌜ r ≡ judged (textAnswer limit (classOf c)) (now (s .entry)) (bytesR n (drop at (now (s .entry)))) ⌝ }
+    ensures { λ r. ⌜ r ≡ judged (textAnswer limit (classOf c)) (now (s .entry))
+        (bytesR n (drop at (now (s .entry)))) ⌝ }
 {
     let left = s.len() - at;
     let m = n as usize;

@@ -7,33 +7,21 @@ use native.Mathlib.Omega.{arith}
 use native.Mathlib.Numerals.{add-one}
 use lib.ListN.{length, drop, getD, drop-of-length-le}
 use lib.Seq.{drop-cons}
-use lib.Dec.{leb, eqb}
+use lib.Dec.{eqb}
 use borrow.Author.Tests.{le-leb, lt-leb}
-use Rattle.formats.specs.Class.{allowed, inClass, sequences}
+use Rattle.formats.specs.Class.{printable, token, allowed, inClass, sequences}
 use Rattle.basics.specs.Lists.{all}
 use Rattle.formats.specs.promises.Outcome.{classOf}
 
-module _ (c b : ℕ) where
-  pub printable-in : c ≡ 1 → 32 ≤ b → leb b 126 ≡ allowed (classOf c) b
-  printable-in e h = rw (e, le-leb 32 b h) refl
+module _ (b : ℕ) where
+  pub token-in : 33 ≤ b → b ≤ 126 → not (eqb b 58) ≡ allowed token b
+  token-in h k = rw (le-leb 33 b h, le-leb b 126 k) refl
 
-  pub printable-low : c ≡ 1 → b < 32 → false ≡ allowed (classOf c) b
-  printable-low e h = rw (e, lt-leb 32 b h) refl
+  pub token-low : b < 33 → false ≡ allowed token b
+  token-low h = rw (lt-leb 33 b h) refl
 
-  pub token-in : c ≡ 2 → 33 ≤ b → b ≤ 126 → not (eqb b 58) ≡ allowed (classOf c) b
-  token-in e h k = rw (e, le-leb 33 b h, le-leb b 126 k) refl
-
-  pub token-low : c ≡ 2 → b < 33 → false ≡ allowed (classOf c) b
-  token-low e h = rw (e, lt-leb 33 b h) refl
-
-  pub token-high : c ≡ 2 → 33 ≤ b → 126 < b → false ≡ allowed (classOf c) b
-  token-high e h k = rw (e, le-leb 33 b h, lt-leb b 126 k) refl
-
-pub others : (c b : ℕ) → (c ≡ 1 → ⊥) → (c ≡ 2 → ⊥) → true ≡ allowed (classOf c) b
-others zero b o t = refl
-others (suc zero) b o t = absurd (o refl)
-others (suc (suc zero)) b o t = absurd (t refl)
-others (suc (suc (suc c))) b o t = refl
+  pub token-high : 33 ≤ b → 126 < b → false ≡ allowed token b
+  token-high h k = rw (le-leb 33 b h, lt-leb b 126 k) refl
 
 -- all of a text, a byte at a time: what is found of the whole is found from here on
 module _ (p : ℕ → Bool) (v : List ℕ) (i : ℕ) (x : Bool) (e : all p (drop i v) ≡ x) where
@@ -54,14 +42,14 @@ module _ (c : ℕ) (v : List ℕ) where
   pub class-any : c ≡ 0 → true ≡ inClass (classOf c) v
   class-any e = rw e refl
 
-  pub class-printable : (r : Bool) → r ≡ all (allowed (classOf c)) v → c ≡ 1 → r ≡ inClass (classOf c) v
+  pub class-printable : (r : Bool) → r ≡ all (allowed printable) v → c ≡ 1 → r ≡ inClass (classOf c) v
   class-printable r f e = f ∙ rw e refl
 
 pub class-empty : (c : ℕ) (v : List ℕ) → c ≡ 2 → length v ≡ 0 → false ≡ inClass (classOf c) v
 class-empty c [] e h = rw e refl
 class-empty c (b ∷ v) e h = absurd (omega arith)
 
-pub class-token : (c : ℕ) (v : List ℕ) (r : Bool) → r ≡ all (allowed (classOf c)) v → c ≡ 2 → (length v ≡ 0 → ⊥)
+pub class-token : (c : ℕ) (v : List ℕ) (r : Bool) → r ≡ all (allowed token) v → c ≡ 2 → (length v ≡ 0 → ⊥)
     → r ≡ inClass (classOf c) v
 class-token c [] r f e h = absurd (h refl)
 class-token c (b ∷ v) r f e h = f ∙ rw e refl

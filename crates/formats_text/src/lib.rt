@@ -1,10 +1,13 @@
 // Whether a text is of a class.
 ghost use mathlib.Core.Path.{_≡_};
 ghost use mathlib.Core.List.{[]};
-ghost use Rattle.formats.specs.Class.{allowed, due, utf8Rows, next, sequences, inClass};
+ghost use Prim.Native.Nat.{_+_, _≤_};
+ghost use lib.ListN.{length};
+ghost use Rattle.formats.specs.Class.{printable, token, allowed, due, utf8Rows, next, sequences, inClass};
 ghost use Rattle.basics.specs.Lists.{all};
 ghost use Rattle.formats.specs.promises.Outcome.{classOf};
 ghost use Rattle.formats_text.specs.promises.Due.{ranges, dueOf};
+ghost use Rattle.formats_text.specs.promises.Printable.{span};
 
 // What is due in a text of UTF-8: so many bytes, the first of them from one to another; or what came is wrong.
 pub enum Due {
@@ -84,32 +87,63 @@ fn utf8(v: &[u8]) -> bool
     more == 0
 }
 
-fn byte_allowed(c: u64, b: u8) -> bool
-    ensures { λ r. ⌜ r ≡ allowed (classOf c) b ⌝ }
+// Eight bytes at a time: `&`, and no `&&`, so that the compiler makes one comparison of them.
+fn eight(v: &[u8], i: usize) -> bool
+    requires { ⌜ i + 8 ≤ length (now v) ⌝ }
+    ensures { λ r. ⌜ r ≡ span 8 (now (v .entry)) i ⌝ }
 {
-    if c == 1 {
-        if 32 <= b {
-            return b <= 126;
+    ((32 <= v[i]) & (v[i] <= 126))
+        & ((32 <= v[i + 1]) & (v[i + 1] <= 126))
+        & ((32 <= v[i + 2]) & (v[i + 2] <= 126))
+        & ((32 <= v[i + 3]) & (v[i + 3] <= 126))
+        & ((32 <= v[i + 4]) & (v[i + 4] <= 126))
+        & ((32 <= v[i + 5]) & (v[i + 5] <= 126))
+        & ((32 <= v[i + 6]) & (v[i + 6] <= 126))
+        & ((32 <= v[i + 7]) & (v[i + 7] <= 126))
+}
+
+fn all_printable(v: &[u8]) -> bool
+    ensures { λ r. ⌜ r ≡ all (allowed printable) (now (v .entry)) ⌝ }
+{
+    let mut i = 0;
+    while 8 <= v.len() - i {
+        if eight(v, i) {
+            i += 8;
+        } else {
+            return false;
         }
-        return false;
     }
-    if c == 2 {
-        if 33 <= b {
-            if b <= 126 {
-                return b != 58;
-            }
+    while i < v.len() {
+        let b = v[i];
+        if b < 32 {
+            return false;
         }
-        return false;
+        if 126 < b {
+            return false;
+        }
+        i += 1;
     }
     true
 }
 
-fn all_allowed(c: u64, v: &[u8]) -> bool
-    ensures { λ r. ⌜ r ≡ all (allowed (classOf c)) (now (v .entry)) ⌝ }
+// Whether a byte may stand in a token.
+fn in_token(b: u8) -> bool
+    ensures { λ r. ⌜ r ≡ allowed token b ⌝ }
+{
+    if 33 <= b {
+        if b <= 126 {
+            return b != 58;
+        }
+    }
+    false
+}
+
+fn all_in_token(v: &[u8]) -> bool
+    ensures { λ r. ⌜ r ≡ all (allowed token) (now (v .entry)) ⌝ }
 {
     let mut i = 0;
     while i < v.len() {
-        if !byte_allowed(c, v[i]) {
+        if !in_token(v[i]) {
             return false;
         }
         i += 1;
@@ -125,13 +159,13 @@ pub fn in_class(c: u64, v: &[u8]) -> bool
         return true;
     }
     if c == 1 {
-        return all_allowed(c, v);
+        return all_printable(v);
     }
     if c == 2 {
         if v.len() == 0 {
             return false;
         }
-        return all_allowed(c, v);
+        return all_in_token(v);
     }
     utf8(v)
 }

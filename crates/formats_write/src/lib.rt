@@ -156,7 +156,8 @@ pub fn optional_number(out: &mut [u8], w: Put, v: OptionalNumber) -> Put
 }
 
 pub fn optional_signed(out: &mut [u8], w: Put, v: OptionalSigned) -> Put
-    ensures { λ r. ⌜ Adds (now (out .entry)) w (now (out .exit)) r (optionalW (λ z. numberW (zig z)) (givenSigned v)) ⌝ }
+    ensures { λ r. ⌜ Adds (now (out .entry)) w (now (out .exit)) r
+        (optionalW (λ z. numberW (zig z)) (givenSigned v)) ⌝ }
 {
     match v {
         OptionalSigned::Absent => byte(out, w, 0),

@@ -25,6 +25,10 @@ or-cross true y z w = refl
 or-cross false true z w = sym (or-comm z true)
 or-cross false false z w = refl
 
+pub and-assoc : (x y z : Bool) → x && y && z ≡ x && (y && z)
+and-assoc true y z = refl
+and-assoc false y z = refl
+
 pub and-yes : (x : Bool) → x && true ≡ x
 and-yes true = refl
 and-yes false = refl

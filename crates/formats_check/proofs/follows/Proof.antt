@@ -37,13 +37,13 @@ enum-told-3 : tie.Need-enum-told-3
 enum-told-3 c = search needs
 
 returns-2 : tie.Need-returns-2
-returns-2 c = search (follows-less, follows-same, follows-more)
+returns-2 c = search follows-less
 
 returns-3 : tie.Need-returns-3
-returns-3 c = search (follows-less, follows-same, follows-more)
+returns-3 c = search (follows-same, follows-more)
 
 returns-4 : tie.Need-returns-4
-returns-4 c = search (follows-less, follows-same, follows-more)
+returns-4 c = search (follows-same, follows-more)
 
 pub follows-spec : {M : Type 1} → statement M
 follows-spec =

@@ -1,38 +1,16 @@
-use native.Mathlib.Omega.{arith}
-use Rattle.formats_check.specs.laws.Groups.{group-end, group-one}
 use borrow.Author.Needs.{needs}
+use Rattle.formats.proofs.Numbers.{at-end, front-good}
 use Rattle.formats_check.proofs.number_at.Statement.{statement}
 use Rattle.formats_check.proofs.number_at.Tie as tie
-
-returns : tie.Need-returns
-returns c = search group-end
-
-shared-slice-read-wide : tie.Need-shared-slice-read-wide
-shared-slice-read-wide c = search needs
-
-wide-requires : tie.Need-wide-requires
-wide-requires c κs = search needs
-
-add-t8 : tie.Need-add-t8
-add-t8 c = search needs
-
-returns-2 : tie.Need-returns-2
-returns-2 c = search (group-one 9 (omega arith) (omega arith))
-
-number-long-requires : tie.Need-number-long-requires
-number-long-requires c κs = search needs
-
-returns-3 : tie.Need-returns-3
-returns-3 c = search needs
 
 pub number-at-spec : {M : Type 1} → statement M
 number-at-spec =
     tie.close
     (tie.spec
-    returns
-    shared-slice-read-wide
-    wide-requires
-    add-t8
-    returns-2
-    number-long-requires
-    returns-3)
+    (λ c. search at-end)
+    (λ c. search needs)
+    (λ c κs. search needs)
+    (λ c. search needs)
+    (λ c. search front-good)
+    (λ c κs. search needs)
+    (λ c. search needs))

@@ -1,71 +1,19 @@
-use Rattle.formats_check.specs.laws.Climbing.{span-no, span-so}
-use Rattle.formats_check.specs.laws.Elements.{in-place, text-no, text-other, text-over, text-short}
-use native.Mathlib.Omega.{arith}
+use Rattle.formats_check.specs.laws.Climbing.{span-forward, span-within, class-none, class-so, class-other}
 use borrow.Author.Needs.{needs}
 use Rattle.formats_check.proofs.text_at.Statement.{statement}
 use Rattle.formats_check.proofs.text_at.Tie as tie
-
-number-at-requires : tie.Need-number-at-requires
-number-at-requires c κs = search needs
-
-enum-known-n : tie.Need-enum-known-n
-enum-known-n c = search needs
-
-enum-told : tie.Need-enum-told
-enum-told c = search needs
-
-returns : tie.Need-returns
-returns c = search (span-no, text-no)
-
-returns-2 : tie.Need-returns-2
-returns-2 c = search (span-no, text-over)
-
-sub-left : tie.Need-sub-left
-sub-left c = search in-place
-
-returns-3 : tie.Need-returns-3
-returns-3 c = search (span-no, text-short)
-
-add-e : tie.Need-add-e
-add-e c = search needs
-
-sub-in-class : tie.Need-sub-in-class
-sub-in-class c = search needs
-
-part-in-class-start : tie.Need-part-in-class-start
-part-in-class-start c = search needs
-
-part-in-class-end : tie.Need-part-in-class-end
-part-in-class-end c = omega (
-  arith,
-  in-place (c .before .before .before .before .before .number-at .ensures)
-      (c .before .before .before .n .given .1),
-)
-
-in-class-requires : tie.Need-in-class-requires
-in-class-requires c κs = search needs
-
-returns-4 : tie.Need-returns-4
-returns-4 c = search span-so
-
-returns-5 : tie.Need-returns-5
-returns-5 c = search (span-no, text-other)
 
 pub text-at-spec : {M : Type 1} → statement M
 text-at-spec =
     tie.close
     (tie.spec
-    number-at-requires
-    enum-known-n
-    enum-told
-    returns
-    returns-2
-    sub-left
-    returns-3
-    add-e
-    sub-in-class
-    part-in-class-start
-    part-in-class-end
-    in-class-requires
-    returns-4
-    returns-5)
+    (λ c κs. search needs)
+    (λ c. search needs)
+    (λ c. search needs)
+    (λ c. search class-none)
+    (λ c. search span-forward)
+    (λ c. search span-forward)
+    (λ c. search span-within)
+    (λ c κs. search needs)
+    (λ c. search class-so)
+    (λ c. search class-other))

@@ -9,12 +9,13 @@ use native.Mathlib.Nat.{add-zero}
 use lib.Dec.{leb}
 use lib.ListN.{length, take, drop}
 use borrow.Author.Tests.{le-leb, lt-leb}
-use Rattle.formats.specs.Readers.{bind}
+use Rattle.formats.specs.Readers.{bind, onlyR}
 use Rattle.formats.specs.laws.Law.{found}
 use Rattle.basics.specs.laws.Options.{none-some}
-use Rattle.formats.specs.Class.{Class, inClass}
+use Rattle.formats.specs.Class.{Class, any, inClass}
 use Rattle.basics.specs.Lists.{all}
 use Rattle.formats.specs.Format.{Format, text, list, _&_, Value, read}
+use Rattle.formats.specs.promises.Outcome.{skipped}
 use Rattle.formats.specs.declared.Numeral.{Numeral}
 use Rattle.formats.specs.declared.Numeral.the-variants.{Got, Bad}
 use Rattle.formats.specs.declared.Skip.{Skip}
@@ -28,13 +29,14 @@ use Rattle.formats_check.specs.declared.Span.{Span}
 use Rattle.formats_check.specs.declared.Span.the-variants.{At, No}
 use Rattle.formats_check.specs.declared.Entry.{Entry}
 use Rattle.formats_check.specs.declared.Entry.the-variants as entry
-use Rattle.formats_check.specs.promises.Checked.{Number, Fine, Walk, runs, Walked, Ahead, Test}
+use Rattle.formats_check.specs.promises.Checked.{Number, fine, Fine, Walk, runs, Walked, Ahead, Test}
 use Rattle.formats_check.specs.promises.Checked.{own, behind, under, holds, Tested}
 use Rattle.formats_check.specs.laws.Checked.{Missed, absent, refused, Good, good, missed, behind-no, behind-so}
-use Rattle.formats_check.specs.laws.Checked.{under-no, under-so}
+use Rattle.formats_check.specs.laws.Checked.{under-no, under-so, is-good, is-bad}
 use Rattle.formats_check.specs.laws.Elements.{text-so, text-read}
 use Rattle.formats_check.specs.laws.Walks.{walk-end, walk-bad, walk-no, walk-on, list-no, list-over, list-so}
-use Rattle.formats_check.specs.laws.Joined.{and-assoc, shuffle}
+use Rattle.basics.specs.laws.Booleans.{and-assoc, both-true, false-true}
+use Rattle.formats_check.specs.laws.Joined.{shuffle}
 
 -- a text that is good stands from a up to e, behind its length
 pub record Keyed (l : ℕ) (c : Class) (s : List ℕ) (at a e : ℕ) : Type 0 where
@@ -52,16 +54,15 @@ pub record Spans (l : ℕ) (c : Class) (s : List ℕ) (at : ℕ) (r : Span) : Ty
 pub span-no : {l : ℕ} {c : Class} {s : List ℕ} {at : ℕ} → Fine (text l c) s at skip.Broken → Spans l c s at No
 span-no h = record { tells = h }
 
--- a text, and where its bytes stand
-pub span-so : {l : ℕ} {c : Class} {s : List ℕ} {at : ℕ} {o : Numeral} → Number s at o → {n p : ℕ} → o ≡ Got n p
-    → n ≤ length s - p → n ≤ l → (t : Bool) → t ≡ inClass c (take (p + n - p) (drop p s)) → t ≡ true
-    → Spans l c s at (At p (p + n))
-span-so {l} {c} {s} {at} e {n} {p} h k m t i f =
+-- a text of any bytes, and where they stand
+pub span-so : {l : ℕ} {s : List ℕ} {at : ℕ} {o : Numeral} → Number s at o → {n p : ℕ} → o ≡ Got n p
+    → n ≤ length s - p → n ≤ l → Spans l any s at (At p (p + n))
+span-so {l} {s} {at} e {n} {p} h k m =
     let j : p + n - p ≡ n = omega arith in
-    let R = text-read l c e h k in
+    let R = text-read l e h k in
     record {
       tells = record {
-        is = text-so l c e h k m t i f;
+        is = text-so l e h k m;
         bytes = λ v q. rw j (taken (sym q ∙ R));
         forward = omega arith;
       };
@@ -85,6 +86,42 @@ module _ {l : ℕ} {c : Class} {s : List ℕ} {at : ℕ} where
 
   pub span-within : {r : Span} → Spans l c s at r → {a e : ℕ} → r ≡ At a e → e ≤ length s
   span-within S h = good (span-key S h .is) refl .within
+
+-- A CLASS: what is found of a text of any bytes, and whether they are of the class
+module _ {l : ℕ} (c : Class) {s : List ℕ} {at : ℕ} {r : Span} (S : Spans l any s at r) where
+  pub class-none : r ≡ No → Spans l c s at No
+  class-none h = record { tells = record { says = go (missed (span-none S h) refl) } }
+    where
+      over : (a b : Bool) → (a && true) ≡ false → (a && b) ≡ false
+      over true b e = false-true (sym e)
+      over false b e = refl
+
+      go : Missed (fine (text l any)) (read (text l any) (drop at s))
+          → skip.Broken ≡ skipped s (onlyR (fine (text l c)) (read (text l c)) (drop at s))
+      go (absent i) = rw i refl
+      go (refused x i f) = rw (i, over (leb (length (x .0)) l) (inClass c (x .0)) f) refl
+
+  module _ {a e : ℕ} (h : r ≡ At a e) {t : Bool} (i : t ≡ inClass c (take (e - a) (drop a s))) where
+    G : Good (read (text l any)) (fine (text l any)) s at e
+    G = good (span-key S h .is) refl
+
+    classed : fine (text l c) (G .value) ≡ t
+    classed =
+        let j : G .value ≡ take (e - a) (drop a s) = span-key S h .bytes (G .value) (G .reads) in
+        let k : leb (length (G .value)) l ≡ true = both-true (leb (length (G .value)) l) true (G .fits) .0 in
+        rw (k, j) (sym i)
+
+    pub class-so : t ≡ true → Spans l c s at (At a e)
+    class-so f = record {
+      tells = record {
+        is = is-good (text l c) (fine (text l c)) s at (G .value) e (G .reads) (classed ∙ f) (G .within);
+        bytes = span-key S h .bytes;
+        forward = span-key S h .forward;
+      };
+    }
+
+    pub class-other : t ≡ false → Spans l c s at No
+    class-other f = record { tells = is-bad (text l c) (fine (text l c)) s at (G .value) e (G .reads) (classed ∙ f) }
 
 -- the key before, where there is one, and whether a key may follow
 abbrev pub known : Bool → List ℕ → ℕ → ℕ → Option (List ℕ)

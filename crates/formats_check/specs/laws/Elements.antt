@@ -1,5 +1,5 @@
 -- Law. Checked reading of what has no parts: numbers in a range, small and signed numbers, texts, floats, one byte.
-use mathlib.Core.Path.{_≡_, refl, sym, _∙_}
+use mathlib.Core.Path.{_≡_, refl, _∙_}
 use mathlib.Core.List.{List}
 use mathlib.Core.Bool.{Bool, true, false}
 use mathlib.Core.Option.{some, none}
@@ -13,7 +13,7 @@ use borrow.Author.Tests.{le-leb, lt-leb, leb-true, leb-false, eq-eqb, ne-eqb}
 use Rattle.formats.specs.Number.{numberR, littleR, zag}
 use Rattle.formats.specs.Readers.{constR}
 use Rattle.formats.specs.laws.Number.{numberLaw, littleLaw}
-use Rattle.formats.specs.Class.{Class, inClass}
+use Rattle.formats.specs.Class.{any}
 use Rattle.formats.specs.Format.{number, signed, small, text, float, constant, read}
 use Rattle.formats.specs.promises.Outcome.{numbered, skipped}
 use Rattle.formats.specs.declared.Numeral.{Numeral}
@@ -104,20 +104,17 @@ module _ (m n : ℕ) where
   pub upward-below : (n % 2 ≡ 0 → ⊥) → fine (signed (pos 0) (pos m)) (zag n) ≡ false
   upward-below z = rw (ne-eqb (n % 2) 0 z) refl
 
--- A TEXT of a class and a limit
-module _ (l : ℕ) (c : Class) {s : List ℕ} {at : ℕ} {o : Numeral} (e : Number s at o) where
+-- A TEXT of any bytes and a limit
+module _ (l : ℕ) {s : List ℕ} {at : ℕ} {o : Numeral} (e : Number s at o) where
   abbrev Text : Skip → Type 0
-  Text r = Fine (text l c) s at r
+  Text r = Fine (text l any) s at r
 
   pub text-no : o ≡ Bad → Text Broken
-  text-no h = is-none (text l c) (fine (text l c)) s at (rw (no-number e h) refl)
+  text-no h = is-none (text l any) (fine (text l any)) s at (rw (no-number e h) refl)
 
   module _ {n p : ℕ} (h : o ≡ Got n p) where
-    pub text-place : p ≤ length s
-    text-place = a-number e h .within
-
     pub text-short : length s - p < n → Text Broken
-    text-short k = is-none (text l c) (fine (text l c)) s at (rw (
+    text-short k = is-none (text l any) (fine (text l any)) s at (rw (
       a-number e h .reads,
       lt-leb n (length (drop p s))
           (rw length-drop k),
@@ -126,28 +123,20 @@ module _ (l : ℕ) (c : Class) {s : List ℕ} {at : ℕ} {o : Numeral} (e : Numb
     sized : n ≤ length s - p → length (take n (drop p s)) ≡ n
     sized k = length-take-le n (drop p s) (rw length-drop k)
 
-    pub text-read : n ≤ length s - p → read (text l c) (drop at s) ≡ some (take n (drop p s), drop (p + n) s)
+    pub text-read : n ≤ length s - p → read (text l any) (drop at s) ≡ some (take n (drop p s), drop (p + n) s)
     text-read k = rw (a-number e h .reads, le-leb n (length (drop p s)) (rw length-drop k), drop-drop n p s) refl
 
     pub text-over : l < n → Text Broken
     text-over k = go (leb n (length s - p)) refl
       where
         go : (t : Bool) → leb n (length s - p) ≡ t → Text Broken
-        go true i = let j = leb-true n (length s - p) i in is-bad (text l c) (fine (text l c)) s at _ (p + n)
+        go true i = let j = leb-true n (length s - p) i in is-bad (text l any) (fine (text l any)) s at _ (p + n)
             (text-read j) (rw (sized j, lt-leb n l k) refl)
         go false i = text-short (leb-false n (length s - p) i)
 
-    module _ (k : n ≤ length s - p) (m : n ≤ l) (t : Bool) (i : t ≡ inClass c (take (p + n - p) (drop p s))) where
-      told : inClass c (take n (drop p s)) ≡ t
-      told = let j : p + n - p ≡ n = omega arith in sym (rw j at i)
-
-      pub text-other : t ≡ false → Text Broken
-      text-other f = is-bad (text l c) (fine (text l c)) s at _ (p + n) (text-read k) (rw
-          (sized k, le-leb n l m, told, f) refl)
-
-      pub text-so : t ≡ true → Text (At (p + n))
-      text-so f = is-good (text l c) (fine (text l c)) s at _ (p + n) (text-read k) (rw
-          (sized k, le-leb n l m, told, f) refl) (omega (arith, text-place))
+    pub text-so : n ≤ length s - p → n ≤ l → Text (At (p + n))
+    text-so k m = is-good (text l any) (fine (text l any)) s at _ (p + n) (text-read k) (rw
+        (sized k, le-leb n l m) refl) (omega (arith, a-number e h .within))
 
 -- A FLOAT: any eight bytes
 module _ {s : List ℕ} {at : ℕ} {o : Numeral} (e : o ≡ numbered s (littleR 8 (drop at s))) where

@@ -2,10 +2,6 @@
 use mathlib.Core.Path.{_≡_, refl}
 use mathlib.Core.Bool.{Bool, true, false, _&&_}
 
-pub and-assoc : (a b c : Bool) → ((a && b) && c) ≡ (a && (b && c))
-and-assoc true b c = refl
-and-assoc false b c = refl
-
 pub shuffle : (a b c d : Bool) → ((a && b) && (c && d)) ≡ ((c && a) && (b && d))
 shuffle true b true d = refl
 shuffle true true false d = refl

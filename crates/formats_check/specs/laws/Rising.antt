@@ -24,7 +24,8 @@ use Rattle.maps.specs.laws.Order.{cons-before, cons-behind, lex-itself}
 use Rattle.formats_check.specs.promises.Checked.{Number, Checked, fine, Walk, runs, Walked, Ahead}
 use Rattle.formats_check.specs.laws.Checked.{Missed, absent, refused, good, missed}
 use Rattle.formats_check.specs.laws.Walks.{walk-end, walk-no, walk-on, list-no, list-over, list-so}
-use Rattle.formats_check.specs.laws.Joined.{and-assoc, shuffle}
+use Rattle.basics.specs.laws.Booleans.{and-assoc}
+use Rattle.formats_check.specs.laws.Joined.{shuffle}
 
 abbrev pub entry : ℕ → Format → Format
 entry hi g = number 0 hi & g

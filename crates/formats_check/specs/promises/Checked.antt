@@ -6,7 +6,7 @@ use Prim.Native.Nat.{ℕ}
 use lib.Dec.{leb}
 use lib.ListN.{length, drop}
 use Rattle.formats.specs.Readers.{onlyR, manyR}
-use Rattle.formats.specs.Number.{groupsR}
+use Rattle.formats.specs.Number.{numberR}
 use Rattle.formats.specs.Class.{inClass}
 use Rattle.basics.specs.Lists.{all}
 use Rattle.formats.specs.Format.{Format, never, empty, number, signed, small, text, float, constant, list, choice, _&_}
@@ -16,12 +16,9 @@ use Rattle.formats.specs.declared.Numeral.{Numeral}
 use Rattle.formats.specs.declared.Skip.{Skip}
 use Rattle.formats_judge.specs.Judged.{atMost, either}
 
--- what the reader of a number of at most k + 1 groups answers
-pub record Groups (k : ℕ) (s : List ℕ) (at : ℕ) (o : Numeral) : Type 0 where
-  pub says : o ≡ numbered s (groupsR k (drop at s))
-
-abbrev pub Number : List ℕ → ℕ → Numeral → Type 0
-Number s at o = Groups 9 s at o
+-- what the reader of a number answers
+pub record Number (s : List ℕ) (at : ℕ) (o : Numeral) : Type 0 where
+  pub says : o ≡ numbered s (numberR (drop at s))
 
 -- CHECKED READING: r is the place past the value of f at `at`, where one stands there that P says true of, else Broken
 pub record Checked (f : Format) (P : Value f → Bool) (s : List ℕ) (at : ℕ) (r : Skip) : Type 0 where

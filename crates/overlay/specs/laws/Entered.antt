@@ -193,7 +193,8 @@ module _ (f : List ℕ) (name : ok 5 (text 16 token) f ≡ true) where
       go : (b : Bool) → All (TripKept f) (cond b [] ((incompleteKey f t, t) ∷ []))
       go true = tt
       go false =
-          (entry-kept f (incompleteKey f t) t (incomplete-printed f t (token-printed f name) r d m) (incomplete-ok f t) j u, tt)
+          let p = incomplete-printed f t (token-printed f name) r d m in
+          (entry-kept f (incompleteKey f t) t p (incomplete-ok f t) j u, tt)
   inserts-kept (b ∷ raw) t p r d m j u = go (isEmpty (dateOf t)) refl
     where
       base : TripKept f (b ∷ raw, t)

@@ -21,7 +21,7 @@ use Rattle.formats_check.specs.promises.Checked.{Number, fine, Fine, Test, own,
 use Rattle.formats_check.specs.laws.Checked.{check-past}
 use Rattle.formats_check.specs.laws.Elements.{number-no, number-high, number-so, signed-no, signed-bad, signed-so}
 use Rattle.formats_check.specs.laws.Elements.{around-in, around-over, upward-in, upward-over, upward-below}
-use Rattle.formats_check.specs.laws.Joined.{and-assoc}
+use Rattle.basics.specs.laws.Booleans.{and-assoc}
 
 module _ {s : List ℕ} {at : ℕ} {o : Numeral} (e : Number s at o) where
   pub delay-no : o ≡ Bad → Fine delay s at Broken

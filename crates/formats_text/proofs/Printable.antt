@@ -1,4 +1,4 @@
--- Law. Printable bytes, several at a time. Law.
+-- Printable bytes, several at a time, by the tests that the code makes. Assumes nothing.
 use mathlib.Core.Path.{_≡_, refl, sym, ap, _∙_}
 use mathlib.Core.List.{List}
 use mathlib.Core.Bool.{Bool, true, false, _&&_}
@@ -12,15 +12,11 @@ use lib.Seq.{drop-cons}
 use borrow.Author.Tests.{le-leb, lt-leb}
 use Rattle.formats.specs.Class.{allowed, printable}
 use Rattle.basics.specs.Lists.{all}
-use Rattle.formats_check.specs.laws.Joined.{and-assoc}
+use Rattle.basics.specs.laws.Booleans.{and-assoc}
+use Rattle.formats_text.specs.promises.Printable.{span}
 
 abbrev fits : ℕ → Bool
 fits b = leb 32 b && leb b 126
-
--- whether the n bytes from i on are printable
-abbrev pub span : ℕ → List ℕ → ℕ → Bool
-span zero v i = true
-span (suc n) v i = span n v i && (leb 32 (getD v (i + n) 0) && leb (getD v (i + n) 0) 126)
 
 span-all : (n : ℕ) (v : List ℕ) (i : ℕ) → i + n ≤ length v → all (allowed printable) (drop i v) ≡ (span n v i && all
     (allowed printable) (drop (i + n) v))

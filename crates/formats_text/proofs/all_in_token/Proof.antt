@@ -4,21 +4,20 @@ use native.Mathlib.Omega.{arith}
 use lib.ListN.{length, drop}
 use borrow.Author.Tests.{not-true, not-false}
 use borrow.Author.Needs.{needs}
-use Rattle.formats.specs.Class.{allowed}
+use Rattle.formats.specs.Class.{token, allowed}
 use Rattle.basics.specs.Lists.{all}
-use Rattle.formats.specs.promises.Outcome.{classOf}
 use Rattle.formats_text.proofs.Bytewise.{all-end, all-stop, all-more}
-use Rattle.formats_text.proofs.all_allowed.Statement.{statement}
-use Rattle.formats_text.proofs.all_allowed.Tie as tie
+use Rattle.formats_text.proofs.all_in_token.Statement.{statement}
+use Rattle.formats_text.proofs.all_in_token.Tie as tie
 
 abbrev Inv-loop : tie.InvT-loop
-Inv-loop c v i₀ i = (i ≤ length v) × (all (allowed (classOf c)) (drop i v) ≡ all (allowed (classOf c)) v)
+Inv-loop v i₀ i = (i ≤ length v) × (all (allowed token) (drop i v) ≡ all (allowed token) v)
 
 abbrev μ-loop : tie.MeasureT-loop
-μ-loop c v i₀ i = length v - i
+μ-loop v i₀ i = length v - i
 
-pub all-allowed-spec : {M : Type 1} → statement M
-all-allowed-spec =
+pub all-in-token-spec : {M : Type 1} → statement M
+all-in-token-spec =
     tie.close
     (tie.spec
     Inv-loop
