@@ -1,0 +1,86 @@
+// Quick passes over the parts of an overlay, as formats_skip has them over leaves.
+ghost use Rattle.formats.specs.Format.{list};
+ghost use Rattle.formats_skip.specs.promises.Passes.{Passes, Leads};
+ghost use Rattle.alerts.specs.Alert.{alert};
+ghost use Rattle.overlay.specs.State.{vehicle, vehicleEntry, feed, feedEntry};
+
+pub fn past_vehicle(s: &[u8], at: usize) -> usize
+    ensures { λ r. ⌜ Passes vehicle (now (s .entry)) at r ⌝ }
+{
+    let a = formats_skip::past_optional_text(s, at);
+    let b = formats_skip::past_float(s, a);
+    let c = formats_skip::past_float(s, b);
+    formats_skip::past_number(s, c)
+}
+
+// A vehicle with its key in front.
+pub fn past_vehicle_entry(s: &[u8], at: usize) -> usize
+    ensures { λ r. ⌜ Passes vehicleEntry (now (s .entry)) at r ⌝ }
+{
+    let p = formats_skip::past_text(s, at);
+    past_vehicle(s, p)
+}
+
+pub fn past_vehicles(s: &[u8], at: usize) -> usize
+    ensures { λ r. ⌜ Passes (list 1024 vehicleEntry) (now (s .entry)) at r ⌝ }
+{
+    let n = formats_read::number(s, at);
+    let mut p = n.next;
+    let mut left = n.value;
+    while 0 < left {
+        p = past_vehicle_entry(s, p);
+        left -= 1;
+    }
+    p
+}
+
+pub fn past_alert(s: &[u8], at: usize) -> usize
+    ensures { λ r. ⌜ Passes alert (now (s .entry)) at r ⌝ }
+{
+    let a = formats_skip::past_optional_text(s, at);
+    let b = formats_skip::past_optional_text(s, a);
+    let c = formats_skip::past_optional_text(s, b);
+    let d = formats_skip::past_texts(s, c);
+    let e = formats_skip::past_texts(s, d);
+    formats_skip::past_texts(s, e)
+}
+
+pub fn past_alerts(s: &[u8], at: usize) -> usize
+    ensures { λ r. ⌜ Passes (list 256 alert) (now (s .entry)) at r ⌝ }
+{
+    let n = formats_read::number(s, at);
+    let mut p = n.next;
+    let mut left = n.value;
+    while 0 < left {
+        p = past_alert(s, p);
+        left -= 1;
+    }
+    p
+}
+
+// The place of a feed's trips, in front of which stand its timestamp and its count.
+pub fn trips_place(s: &[u8], at: usize) -> usize
+    ensures { λ r. ⌜ Leads 2 feed (now (s .entry)) at r ⌝ }
+{
+    let p = formats_skip::past_optional_number(s, at);
+    formats_skip::past_number(s, p)
+}
+
+// A feed without its id.
+pub fn past_feed(s: &[u8], at: usize) -> usize
+    ensures { λ r. ⌜ Passes feed (now (s .entry)) at r ⌝ }
+{
+    let a = formats_skip::past_optional_number(s, at);
+    let b = formats_skip::past_number(s, a);
+    let c = decode_skip::past_trips(s, b);
+    let d = past_vehicles(s, c);
+    past_alerts(s, d)
+}
+
+// A feed with its id in front.
+pub fn past_feed_entry(s: &[u8], at: usize) -> usize
+    ensures { λ r. ⌜ Passes feedEntry (now (s .entry)) at r ⌝ }
+{
+    let p = formats_skip::past_text(s, at);
+    past_feed(s, p)
+}
