@@ -17,6 +17,7 @@ use Rattle.formats_read.specs.promises.Here.{Here}
 use Rattle.formats_read.specs.laws.Lists.{listed}
 use Rattle.formats_read.specs.promises.Lists.{Many}
 use Rattle.formats_read.specs.promises.Reads.{ReadsNumber, ReadsText}
+use Rattle.formats_skip.specs.promises.Passes.{Passes}
 use Rattle.formats_read.specs.laws.Walk.{At, Walk, ended, of-list}
 use Rattle.decode.specs.Trip.{Trip, trip, tripEntry}
 use Rattle.maps.specs.Map.{put}
@@ -30,7 +31,7 @@ use Rattle.decode_keys.specs.laws.Lengths.{filed-length}
 use Rattle.decode.specs.Leaves.{Trips}
 use Rattle.decode.specs.Sizes.{beyond}
 use Rattle.decode_slots.specs.Places.{isNew, orNoTrip, recordAt, oldAt, heldAt, held}
-use Rattle.decode_old.specs.promises.Old.{Stands, OldRecord, Joined, Entry, Passes, Filled}
+use Rattle.decode_old.specs.promises.Old.{Stands, OldRecord, Joined, Entry, FiledEntry, Filled}
 
 -- the bytes of a value that stands somewhere are read as it, and nothing is left
 read-there : (f : Format) {o : List ℕ} {m e : ℕ} {v : Value f} → Here f o m e v
@@ -66,12 +67,12 @@ module _ {o : List ℕ} {m e : ℕ} {t : Trip} (h : Here trip o m e t) where
       ∙ old-read
 
 -- an entry that was read: its key from a to m, and its record from there to e
-module _ {o : List ℕ} {p a m e : ℕ} (T : ReadsText o p a m) (P : (t : Trip) (q : ℕ) → Here trip o m q t → e ≡ q) where
+module _ {o : List ℕ} {p a m e : ℕ} (T : ReadsText o p a m) (P : Passes trip o m e) where
   record-here : (v : Value tripEntry) (q : ℕ) → Here tripEntry o p q v → Here trip o m q (v .1)
   record-here v q h = let x = halves h in let i = T .next (x .first) in rw i (x .second)
 
   entry-ends : (v : Value tripEntry) (q : ℕ) → Here tripEntry o p q v → e ≡ q
-  entry-ends v q h = P (v .1) q (record-here v q h)
+  entry-ends v q h = P .to (record-here v q h)
 
   key-is : (v : Value tripEntry) (q : ℕ) → Here tripEntry o p q v → take (m - a) (drop a o) ≡ v .0
   key-is v q h = slice-is a m o (T .forward) (T .within) ∙ T .bytes (halves h .first)
@@ -85,10 +86,10 @@ module _ {o : List ℕ} {p a m e : ℕ} (T : ReadsText o p a m) (P : (t : Trip) 
       let b = ap length (T .bytes (halves (E .here) .first)) in
       (omega (arith, T .forward, T .within), omega (arith, E .short))
 
-  pub passes : {from to n r : ℕ} {keys marks order keys′ marks′ order′ : List ℕ} → from ≡ beyond + m → to ≡ beyond + e
+  pub files : {from to n r : ℕ} {keys marks order keys′ marks′ order′ : List ℕ} → from ≡ beyond + m → to ≡ beyond + e
       → Filed keys marks order n (take (m - a) (drop a o)) from to keys′ marks′ order′ r
-      → Passes o p keys marks order n keys′ marks′ order′ r e
-  passes f t F = record {
+      → FiledEntry o p keys marks order n keys′ marks′ order′ r e
+  files f t F = record {
     ends = entry-ends;
     filed = λ v h. (m, record-here v e h, rw (f, t, key-is v e h) at F);
   }
@@ -98,7 +99,7 @@ unfolding held
 filled-none L = record { sound = sound-none L; few = omega arith; old = tt; holds = λ s. refl }
 
 pub filled-more : {o keys marks order keys′ marks′ order′ : List ℕ} {p n r e : ℕ}
-    → Passes o p keys marks order n keys′ marks′ order′ r e
+    → FiledEntry o p keys marks order n keys′ marks′ order′ r e
     → (us : Trips) (v : Value tripEntry) → Filled o keys marks order n us → Here tripEntry o p e v
     → Filled o keys′ marks′ order′ r (us ++ (v ∷ []))
 unfolding held

@@ -6,18 +6,16 @@ use decode::sizes::BEYOND;
 use formats_judge::Judge;
 use table::DEPTH;
 use table::LIST;
-use table::TRIP;
 use table::TRIPS;
 ghost use mathlib.Core.Path.{_≡_};
-ghost use Prim.Native.Nat.{ℕ, _+_, _≤_};
+ghost use Prim.Native.Nat.{_+_, _≤_};
 ghost use lib.ListN.{length};
-ghost use Rattle.formats.specs.Format.{list, Value};
+ghost use Rattle.formats.specs.Format.{list};
 ghost use Rattle.formats_judge.specs.Judged.{judgeTo};
-ghost use Rattle.formats_read.specs.promises.Here.{Here};
-ghost use Rattle.decode.specs.Trip.{trip, tripEntry};
+ghost use Rattle.decode.specs.Trip.{tripEntry};
 ghost use Rattle.decode_slots.specs.promises.Index.{Open, Lent};
 ghost use Rattle.decode.specs.Sizes.{mostTrips, beyond, mostOld};
-ghost use Rattle.decode_old.specs.promises.Old.{Stands, Joined, Entry, Passes};
+ghost use Rattle.decode_old.specs.promises.Old.{Stands, Joined, Entry, FiledEntry};
 
 // The judgement of the trips that stand at `at`: their form, and the first of the questions 5 to 7 that they fail.
 pub fn judge(old: &[u8], at: usize) -> Judge
@@ -25,13 +23,6 @@ pub fn judge(old: &[u8], at: usize) -> Judge
     ensures { λ r. ⌜ r ≡ judgeTo (list mostTrips tripEntry) (now (old .entry)) at ⌝ }
 {
     formats_judge::judge_value(&TRIPS, DEPTH, LIST, old, at)
-}
-
-// The place past the record at `at`.
-fn past_trip(old: &[u8], at: usize) -> usize
-    ensures { λ r. ⌜ ((v : Value trip) (q : ℕ) → Here trip (now (old .entry)) at q v → r ≡ q) ⌝ }
-{
-    formats_read::past(&TRIPS, DEPTH, TRIP, old, at)
 }
 
 // A place of the old overlay's bytes, above all those of a message.
@@ -59,13 +50,13 @@ fn file_entry(
 ) -> Passed
     requires { ⌜ Open (now keys) (now marks) (now order) n ⌝ }
     requires { ⌜ Entry (now old) at ⌝ }
-    ensures { λ r. ⌜ Passes (now (old .entry)) at (now (keys .entry)) (now (marks .entry)) (now (order .entry)) n
+    ensures { λ r. ⌜ FiledEntry (now (old .entry)) at (now (keys .entry)) (now (marks .entry)) (now (order .entry)) n
         (now (keys .exit)) (now (marks .exit)) (now (order .exit)) (r .slots) (r .next) ⌝ }
 {
     let key = formats_read::text(old, at);
     let start = key.from;
     let end = key.to;
-    let next = past_trip(old, end);
+    let next = decode_skip::past_trip(old, end);
     let from = old_place(end);
     let to = old_place(next);
     let slots = decode_keys::file_key(keys, marks, order, n, old, start, end - start, from, to);

@@ -133,9 +133,7 @@ pub const TRIPS: [u64; 104] = [
     0,
 ];
 
-// The nodes of the list and of a trip's record, and how deep the format is.
+// The node of the list, and how deep the format is.
 pub const LIST: u64 = 25;
-
-pub const TRIP: u64 = 22;
 
 pub const DEPTH: u32 = 17;

@@ -20,7 +20,7 @@ use Rattle.decode_slots.specs.Index.{Place, slotKey, slotEntry, slotted,
 use Rattle.decode_slots.specs.promises.Index.{SoundIndex, rankOf}
 use Rattle.decode_slots.specs.laws.Slots.{index-length}
 
-is-more : (o : Order) → isMore o ≡ true → o ≡ More
+pub is-more : (o : Order) → isMore o ≡ true → o ≡ More
 is-more Less e = absurd (let z : _≡_ {A = ℕ} 0 1 = cc in omega arith)
 is-more Same e = absurd (let z : _≡_ {A = ℕ} 0 1 = cc in omega arith)
 is-more More e = refl

@@ -24,7 +24,7 @@ use Rattle.decode_slots.proofs.Gaps.{gap-front, gap-length}
 use Rattle.decode_slots.specs.laws.Slots.{slotted-length, index-length}
 use Rattle.decode_slots.proofs.Ranks.{at, ascending-at, slotted-at, index-at, slot-below, rank-within, nowhere}
 
-is-same : (o : Order) → isSame o ≡ true → o ≡ Same
+pub is-same : (o : Order) → isSame o ≡ true → o ≡ Same
 is-same Less e = absurd (let z : _≡_ {A = ℕ} 0 1 = cc in omega arith)
 is-same Same e = refl
 is-same More e = absurd (let z : _≡_ {A = ℕ} 0 1 = cc in omega arith)

@@ -39,7 +39,7 @@ pub fn insert(a: &mut [u32], at: usize, end: usize, v: u32)
     a[at] = v;
 }
 
-fn is_more(o: Order) -> bool
+pub fn is_more(o: Order) -> bool
     ensures { λ r. ⌜ r ≡ isMore o ⌝ }
 {
     match o {
@@ -49,7 +49,7 @@ fn is_more(o: Order) -> bool
     }
 }
 
-fn is_same(o: Order) -> bool
+pub fn is_same(o: Order) -> bool
     ensures { λ r. ⌜ r ≡ isSame o ⌝ }
 {
     match o {

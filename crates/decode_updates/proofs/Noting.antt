@@ -79,6 +79,10 @@ module _ (u : List ℕ) (n : ℕ) (L : Lined u n) (q : ℕ) where
       rank-behind numbers-order nothing q (laid n u) i (L .ascends) (omega (arith, laid-length n u))
       (ap (λ e. lexOf (q ∷ []) (e .0 ∷ [])) (laid-at n u i h) ∙ cons-behind q (getD u (3 * i) 0) [] [] g)
 
+  -- behind the last
+  pub rank-all : 0 < n → getD u (3 * (n - 1)) 0 < q → n ≡ rank
+  rank-all h g = omega (arith, rank-most, rank-up (n - 1) (omega arith) g)
+
   over-at : (r from to i : ℕ) → r < n → q ≡ getD u (3 * r) 0 → i < n
       → _≡_ {A = ℕ × Place} (getD (remarked u r from to) (3 * i) 0, slotPlace (remarked u r from to) i)
       (getD (set (laid n u) r (q, (from, to))) i nothing)

@@ -4,7 +4,7 @@ use decode::sizes::MOST_UPDATES;
 use realtime_views::Item;
 ghost use mathlib.Core.Path.{_≡_};
 ghost use Prim.Native.Nat.{_+_, _*_, _≤_};
-ghost use mathlib.Core.Bool.{_&&_};
+ghost use mathlib.Core.Bool.{false, _&&_};
 ghost use lib.Dec.{ltb, eqb};
 ghost use lib.ListN.{length, take, getD};
 ghost use Rattle.basics.specs.Lists.{All};
@@ -14,21 +14,37 @@ ghost use Rattle.decode_updates.specs.promises.Line.{mostLines, three, L
 ghost use Rattle.decode_slots.specs.promises.Index.{rankOf};
 ghost use Rattle.decode_updates.specs.Line.{laid};
 ghost use Rattle.decode_updates.specs.promises.Updates.{ListedUpdates, Counted, CrowdedRead, ReadableSlot};
-ghost use Rattle.decode_updates.specs.promises.Updates.{crowdedSlot, crowdedIn};
+ghost use Rattle.decode_updates.specs.promises.Updates.{ReadableNew, crowdedAt, crowdedIn};
 
-// How many updates stand before a sequence: sought from the end, since they arrive in order as a rule.
+// How many updates stand before a sequence: found by halving.
+fn rank(updates: &[u32], n: usize, sequence: u32) -> usize
+    requires { ⌜ Lined (now updates) n ⌝ }
+    ensures { λ r. ⌜ r ≡ rankOf numbers sequence (laid n (now (updates .entry))) ⌝ }
+{
+    let mut lo: usize = 0;
+    let mut hi = n;
+    while lo < hi {
+        let mid = lo + (hi - lo) / 2;
+        if updates[3 * mid] < sequence {
+            lo = mid + 1;
+        } else {
+            hi = mid;
+        }
+    }
+    lo
+}
+
+// The same, the last update looked at first: they arrive in order as a rule.
 fn place_of(updates: &[u32], n: usize, sequence: u32) -> usize
     requires { ⌜ Lined (now updates) n ⌝ }
     ensures { λ r. ⌜ r ≡ rankOf numbers sequence (laid n (now (updates .entry))) ⌝ }
 {
-    let mut r = n;
-    while r > 0 {
-        if updates[3 * (r - 1)] < sequence {
-            return r;
+    if n > 0 {
+        if updates[3 * (n - 1)] < sequence {
+            return n;
         }
-        r -= 1;
     }
-    0
+    rank(updates, n, sequence)
 }
 
 // Whether the update at rank r has the sequence.
@@ -132,22 +148,33 @@ fn is_crowded(updates: &mut [u32], s: &[u8], start: usize, len: usize) -> bool
     updates_of(updates, s, start, len) > MOST_UPDATES
 }
 
-// Whether a slot's record is of the message, and has more than 128.
-fn slot_crowded(updates: &mut [u32], marks: &[u32], slot: usize, s: &[u8]) -> bool
-    requires { ⌜ (length (now updates) ≡ updatesLength) × (length (now marks) ≡ marksLength)
-        × (length (now s) ≤ mostMessage) ⌝ }
-    requires { ⌜ ReadableSlot (now s) (now marks) slot ⌝ }
-    ensures { λ r. ⌜ r ≡ crowdedSlot (now (s .entry)) (now (marks .entry)) slot ⌝ }
+// Whether the record at a place is of the message, and has more than 128; that at another place has not.
+fn place_crowded(
+    updates: &mut [u32],
+    s: &[u8],
+    other_from: usize,
+    other_to: usize,
+    from: usize,
+    to: usize,
+) -> bool
+    requires { ⌜ (length (now updates) ≡ updatesLength) × (length (now s) ≤ mostMessage) ⌝ }
+    requires { ⌜ crowdedAt (now s) («other_from», «other_to») ≡ false ⌝ }
+    requires { ⌜ ReadableNew (now s) (from, to) ⌝ }
+    ensures { λ r. ⌜ r ≡ crowdedAt (now (s .entry)) (from, to) ⌝ }
 {
-    let from = decode_slots::word(marks, 3 * slot + 1);
     if from >= BEYOND {
         return false;
     }
-    let to = decode_slots::word(marks, 3 * slot + 2);
+    if from == other_from {
+        if to == other_to {
+            return false;
+        }
+    }
     is_crowded(updates, s, from, to - from)
 }
 
-// Whether one of the first n slots has such a record: the first that is found ends the search.
+// Whether one of the first n slots has such a record: the first that is found ends the search. A dated record has two
+// slots, one after the other as a rule, and is asked once then.
 pub fn any_crowded(updates: &mut [u32], marks: &[u32], order: &[u32], n: usize, s: &[u8]) -> bool
     requires { ⌜ (length (now updates) ≡ updatesLength) × (length (now marks) ≡ marksLength)
         × (length (now order) ≡ orderLength) ⌝ }
@@ -155,12 +182,18 @@ pub fn any_crowded(updates: &mut [u32], marks: &[u32], order: &[u32], n: usize, 
     requires { ⌜ All (ReadableSlot (now s) (now marks)) (take n (now order)) ⌝ }
     ensures { λ r. ⌜ r ≡ crowdedIn (now (s .entry)) (now (marks .entry)) (take n (now (order .entry))) ⌝ }
 {
+    let mut from = BEYOND;
+    let mut to = BEYOND;
     let mut i: usize = 0;
     while i < n {
         let slot = decode_slots::word(order, i);
-        if slot_crowded(updates, marks, slot, s) {
+        let a = decode_slots::word(marks, 3 * slot + 1);
+        let e = decode_slots::word(marks, 3 * slot + 2);
+        if place_crowded(updates, s, from, to, a, e) {
             return true;
         }
+        from = a;
+        to = e;
         i += 1;
     }
     false

@@ -1,6 +1,6 @@
 -- `decode_old::file_entry`: the key goes in with the place behind it. Assumes nothing.
 use borrow.Author.Needs.{needs}
-use Rattle.decode_old.proofs.Joining.{entry-small, key-short, passes}
+use Rattle.decode_old.proofs.Joining.{entry-small, key-short, files}
 use Rattle.decode_old.proofs.file_entry.Statement.{statement}
 use Rattle.decode_old.proofs.file_entry.Tie as tie
 
@@ -32,7 +32,7 @@ returns c =
     let at-old-place = at-old-place2 .before in
     let at-past-trip = at-old-place .before in
     let at-text = at-past-trip .before in
-    passes (at-text .text .ensures) (at-past-trip .past-trip .ensures) (at-old-place .old-place .ensures)
+    files (at-text .text .ensures) (at-past-trip .past-trip .ensures) (at-old-place .old-place .ensures)
     (at-old-place2 .old-place2 .ensures) (at-file-key .file-key .ensures)
 
 pub file-entry-spec : {M : Type 1} → statement M

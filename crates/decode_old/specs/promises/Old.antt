@@ -50,7 +50,7 @@ pub record Entry (o : List ℕ) (p : ℕ) : Type 0 where
   pub small : length o ≤ mostOld
 
 -- the entry at p ends at `next`, and its key has gone in with the place of its record
-pub record Passes (o : List ℕ) (p : ℕ) (keys marks order : List ℕ) (n : ℕ)
+pub record FiledEntry (o : List ℕ) (p : ℕ) (keys marks order : List ℕ) (n : ℕ)
     (keys′ marks′ order′ : List ℕ) (r next : ℕ) : Type 0 where
   pub ends : (v : Value tripEntry) (q : ℕ) → Here tripEntry o p q v → next ≡ q
   pub filed : (v : Value tripEntry) → Here tripEntry o p next v

@@ -6,13 +6,13 @@ use mathlib.Core.List.{List, [], _∷_}
 use Rattle.basics.specs.Lists.{All}
 use Rattle.decode_slots.specs.Index.{slotPlace, slotted}
 use Rattle.decode_slots.specs.Places.{recordAt, oldAt, isNew, held, crowded, anyCrowded}
-use Rattle.decode_updates.specs.promises.Updates.{crowdedIn}
+use Rattle.decode_updates.specs.promises.Updates.{crowdedAt, crowdedIn}
 
 module _ (s o keys marks : List ℕ) where
   pub crowded-held : (slots : List ℕ)
       → All (λ j. isNew (slotPlace marks j) ≡ false → crowded (oldAt o (slotPlace marks j)) ≡ false) slots
       → crowdedIn s marks slots ≡ anyCrowded (held s o (slotted keys marks slots))
-  unfolding crowdedIn anyCrowded held
+  unfolding crowdedAt crowdedIn anyCrowded held
   crowded-held [] h = refl
   crowded-held (j ∷ l) h = go (isNew (slotPlace marks j)) refl (crowded-held l (h .1))
     where

@@ -13,7 +13,7 @@ use Rattle.realtime.specs.Tree.{Tree, tree, sub, rep}
 use Rattle.realtime.specs.Schema.{feedEntity, stopTimeUpdate}
 use Rattle.realtime.specs.Schema as schema
 use Rattle.decode.specs.Record.{updatesIn, tripIn}
-use Rattle.decode_slots.specs.Index.{slotPlace}
+use Rattle.decode_slots.specs.Index.{Place, slotPlace}
 use Rattle.decode_updates.specs.Line.{laid}
 use Rattle.decode_slots.specs.Places.{recordAt, isNew, crowded}
 use Rattle.decode_slots.specs.promises.Places.{Readable}
@@ -40,16 +40,19 @@ pub record Counted (s : List ℕ) (start len : ℕ) (r : ℕ) : Type 0 where
 pub record CrowdedRead (s : List ℕ) (start len : ℕ) (r : Bool) : Type 0 where
   pub of : (e : Tree) → tree schema.feed feedEntity (take len (drop start s)) ≡ some e → r ≡ crowded (tripIn e)
 
--- a slot of the index whose record, where it is of the message, is not broken
-abbrev pub ReadableSlot : List ℕ → List ℕ → ℕ → Type 0
-ReadableSlot s marks j =
-    (j < orderLength) × (isNew (slotPlace marks j) ≡ true → Readable feedEntity s (slotPlace marks j))
+-- a place whose record, where it is of the message, is not broken
+abbrev pub ReadableNew : List ℕ → Place → Type 0
+ReadableNew s p = isNew p ≡ true → Readable feedEntity s p
 
--- whether a slot's record is of the message, and has more than 128 updates
-abbrev pub crowdedSlot : List ℕ → List ℕ → ℕ → Bool
-crowdedSlot s marks j = isNew (slotPlace marks j) && crowded (recordAt s (slotPlace marks j))
+-- a slot of the index at such a place
+abbrev pub ReadableSlot : List ℕ → List ℕ → ℕ → Type 0
+ReadableSlot s marks j = (j < orderLength) × ReadableNew s (slotPlace marks j)
+
+-- whether the record at a place is of the message, and has more than 128 updates
+unfoldable pub crowdedAt : List ℕ → Place → Bool
+crowdedAt s p = isNew p && crowded (recordAt s p)
 
 -- WHETHER ONE OF THE SLOTS has such a record
 unfoldable pub crowdedIn : List ℕ → List ℕ → List ℕ → Bool
 crowdedIn s marks [] = false
-crowdedIn s marks (j ∷ l) = crowdedSlot s marks j || crowdedIn s marks l
+crowdedIn s marks (j ∷ l) = crowdedAt s (slotPlace marks j) || crowdedIn s marks l
