@@ -1,0 +1,33 @@
+use Rattle.formats_check.specs.laws.Checked.{behind-no, behind-so}
+use borrow.Author.Needs.{needs}
+use Rattle.overlay_open.proofs.feed.Statement.{statement}
+use Rattle.overlay_open.proofs.feed.Tie as tie
+
+optional-timestamp-requires : tie.Need-optional-timestamp-requires
+optional-timestamp-requires c κs = search needs
+
+enum-known-p : tie.Need-enum-known-p
+enum-known-p c = search needs
+
+enum-told : tie.Need-enum-told
+enum-told c = search needs
+
+returns : tie.Need-returns
+returns c = search behind-no
+
+counted-requires : tie.Need-counted-requires
+counted-requires c κs = search needs
+
+returns-2 : tie.Need-returns-2
+returns-2 c = search behind-so
+
+pub feed-spec : {M : Type 1} → statement M
+feed-spec =
+    tie.close
+    (tie.spec
+    optional-timestamp-requires
+    enum-known-p
+    enum-told
+    returns
+    counted-requires
+    returns-2)

@@ -1,0 +1,6 @@
+pub mod Fine
+pub mod Splits
+pub mod Valid
+pub mod Feed
+pub mod Opened
+pub mod Held

@@ -1,0 +1,146 @@
+// The vehicles and the alerts of a feed by checked reading.
+use formats::Numeral;
+use formats::Skip;
+use formats_check::Entry;
+use formats_check::Span;
+ghost use Prim.Native.Nat.{_≤_};
+ghost use lib.ListN.{length};
+ghost use Rattle.formats.specs.Class.{printable};
+ghost use Rattle.formats.specs.Format.{float, list, _&_};
+ghost use Rattle.formats_check.specs.promises.Checked.{Fine, Tested};
+ghost use Rattle.formats_check.specs.laws.Climbing.{Climbs, Entered, weightless, whatever};
+ghost use Rattle.formats_check.specs.laws.Walks.{Each};
+ghost use Rattle.decode.specs.Trip.{instant};
+ghost use Rattle.alerts.specs.Alert.{alert, ids};
+ghost use Rattle.overlay.specs.State.{vehicle, vehicleEntry};
+ghost use Rattle.overlay_records.specs.promises.Vehicles.{vehicleGood, vehiclesGood};
+
+// Where a vehicle is, and when that was.
+fn position(s: &[u8], at: usize) -> Skip
+    ensures { λ r. ⌜ Fine (float & float & instant) (now (s .entry)) at r ⌝ }
+{
+    let Skip::At(p) = formats_check::float(s, at) else {
+        return Skip::Broken;
+    };
+    let Skip::At(q) = formats_check::float(s, p) else {
+        return Skip::Broken;
+    };
+    overlay_trip::instant(s, q)
+}
+
+fn vehicle(s: &[u8], at: usize) -> Skip
+    ensures { λ r. ⌜ Fine vehicle (now (s .entry)) at r ⌝ }
+{
+    let Skip::At(p) = formats_check::optional_printable(64, s, at) else {
+        return Skip::Broken;
+    };
+    position(s, p)
+}
+
+fn vehicle_entry(s: &[u8], at: usize) -> Entry
+    ensures { λ r. ⌜ Entered 64 printable vehicleGood (now (s .entry)) at r ⌝ }
+{
+    let Span::At(a, e) = formats_check::printable_at(64, s, at) else {
+        return Entry::No;
+    };
+    match vehicle(s, e) {
+        Skip::At(q) => Entry::At(a, e, q),
+        Skip::Broken => Entry::No,
+    }
+}
+
+// n vehicles one after another, ascending by key: the walk keeps the place of the last key.
+fn vehicles_from(n: u64, s: &[u8], at: usize) -> Skip
+    requires { ⌜ at ≤ length (now s) ⌝ }
+    ensures { λ r. ⌜ Climbs 64 printable vehicleGood weightless (whatever n) n (now (s .entry)) at r ⌝ }
+{
+    let mut p = at;
+    let mut left = n;
+    let mut first = true;
+    let mut b: usize = 0;
+    let mut d: usize = 0;
+    while 0 < left {
+        let Entry::At(a, e, q) = vehicle_entry(s, p) else {
+            return Skip::Broken;
+        };
+        if !formats_check::follows(first, s, b, d, a, e) {
+            return Skip::Broken;
+        }
+        p = q;
+        first = false;
+        b = a;
+        d = e;
+        left -= 1;
+    }
+    Skip::At(p)
+}
+
+pub fn vehicles(s: &[u8], at: usize) -> Skip
+    ensures { λ r. ⌜ Tested (list 1024 vehicleEntry) vehiclesGood (now (s .entry)) at r ⌝ }
+{
+    let Numeral::Got(n, p) = formats_check::number_at(s, at) else {
+        return Skip::Broken;
+    };
+    if 1024 < n {
+        return Skip::Broken;
+    }
+    vehicles_from(n, s, p)
+}
+
+// The ids of trips, routes and stops that an alert names.
+fn informed(s: &[u8], at: usize) -> Skip
+    ensures { λ r. ⌜ Fine (ids & ids & ids) (now (s .entry)) at r ⌝ }
+{
+    let Skip::At(p) = formats_check::printables(32, 64, s, at) else {
+        return Skip::Broken;
+    };
+    let Skip::At(q) = formats_check::printables(32, 64, s, p) else {
+        return Skip::Broken;
+    };
+    formats_check::printables(32, 64, s, q)
+}
+
+// An alert: class 3 is well-formed UTF-8.
+fn alert(s: &[u8], at: usize) -> Skip
+    ensures { λ r. ⌜ Fine alert (now (s .entry)) at r ⌝ }
+{
+    let Skip::At(p) = formats_check::optional_text(3, 512, s, at) else {
+        return Skip::Broken;
+    };
+    let Skip::At(q) = formats_check::optional_text(3, 2048, s, p) else {
+        return Skip::Broken;
+    };
+    let Skip::At(u) = formats_check::optional_text(3, 64, s, q) else {
+        return Skip::Broken;
+    };
+    informed(s, u)
+}
+
+// n alerts one after another.
+fn alerts_from(n: u64, s: &[u8], at: usize) -> Skip
+    requires { ⌜ at ≤ length (now s) ⌝ }
+    ensures { λ r. ⌜ Each alert n (now (s .entry)) at r ⌝ }
+{
+    let mut p = at;
+    let mut left = n;
+    while 0 < left {
+        let Skip::At(q) = alert(s, p) else {
+            return Skip::Broken;
+        };
+        p = q;
+        left -= 1;
+    }
+    Skip::At(p)
+}
+
+pub fn alerts(s: &[u8], at: usize) -> Skip
+    ensures { λ r. ⌜ Fine (list 256 alert) (now (s .entry)) at r ⌝ }
+{
+    let Numeral::Got(n, p) = formats_check::number_at(s, at) else {
+        return Skip::Broken;
+    };
+    if 256 < n {
+        return Skip::Broken;
+    }
+    alerts_from(n, s, p)
+}
