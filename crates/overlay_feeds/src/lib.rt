@@ -1,0 +1,98 @@
+// Where the parts of an overlay stand: its version, its feeds, one of them by its id, and a feed's parts.
+use formats_write::OptionalSigned;
+use slices::Order;
+ghost use Rattle.overlay_feeds.specs.promises.Head.{ReadsHead};
+ghost use Rattle.overlay_feeds.specs.promises.Parts.{ReadsParts};
+ghost use Rattle.overlay_feeds.specs.promises.Place.{Compares, FindsFeed};
+
+// The version, the place of the count of feeds, the count, and the place of the first feed.
+pub struct Head {
+    pub version: u64,
+    pub counted: usize,
+    pub count: u64,
+    pub first: usize,
+}
+
+pub fn read_head(s: &[u8]) -> Head
+    ensures { λ r. ⌜ ReadsHead (now (s .entry)) (r .version) (r .counted) (r .count) (r .first) ⌝ }
+{
+    let v = formats_read::number(s, 1);
+    let counted = v.next;
+    let n = formats_read::number(s, counted);
+    Head {
+        version: v.value,
+        counted,
+        count: n.value,
+        first: n.next,
+    }
+}
+
+// Of a feed: its timestamp, its count and the count's place, the places of its trips, vehicles and alerts, its end.
+pub struct Parts {
+    pub timestamp: OptionalSigned,
+    pub counted: usize,
+    pub count: u64,
+    pub trips: usize,
+    pub vehicles: usize,
+    pub alerts: usize,
+    pub end: usize,
+}
+
+// The parts of the feed whose id ends at `at`.
+pub fn read_parts(s: &[u8], at: usize) -> Parts
+    ensures { λ r. ⌜ ReadsParts (now (s .entry)) at r ⌝ }
+{
+    let timestamp = formats_read::optional_signed(s, at);
+    let counted = formats_skip::past_optional_number(s, at);
+    let n = formats_read::number(s, counted);
+    let trips = n.next;
+    let vehicles = decode_skip::past_trips(s, trips);
+    let alerts = overlay_skip::past_vehicles(s, vehicles);
+    let end = overlay_skip::past_alerts(s, alerts);
+    Parts {
+        timestamp,
+        counted,
+        count: n.value,
+        trips,
+        vehicles,
+        alerts,
+        end,
+    }
+}
+
+// The order of a text and the one that stands at `at`.
+pub fn compare_text(s: &[u8], at: usize, text: &[u8]) -> Order
+    ensures { λ r. ⌜ Compares (now (s .entry)) at (now (text .entry)) r ⌝ }
+{
+    let t = formats_read::text(s, at);
+    let from = t.from;
+    let to = t.to;
+    slices::compare(text, &s[from..to])
+}
+
+// A feed's rank, the place of its entry, and the place past its id; or the rank and the place where it would go in.
+pub enum FeedPlace {
+    At(u64, usize, usize),
+    Missing(u64, usize),
+}
+
+pub fn find_feed(s: &[u8], feed: &[u8]) -> FeedPlace
+    ensures { λ r. ⌜ FindsFeed (now (s .entry)) (now (feed .entry)) r ⌝ }
+{
+    let h = read_head(s);
+    let mut p = h.first;
+    let mut left = h.count;
+    let mut i = 0;
+    while 0 < left {
+        match compare_text(s, p, feed) {
+            Order::Less => return FeedPlace::Missing(i, p),
+            Order::Same => return FeedPlace::At(i, p, formats_skip::past_text(s, p)),
+            Order::More => {
+                p = overlay_skip::past_feed_entry(s, p);
+                left -= 1;
+                i += 1;
+            }
+        }
+    }
+    FeedPlace::Missing(i, p)
+}

@@ -1,0 +1,4 @@
+pub mod Feed
+pub mod Split
+pub mod Joined
+pub mod Fits

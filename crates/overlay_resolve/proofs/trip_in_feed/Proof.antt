@@ -1,0 +1,20 @@
+-- `trip_in_feed` meets its contract.
+use Rattle.overlay_resolve.specs.laws.Resolve.{record-found, record-missing, feed-missing}
+use borrow.Author.Needs.{needs}
+use Rattle.overlay_resolve.proofs.trip_in_feed.Statement.{statement}
+use Rattle.overlay_resolve.proofs.trip_in_feed.Tie as tie
+
+pub trip-in-feed-spec : {M : Type 1} → statement M
+trip-in-feed-spec =
+    tie.close
+    (tie.spec
+    (λ c κs. search needs)
+    (λ c. search needs)
+    (λ c κs. search needs)
+    (λ c κs. search needs)
+    (λ c. search needs)
+    (λ c. search needs)
+    (λ c. search needs)
+    (λ c. search record-found)
+    (λ c. search record-missing)
+    (λ c. search feed-missing))

@@ -1,0 +1,88 @@
+// A stop update of a trip whose record stands in an overlay: by its sequence, else by the card's stop id, which is
+// compared with `feed:id` without joining that.
+use formats_write::OptionalNumber;
+use overlay_seek::Found;
+ghost use Rattle.decode.specs.Trip.{number32, stopUpdate};
+ghost use Rattle.formats_write.specs.promises.Given.{givenNumber};
+ghost use Rattle.overlay_seek.specs.promises.Answers.{Seeks};
+ghost use Rattle.overlay_updates.specs.promises.Updates.{StopTold, numbered, stopping};
+ghost use Rattle.overlay_updates.specs.promises.Updates.{BySequence, ByStop, FindsUpdate};
+
+// Whether the stop of the update at `at` is the card's stop.
+fn stop_told(s: &[u8], at: usize, feed: &[u8], stop: &[u8]) -> bool
+    ensures { λ r. ⌜ StopTold (now (s .entry)) at (now (feed .entry)) (now (stop .entry)) r ⌝ }
+{
+    let t = formats_read::text(s, at);
+    let from = t.from;
+    let to = t.to;
+    overlay_ids::stop_fits(feed, &s[from..to], stop)
+}
+
+// Of the updates at `at` the first of sequence n.
+fn sequence_in(s: &[u8], at: usize, n: u64) -> Found
+    ensures { λ r. ⌜ Seeks number32 stopUpdate (numbered n) (now (s .entry)) at r ⌝ }
+{
+    let c = formats_read::number(s, at);
+    let mut p = c.next;
+    let mut left = c.value;
+    while 0 < left {
+        let k = formats_read::number(s, p);
+        if k.value == n {
+            return Found::At(k.next);
+        }
+        p = decode_skip::past_update(s, k.next);
+        left -= 1;
+    }
+    Found::Missing
+}
+
+// Of the updates at `at` the first of the card's stop.
+fn stop_in(s: &[u8], at: usize, feed: &[u8], stop: &[u8]) -> Found
+    ensures { λ r. ⌜
+        Seeks number32 stopUpdate (stopping (now (feed .entry)) (now (stop .entry))) (now (s .entry)) at r ⌝ }
+{
+    let c = formats_read::number(s, at);
+    let mut p = c.next;
+    let mut left = c.value;
+    while 0 < left {
+        let m = formats_skip::past_number(s, p);
+        if stop_told(s, m, feed, stop) {
+            return Found::At(m);
+        }
+        p = decode_skip::past_update(s, m);
+        left -= 1;
+    }
+    Found::Missing
+}
+
+// The update of sequence n of the trip at `at`.
+pub fn by_sequence(s: &[u8], at: usize, n: u64) -> Found
+    ensures { λ r. ⌜ BySequence (now (s .entry)) at n r ⌝ }
+{
+    let p = decode_skip::updates_place(s, at);
+    sequence_in(s, p, n)
+}
+
+// The update of the card's stop of the trip at `at`, in a feed.
+pub fn by_stop(s: &[u8], at: usize, feed: &[u8], stop: &[u8]) -> Found
+    ensures { λ r. ⌜ ByStop (now (s .entry)) at (now (feed .entry)) (now (stop .entry)) r ⌝ }
+{
+    let p = decode_skip::updates_place(s, at);
+    stop_in(s, p, feed, stop)
+}
+
+// By the sequence, where one is given and there; else by the stop.
+pub fn find_update(s: &[u8], at: usize, feed: &[u8], sequence: OptionalNumber, stop: &[u8]) -> Found
+    ensures { λ r. ⌜
+        FindsUpdate (now (s .entry)) at (now (feed .entry)) (givenNumber sequence) (now (stop .entry)) r ⌝ }
+{
+    match sequence {
+        OptionalNumber::Absent => by_stop(s, at, feed, stop),
+        OptionalNumber::Present(n) => {
+            match by_sequence(s, at, n) {
+                Found::At(p) => Found::At(p),
+                Found::Missing => by_stop(s, at, feed, stop),
+            }
+        }
+    }
+}
