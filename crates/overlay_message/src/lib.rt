@@ -1,0 +1,353 @@
+// The state after a message: its trips are written anew, with their count and the message's timestamp; all else of the
+// state is copied.
+use decode_index::Left;
+use formats_write::OptionalSigned;
+use formats_write::Put;
+use overlay_feeds::FeedPlace;
+use overlay_feeds::Parts;
+use realtime_views::Timestamp;
+ghost use mathlib.Core.Path.{_≡_};
+ghost use mathlib.Core.Option.{some};
+ghost use Prim.Native.Nat.{ℕ, _≤_};
+ghost use lib.ListN.{length};
+ghost use Rattle.formats.specs.Number.{zig};
+ghost use Rattle.formats.specs.Format.{write};
+ghost use Rattle.formats_write.specs.promises.Adds.{Adds, Wrote};
+ghost use Rattle.formats_write.specs.promises.Given.{givenSigned, optionalW};
+ghost use Rattle.realtime.specs.Tree.{Tree, tree};
+ghost use Rattle.realtime.specs.Schema.{feedMessage};
+ghost use Rattle.realtime.specs.Schema as schema;
+ghost use Rattle.realtime_views.specs.Typed.{int64};
+ghost use Rattle.realtime_views.specs.promises.Views.{viewTimestamp};
+ghost use Rattle.decode.specs.Sizes.{mostFeed, mostMessage, mostOld, updatesLength};
+ghost use Rattle.decode_slots.specs.Index.{index};
+ghost use Rattle.decode_slots.specs.Places.{held};
+ghost use Rattle.decode_slots.specs.promises.Index.{Lent};
+ghost use Rattle.decode_index.specs.promises.Leaving.{Old};
+ghost use Rattle.decode_index.specs.promises.Message.{JudgedMessage};
+ghost use Rattle.decode_write.specs.promises.Slots.{Writable};
+ghost use Rattle.decode_write.specs.promises.Written.{signedW};
+ghost use Rattle.overlay.specs.Change.{putFeed};
+ghost use Rattle.overlay.specs.State.{Feed, State, alertsOf, feedWith, overlay, vehiclesOf, versionOf};
+ghost use Rattle.overlay.specs.State as state;
+ghost use Rattle.overlay_feeds.specs.promises.Parts.{PartsOf};
+ghost use Rattle.overlay_frame.specs.promises.Frame.{Spot};
+ghost use Rattle.overlay_open.specs.promises.Held.{Open};
+ghost use Rattle.overlay_message.specs.promises.Message.{Exchanges, Known, Leads, Unknown};
+ghost use Rattle.overlay_message.specs.promises.Message.{feedAfter, timestampAfter};
+
+// A feed that isn't there yet: no timestamp, a count of 0, no trips, no vehicles, no alerts.
+const NO_FEED: [u8; 5] = [0, 0, 0, 0, 0];
+
+// The feeds of a state.
+const MOST_FEEDS: u64 = 4;
+
+// 64 bits read as signed, as their zigzag code.
+fn signed_code(n: u64) -> u64
+    ensures { λ r. ⌜ r ≡ zig (int64 n) ⌝ }
+{
+    if n < 9223372036854775808 {
+        return 2 * n;
+    }
+    2 * (18446744073709551615 - n) + 1
+}
+
+// The message's timestamp, else the old one.
+fn put_timestamp(out: &mut [u8], w: Put, given: Timestamp, known: OptionalSigned) -> Put
+    ensures { λ r. ⌜ Adds (now (out .entry)) w (now (out .exit)) r
+        (optionalW signedW (timestampAfter (viewTimestamp given) (givenSigned known))) ⌝ }
+{
+    match given {
+        Timestamp::Given(n) => {
+            let q = formats_write::byte(out, w, 1);
+            formats_write::number(out, q, signed_code(n))
+        }
+        Timestamp::Absent => formats_write::optional_signed(out, w, known),
+    }
+}
+
+// The body of a feed whose parts stand in `home` at p: timestamp, count and trips are new, vehicles and alerts copied.
+fn write_body(
+    out: &mut [u8],
+    w: Put,
+    given: Timestamp,
+    known: OptionalSigned,
+    count: u64,
+    updates: &mut [u32],
+    keys: &[u8],
+    marks: &[u32],
+    order: &[u32],
+    n: usize,
+    s: &[u8],
+    home: &[u8],
+    p: Parts,
+) -> Put
+    requires { ⌜ (length (now updates) ≡ updatesLength) × (length (now s) ≤ mostMessage) ⌝ }
+    requires { ⌜ Writable (now s) (now home) (now keys) (now marks) (now order) n ⌝ }
+    ensures { λ r. ⌜
+        ((F : Feed) (a e : ℕ) → PartsOf (now (home .entry)) F a e p
+        → Adds (now (out .entry)) w (now (out .exit)) r (write state.feed (feedWith
+        (timestampAfter (viewTimestamp given) (givenSigned known)) count
+        (held (now (s .entry)) (now (home .entry)) (index (now (keys .entry)) (now (marks .entry))
+        (now (order .entry)) n)) (vehiclesOf F) (alertsOf F)))) ⌝ }
+{
+    let w1 = put_timestamp(out, w, given, known);
+    let w2 = formats_write::number(out, w1, count);
+    let w3 = decode_write::write_trips(out, w2, updates, keys, marks, order, n, s, home);
+    formats_write::stretch(out, w3, home, p.vehicles, p.end)
+}
+
+// The feed as the message s leaves it.
+fn write_feed(
+    out: &mut [u8],
+    w: Put,
+    updates: &mut [u32],
+    keys: &[u8],
+    marks: &[u32],
+    order: &[u32],
+    n: usize,
+    feed: &[u8],
+    s: &[u8],
+    home: &[u8],
+    p: Parts,
+) -> Put
+    requires { ⌜ (length (now updates) ≡ updatesLength) × (length (now s) ≤ mostMessage) ⌝ }
+    requires { ⌜ Writable (now s) (now home) (now keys) (now marks) (now order) n ⌝ }
+    ensures { λ r. ⌜
+        ((F : Feed) (a e : ℕ) (t : Tree) → PartsOf (now (home .entry)) F a e p
+        → tree schema.feed feedMessage (now (s .entry)) ≡ some t
+        → Adds (now (out .entry)) w (now (out .exit)) r (write state.feed (feedAfter (now (feed .entry)) t F
+        (held (now (s .entry)) (now (home .entry)) (index (now (keys .entry)) (now (marks .entry))
+        (now (order .entry)) n))))) ⌝ }
+{
+    let h = realtime_views::header_of(s);
+    let given = h.timestamp;
+    let known = p.timestamp;
+    let count = decode_write::count_left(feed, keys, marks, order, n) as u64;
+    write_body(
+        out,
+        w,
+        given,
+        known,
+        count,
+        updates,
+        keys,
+        marks,
+        order,
+        n,
+        s,
+        home,
+        p,
+    )
+}
+
+// The state whose feed goes between `from` and `to`, with it of `count` feeds.
+fn write_state(
+    new: &mut [u8],
+    updates: &mut [u32],
+    keys: &[u8],
+    marks: &[u32],
+    order: &[u32],
+    n: usize,
+    feed: &[u8],
+    s: &[u8],
+    old: &[u8],
+    end: usize,
+    home: &[u8],
+    p: Parts,
+    from: usize,
+    to: usize,
+    count: u64,
+) -> Put
+    requires { ⌜ (length (now updates) ≡ updatesLength) × (length (now s) ≤ mostMessage) ⌝ }
+    requires { ⌜ Writable (now s) (now home) (now keys) (now marks) (now order) n ⌝ }
+    ensures { λ r. ⌜
+        ((st : State) (F : Feed) (a e : ℕ) (t : Tree)
+        → Spot (now (old .entry)) end st (now (feed .entry)) from to count → PartsOf (now (home .entry)) F a e p
+        → tree schema.feed feedMessage (now (s .entry)) ≡ some t
+        → Wrote (now (new .entry)) (now (new .exit)) r (write overlay (putFeed (now (feed .entry))
+        (feedAfter (now (feed .entry)) t F
+        (held (now (s .entry)) (now (home .entry)) (index (now (keys .entry)) (now (marks .entry))
+        (now (order .entry)) n))) (versionOf st) st))) ⌝ }
+{
+    let version = overlay_frame::version(old);
+    let w1 = overlay_frame::opening(new, Put::At(0), version, count, old, from, feed);
+    let w2 = write_feed(new, w1, updates, keys, marks, order, n, feed, s, home, p);
+    overlay_frame::closing(new, w2, old, to, end)
+}
+
+// What the message s leaves of the feed at p goes into the state; or its trips pass a limit of question 7.
+fn change(
+    new: &mut [u8],
+    keys: &mut [u8],
+    marks: &mut [u32],
+    order: &mut [u32],
+    updates: &mut [u32],
+    feed: &[u8],
+    s: &[u8],
+    old: &[u8],
+    end: usize,
+    home: &[u8],
+    p: Parts,
+    from: usize,
+    to: usize,
+    count: u64,
+) -> Put
+    requires { ⌜ Lent (now keys) (now marks) (now order) × (length (now updates) ≡ updatesLength) ⌝ }
+    requires { ⌜ (length (now feed) ≤ mostFeed) × (length (now s) ≤ mostMessage) ⌝ }
+    requires { ⌜ JudgedMessage (now s) ⌝ }
+    requires { ⌜ Old (now home) (p .trips) ⌝ }
+    ensures { λ r. ⌜
+        Exchanges (now (new .entry)) (now (new .exit)) r (now (feed .entry)) (now (s .entry)) (now (old .entry)) end
+        (now (home .entry)) p from to count ⌝ }
+{
+    match decode_index::leave(keys, marks, order, updates, feed, s, home, p.trips) {
+        Left::ManyTrips => Put::Full,
+        Left::ManyUpdates => Put::Full,
+        Left::Trips(n) => {
+            write_state(
+                new,
+                updates,
+                keys,
+                marks,
+                order,
+                n,
+                feed,
+                s,
+                old,
+                end,
+                home,
+                p,
+                from,
+                to,
+                count,
+            )
+        }
+    }
+}
+
+// The feed stands at `from`, and its id ends at `body`.
+fn change_known(
+    new: &mut [u8],
+    keys: &mut [u8],
+    marks: &mut [u32],
+    order: &mut [u32],
+    updates: &mut [u32],
+    feed: &[u8],
+    s: &[u8],
+    old: &[u8],
+    end: usize,
+    from: usize,
+    body: usize,
+) -> Put
+    requires { ⌜ Lent (now keys) (now marks) (now order) × (length (now updates) ≡ updatesLength) ⌝ }
+    requires { ⌜ (length (now feed) ≤ mostFeed) × (length (now s) ≤ mostMessage) ⌝ }
+    requires { ⌜ JudgedMessage (now s) ⌝ }
+    requires { ⌜ Known (now old) end (now feed) from body ⌝ }
+    ensures { λ r. ⌜
+        Leads (now (new .entry)) (now (new .exit)) r (now (feed .entry)) (now (s .entry)) (now (old .entry)) ⌝ }
+{
+    let p = overlay_feeds::read_parts(old, body);
+    let count = overlay_feeds::read_head(old).count;
+    change(
+        new,
+        keys,
+        marks,
+        order,
+        updates,
+        feed,
+        s,
+        old,
+        end,
+        old,
+        p,
+        from,
+        p.end,
+        count,
+    )
+}
+
+// The feed isn't there, and would stand at `from`.
+fn change_new(
+    new: &mut [u8],
+    keys: &mut [u8],
+    marks: &mut [u32],
+    order: &mut [u32],
+    updates: &mut [u32],
+    feed: &[u8],
+    s: &[u8],
+    old: &[u8],
+    end: usize,
+    from: usize,
+) -> Put
+    requires { ⌜ Lent (now keys) (now marks) (now order) × (length (now updates) ≡ updatesLength) ⌝ }
+    requires { ⌜ (length (now feed) ≤ mostFeed) × (length (now s) ≤ mostMessage) ⌝ }
+    requires { ⌜ JudgedMessage (now s) ⌝ }
+    requires { ⌜ Unknown (now old) end (now feed) from ⌝ }
+    ensures { λ r. ⌜
+        Leads (now (new .entry)) (now (new .exit)) r (now (feed .entry)) (now (s .entry)) (now (old .entry)) ⌝ }
+{
+    let count = overlay_feeds::read_head(old).count;
+    if count >= MOST_FEEDS {
+        return Put::Full;
+    }
+    let p = overlay_feeds::read_parts(&NO_FEED, 0);
+    change(
+        new,
+        keys,
+        marks,
+        order,
+        updates,
+        feed,
+        s,
+        old,
+        end,
+        &NO_FEED,
+        p,
+        from,
+        from,
+        count + 1,
+    )
+}
+
+// The state that stands in `old` up to `end`, after a judged message of a feed; or it passes a limit of question 7, or
+// has no room in `new`.
+pub fn after_message(
+    new: &mut [u8],
+    keys: &mut [u8],
+    marks: &mut [u32],
+    order: &mut [u32],
+    updates: &mut [u32],
+    feed: &[u8],
+    s: &[u8],
+    old: &[u8],
+    end: usize,
+) -> Put
+    requires { ⌜ Lent (now keys) (now marks) (now order) × (length (now updates) ≡ updatesLength) ⌝ }
+    requires { ⌜ (length (now feed) ≤ mostFeed) × (length (now s) ≤ mostMessage) ⌝ }
+    requires { ⌜ JudgedMessage (now s) ⌝ }
+    requires { ⌜ Open (now old) end × (length (now old) ≤ mostOld) ⌝ }
+    ensures { λ r. ⌜
+        Leads (now (new .entry)) (now (new .exit)) r (now (feed .entry)) (now (s .entry)) (now (old .entry)) ⌝ }
+{
+    match overlay_feeds::find_feed(old, feed) {
+        FeedPlace::At(_, from, body) => {
+            change_known(
+                new,
+                keys,
+                marks,
+                order,
+                updates,
+                feed,
+                s,
+                old,
+                end,
+                from,
+                body,
+            )
+        }
+        FeedPlace::Missing(_, from) => {
+            change_new(new, keys, marks, order, updates, feed, s, old, end, from)
+        }
+    }
+}

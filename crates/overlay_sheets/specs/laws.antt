@@ -1,0 +1,3 @@
+pub mod Seven
+pub mod Sheets
+pub mod Vehicles

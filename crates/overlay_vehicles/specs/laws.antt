@@ -1,0 +1,5 @@
+pub mod Puts
+pub mod Entry
+pub mod Merge
+pub mod Loops
+pub mod Limit
