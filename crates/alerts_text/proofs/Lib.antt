@@ -1,4 +1,2 @@
-pub mod Searching
-pub mod Patterns
 pub mod Naming
 pub mod Folding

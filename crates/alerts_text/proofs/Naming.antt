@@ -1,33 +1,37 @@
--- The lines that a text names: each return of the functions of lines.rt, over plain variables.
+-- Whether a text is about a line: each return of the functions of lines.rt, over plain variables.
 use mathlib.Core.Path.{_≡_, refl, sym, ap, _∙_}
-use mathlib.Core.List.{List, [], _∷_, _++_, append-nil}
+use mathlib.Core.List.{List, [], _∷_, _++_}
 use mathlib.Core.Option.{Option, none, some}
 use mathlib.Core.Bool.{Bool, true, false, cond, not, _&&_, _||_}
-use Prim.Native.Nat.{ℕ, zero, suc, _+_, _-_, _≤_, _<_}
+use Prim.Native.Nat.{ℕ, suc, _+_, _-_, _≤_, _<_}
 use native.Mathlib.Omega.{arith}
-use lib.Dec.{leb, eqb}
-use lib.ListN.{length, getD, take, drop, length-append, length-drop}
+use lib.Dec.{leb}
+use lib.ListN.{length, take, drop, length-append, length-drop}
 use lib.Seq.{take-all, length-take-le}
-use borrow.Author.Tests.{le-leb, lt-leb, leb-true, leb-false, eq-eqb, ne-eqb, not-true, not-false}
+use borrow.Author.Tests.{le-leb, lt-leb, leb-true, leb-false, not-true, not-false}
 use Rattle.basics.specs.laws.Options.{none-some}
 use Rattle.basics.specs.Lists.{any, filter, isEmpty}
 use Rattle.basics.specs.Texts.{same}
-use Rattle.alerts.specs.Text.{text, begins, ends, contains, later, find}
-use Rattle.alerts.specs.Applies.{letters, numerals, trams, around, names, letterRows, names-number, names-tram}
+use Rattle.alerts.specs.Text.{text, begins, contains, later, find}
+use Rattle.alerts.specs.Applies.{letters, numerals, trams, names, letterRows, names-number, names-tram}
 use Rattle.alerts.specs.Applies.{commercial-lines-in-text, anyMarker, window, markerNear, railModes}
 use Rattle.alerts.specs.promises.Reduced.{adviceMarkers, primary, secondary, textOk, road}
-use Rattle.alerts_text.specs.promises.Tables.{upTo, nameFilled, patterns, anyIn, lesser, allLines, mentions}
-use Rattle.alerts_text.specs.promises.Tables.{nearMarker, otherSubject, answerOf}
+use Rattle.alerts_patterns.specs.promises.Tables.{upTo, nameFilled, patterns, anyIn}
+use Rattle.alerts_patterns.specs.promises.Found.{foundOf}
+use Rattle.alerts_patterns.specs.declared.Found.{Found}
+use Rattle.alerts_patterns.specs.declared.Found.the-variants.{At, Nowhere}
+use Rattle.alerts_patterns.specs.laws.Patterns.{filled-none, filled-here, tail-whole}
+use Rattle.alerts_lines.specs.promises.Lines.{allLines, IsLine, mentions, namedOf, otherSubject}
+use Rattle.alerts_lines.specs.promises.Marks.{Lines, anyFrom, picks}
+use Rattle.alerts_lines.specs.declared.Pick.the-variants.{Named, Own, Another}
+use Rattle.alerts_lines.specs.laws.Choosing.{named-lines, own-lines, other-lines}
+use Rattle.alerts_text.specs.promises.Tables.{lesser, nearMarker, answerOf}
 use Rattle.alerts_text.specs.declared.lines.Ask.{Ask}
-use Rattle.alerts_text.specs.declared.lines.Ask.the-variants.{Named, Own, Other, Advised}
-use Rattle.alerts_text.specs.declared.text.Found.{Found}
-use Rattle.alerts_text.specs.declared.text.Found.the-variants.{At, Nowhere}
-use Rattle.alerts_text.specs.promises.Found.{foundOf}
-use Rattle.basics.specs.laws.Lists.{any-append, any-same}
+use Rattle.alerts_text.specs.declared.lines.Ask.the-variants as ask
+use Rattle.basics.specs.laws.Lists.{any-append, any-same, any-implies}
 use Rattle.basics.specs.laws.Texts.{same-refl, same-true}
-use Rattle.basics.specs.laws.Booleans.{and-yes, and-no, or-false, both-ways}
+use Rattle.basics.specs.laws.Booleans.{and-true, and-yes, and-no, or-false, both-ways, implied-false}
 use Rattle.alerts.specs.laws.Text.{begins-true}
-use Rattle.alerts_text.proofs.Patterns.{filled-none, filled-here, tail-whole}
 
 -- the lesser of two numbers
 pub ahead-end : (i end : ℕ) → i ≤ end → end - i < 24 → end ≡ lesser (i + 24) end
@@ -35,103 +39,6 @@ ahead-end i end h g = sym (rw (lt-leb (i + 24) end (omega arith)) refl)
 
 pub ahead-on : (i end : ℕ) → i ≤ end → 24 ≤ end - i → i + 24 ≡ lesser (i + 24) end
 ahead-on i end h g = sym (rw (le-leb (i + 24) end (omega arith)) refl)
-
--- an end in the text, from where it begins
-begins-same : (p s : List ℕ) → length p ≡ length s → begins p s ≡ same p s
-begins-same [] [] h = refl
-begins-same [] (b ∷ s) h = absurd (omega (arith, h))
-begins-same (a ∷ p) [] h = refl
-begins-same (a ∷ p) (b ∷ s) h = rw (begins-same p s (omega (arith, h))) refl
-
-other-length : (p s : List ℕ) → (length p ≡ length s → ⊥) → same p s ≡ false
-other-length p s h = go (same p s) refl
-  where
-    go : (t : Bool) → same p s ≡ t → t ≡ false
-    go true e = absurd (h (ap length (same-true p s e)))
-    go false e = refl
-
-ends-long : (p s : List ℕ) → length s < length p → ends p s ≡ false
-ends-long [] [] h = absurd (omega arith)
-ends-long (a ∷ p) [] h = refl
-ends-long p (b ∷ s) h = rw (other-length p (b ∷ s) (λ e. omega (arith, e)), ends-long p s (omega arith)) refl
-
-ends-begins : (p s : List ℕ) (k : ℕ) → k + length p ≡ length s → ends p s ≡ begins p (drop k s)
-ends-begins [] [] zero e = refl
-ends-begins (a ∷ p) [] zero e = absurd (omega (arith, e))
-ends-begins p [] (suc k) e = absurd (omega (arith, e))
-ends-begins p (b ∷ s) zero e =
-    rw (ends-long p s (omega (arith, e))) (or-false (same p (b ∷ s)) ∙ sym (begins-same p (b ∷ s) (omega (arith, e))))
-ends-begins p (b ∷ s) (suc k) e =
-    rw (other-length p (b ∷ s) (λ x. omega (arith, e, x))) (ends-begins p s k (omega (arith, e)))
-
-spaced-length : (n : List ℕ) → length (around " " n "") ≡ length n + 1
-spaced-length n = omega (arith, ap length (append-nil n))
-
-pub spaced-short : (n s : List ℕ) → length s ≤ length n → false ≡ ends (around " " n "") s
-spaced-short n s h = sym (ends-long (around " " n "") s (omega (arith, spaced-length n)))
-
-pub spaced-end : (n s : List ℕ) (t : Bool) → length n < length s
-    → t ≡ begins (around " " n "") (drop (length s - length n - 1) s) → t ≡ ends (around " " n "") s
-spaced-end n s t h e =
-    e ∙ sym (ends-begins (around " " n "") s (length s - length n - 1) (omega (arith, spaced-length n)))
-
--- numbers and trams
-module _ (s n : List ℕ) where
-  number-is : names-number s n
-      ≡ anyIn (text "METRO #|METRO#|LIGNE #|LIGNES #") n s
-      || (anyIn (text " # | #.| #,|ET #") n s || ends (around " " n "") s) && anyIn (text "LIGNE|METRO") n s
-  number-is =
-      ap (λ x. anyIn (text "METRO #|METRO#|LIGNE #|LIGNES #") n s
-      || (anyIn (text " # | #.| #,|ET #") n s || ends (around " " n "") s) && (contains (text "LIGNE") s || x))
-      (sym (or-false (contains (text "METRO") s)))
-
-  pub number-first : (t : Bool) → t ≡ anyIn (text "METRO #|METRO#|LIGNE #|LIGNES #") n s → t ≡ true
-      → true ≡ names-number s n
-  number-first t e h = sym (number-is ∙ rw (← e, h) refl)
-
-  pub number-alone : (t u : Bool) → t ≡ anyIn (text "METRO #|METRO#|LIGNE #|LIGNES #") n s → t ≡ false
-      → u ≡ anyIn (text "LIGNE|METRO") n s → not u ≡ true → false ≡ names-number s n
-  number-alone t u e h f g =
-      sym (number-is ∙ rw (← e, h, ← f, not-true u g)
-      (and-no (anyIn (text " # | #.| #,|ET #") n s || ends (around " " n "") s)))
-
-  pub number-bare : (t u v : Bool) → t ≡ anyIn (text "METRO #|METRO#|LIGNE #|LIGNES #") n s → t ≡ false
-      → u ≡ anyIn (text "LIGNE|METRO") n s → not u ≡ false → v ≡ anyIn (text " # | #.| #,|ET #") n s → v ≡ true
-      → true ≡ names-number s n
-  number-bare t u v e h f g k l = sym (number-is ∙ rw (← e, h, ← f, not-false u g, ← k, l) refl)
-
-  pub number-last : (t u v w : Bool) → t ≡ anyIn (text "METRO #|METRO#|LIGNE #|LIGNES #") n s → t ≡ false
-      → u ≡ anyIn (text "LIGNE|METRO") n s → not u ≡ false → v ≡ anyIn (text " # | #.| #,|ET #") n s → v ≡ false
-      → w ≡ ends (around " " n "") s → w ≡ names-number s n
-  number-last t u v w e h f g k l x = sym (number-is ∙ rw (← e, h, ← f, not-false u g, ← k, l, ← x) (and-yes w))
-
-  tram-is : names-tram s n ≡ anyIn (text "#") n s && anyIn (text "TRAM| #") n s
-  tram-is = rw (or-false (contains (n ++ []) s), append-nil n, or-false (contains (32 ∷ n) s)) refl
-
-  pub tram-not : (t : Bool) → t ≡ anyIn (text "#") n s → not t ≡ true → false ≡ names-tram s n
-  tram-not t e h = sym (tram-is ∙ rw (← e, not-true t h) refl)
-
-  pub tram-then : (t u : Bool) → t ≡ anyIn (text "#") n s → not t ≡ false → u ≡ anyIn (text "TRAM| #") n s
-      → u ≡ names-tram s n
-  tram-then t u e h f = sym (tram-is ∙ rw (← e, not-false t h, ← f) refl)
-
--- by the first byte of the name
-module _ (s n : List ℕ) (t : Bool) where
-  pub mention-empty : length n ≡ 0 → t ≡ names-number s n → t ≡ mentions s n
-  mention-empty h e = e ∙ go n h
-    where
-      go : (n : List ℕ) → length n ≡ 0 → names-number s n ≡ mentions s n
-      go [] h = refl
-      go (b ∷ n) h = absurd (omega (arith, h))
-
-  pub mention-tram : getD n 0 0 ≡ 0x54 → t ≡ names-tram s n → t ≡ mentions s n
-  mention-tram h e = e ∙ sym (rw (eq-eqb (getD n 0 0) 0x54 h) refl)
-
-  pub mention-letter : (getD n 0 0 ≡ 0x54 → ⊥) → 0x41 ≤ getD n 0 0 → t ≡ names letterRows s n → t ≡ mentions s n
-  mention-letter h g e = e ∙ sym (rw (ne-eqb (getD n 0 0) 0x54 h, le-leb 0x41 (getD n 0 0) g) refl)
-
-  pub mention-number : (getD n 0 0 ≡ 0x54 → ⊥) → getD n 0 0 < 0x41 → t ≡ names-number s n → t ≡ mentions s n
-  mention-number h g e = e ∙ sym (rw (ne-eqb (getD n 0 0) 0x54 h, lt-leb 0x41 (getD n 0 0) g) refl)
 
 -- the window
 pub lesser-within : (m n k : ℕ) → k ≤ m → k ≤ n → (k ≤ lesser m n) × (lesser m n ≤ n)
@@ -225,73 +132,38 @@ near-nowhere p s r e h = go (find p s) (sym e ∙ h)
     go none x = refl
     go (some k) x = absurd (let z : _≡_ {A = ℕ} 0 1 = cc in omega arith)
 
--- a subject
-abbrev subjects : List ℕ
-subjects = text "RER #|RER#|METRO #|INCIDENT LIGNE #|LIGNE # :|LIGNE # -|LIGNE # INTERRUPT|LIGNE # TRAFIC"
-
-pub primary-named : (s n : List ℕ) (t : Bool) → t ≡ anyIn subjects n s → t ≡ true → true ≡ primary s n
-primary-named s n t e h = ap (λ x. x || begins (around "LIGNE " n "") s) (sym (sym e ∙ h))
-
-pub primary-front : (s n : List ℕ) (t u : Bool) → t ≡ anyIn subjects n s → t ≡ false
-    → u ≡ begins (around "LIGNE " n "") (drop 0 s) → u ≡ primary s n
-primary-front s n t u e h f = f ∙ ap (λ x. x || begins (around "LIGNE " n "") s) (sym (sym e ∙ h))
-
--- equality as it is answered
-equal-same : (s t : List ℕ) → same s t ≡ same s t
-equal-same [] [] = refl
-equal-same [] (b ∷ t) = refl
-equal-same (a ∷ s) [] = refl
-equal-same (a ∷ s) (b ∷ t) = ap (λ r. eqb a b && r) (equal-same s t)
-
-answered : (s t : List ℕ) (r : Bool) → r ≡ same s t → r ≡ same s t
-answered s t r g = g ∙ equal-same s t
-
-module _ (s n m : List ℕ) (t : Bool) (e : t ≡ mentions s m) where
-  pub other-unnamed : not t ≡ true → false ≡ otherSubject s n m
-  other-unnamed h = sym (rw (← e, not-true t h) refl)
-
-  pub other-own : (r : Bool) → not t ≡ false → r ≡ same m n → r ≡ true → false ≡ otherSubject s n m
-  other-own r h g x = sym (rw (← e, not-false t h, ← answered m n r g, x) refl)
-
-  pub other-subject : (r u : Bool) → not t ≡ false → r ≡ same m n → r ≡ false → u ≡ primary s m → u ≡ otherSubject s n m
-  other-subject r u h g x f = f ∙ sym (rw (← e, not-false t h, ← answered m n r g, x) refl)
-
 -- each question
-module _ (ask : Ask) (s n m : List ℕ) (t : Bool) where
-  pub asked-named : ask ≡ Named → t ≡ mentions s m → t ≡ answerOf ask s n m
-  asked-named h e = rw h e
+module _ (question : Ask) (s n m : List ℕ) (t : Bool) where
+  pub asked-own : question ≡ ask.Own → t ≡ same m n → t ≡ answerOf question s n m
+  asked-own h g = rw h g
 
-  pub asked-own : ask ≡ Own → t ≡ same m n → t ≡ answerOf ask s n m
-  asked-own h g = rw h (answered m n t g)
-
-  pub asked-other : ask ≡ Other → t ≡ otherSubject s n m → t ≡ answerOf ask s n m
-  asked-other h e = rw h e
-
-  pub asked-advised : ask ≡ Advised → t ≡ nearMarker s (nameFilled n m) → t ≡ answerOf ask s n m
+  pub asked-advised : question ≡ ask.Advised → t ≡ nearMarker s (nameFilled n m) → t ≡ answerOf question s n m
   asked-advised h e = rw h e
 
 -- advice
 pub secondary-near : (s n : List ℕ) (t : Bool)
-    → t ≡ any (answerOf Advised s n) (patterns (text "LIGNE #|LIGNES #|METRO #| ET #| # | #.")) → t ≡ true
+    → t ≡ any (answerOf ask.Advised s n) (patterns (text "LIGNE #|LIGNES #|METRO #| ET #| # | #.")) → t ≡ true
     → true ≡ secondary s n
 secondary-near s n t e h =
     ap (λ x. x || anyMarker adviceMarkers s && (contains (text "RER ") s || contains (text "TRAVAUX SUR") s))
     (sym (sym e ∙ h))
 
-pub secondary-not : (s n : List ℕ) (t u : Bool)
-    → t ≡ any (answerOf Advised s n) (patterns (text "LIGNE #|LIGNES #|METRO #| ET #| # | #.")) → t ≡ false
-    → u ≡ anyMarker adviceMarkers s → not u ≡ true → false ≡ secondary s n
-secondary-not s n t u e h f g =
-    sym (ap (λ x. x || anyMarker adviceMarkers s && (contains (text "RER ") s || contains (text "TRAVAUX SUR") s))
-    (sym e ∙ h) ∙ rw (← f, not-true u g) refl)
+module _ (s n : List ℕ) (t v : Bool)
+    (e : t ≡ any (answerOf ask.Advised s n) (patterns (text "LIGNE #|LIGNES #|METRO #| ET #| # | #."))) (h : t ≡ false)
+    (k : v ≡ anyIn (text "RER |TRAVAUX SUR") n s) where
+  elsewhere : secondary s n ≡ anyMarker adviceMarkers s && v
+  elsewhere =
+      ap (λ x. x || anyMarker adviceMarkers s && (contains (text "RER ") s || contains (text "TRAVAUX SUR") s))
+      (sym e ∙ h)
+      ∙ ap (λ x. anyMarker adviceMarkers s && (contains (text "RER ") s || x))
+      (sym (or-false (contains (text "TRAVAUX SUR") s)))
+      ∙ ap (λ x. anyMarker adviceMarkers s && x) (sym k)
 
-pub secondary-all : (s n : List ℕ) (t u v : Bool)
-    → t ≡ any (answerOf Advised s n) (patterns (text "LIGNE #|LIGNES #|METRO #| ET #| # | #.")) → t ≡ false
-    → u ≡ anyMarker adviceMarkers s → not u ≡ false → v ≡ anyIn (text "RER |TRAVAUX SUR") n s → v ≡ secondary s n
-secondary-all s n t u v e h f g k =
-    k ∙ ap (λ x. contains (text "RER ") s || x) (or-false (contains (text "TRAVAUX SUR") s))
-    ∙ sym (ap (λ x. x || anyMarker adviceMarkers s && (contains (text "RER ") s || contains (text "TRAVAUX SUR") s))
-    (sym e ∙ h) ∙ rw (← f, not-false u g) refl)
+  pub secondary-not : not v ≡ true → false ≡ secondary s n
+  secondary-not g = sym (elsewhere ∙ rw (not-true v g) (and-no (anyMarker adviceMarkers s)))
+
+  pub secondary-all : (u : Bool) → not v ≡ false → u ≡ anyMarker adviceMarkers s → u ≡ secondary s n
+  secondary-all u g f = f ∙ sym (elsewhere ∙ rw (not-false v g) (and-yes (anyMarker adviceMarkers s)))
 
 -- the lines of a text, asked as one list
 any-filter : (q p : List ℕ → Bool) (l : List (List ℕ)) → any q (filter p l) ≡ any (λ m. p m && q m) l
@@ -366,39 +238,60 @@ module _ (s u : List ℕ) where
       )
       refl
 
-  module _ (n : Bool) (hn : n ≡ any (answerOf Named s u) allLines) where
-    pub ok-none : not n ≡ true → true ≡ textOk s (commercial-lines-in-text s) u
-    ok-none h = sym (text-is ∙ rw (← hn, not-true n h) refl)
+  pub text-marked : textOk s (commercial-lines-in-text s) u
+      ≡ not (any (mentions s) allLines) || any (λ m. mentions s m && same m u) allLines
+      && not (secondary s u && any (otherSubject s u) allLines)
+  text-marked =
+      text-is ∙ ap
+      (λ x. not (any (mentions s) allLines) || x && not (secondary s u && any (otherSubject s u) allLines))
+      (sym (own-line s u allLines))
 
-    module _ (named : not n ≡ false) (m : Bool) (hm : m ≡ mentions s u) where
-      pub ok-unnamed : not m ≡ true → false ≡ textOk s (commercial-lines-in-text s) u
-      ok-unnamed h = sym (text-is ∙ rw (← hn, not-false n named, ← hm, not-true m h) refl)
+-- the answers, in the order in which they are asked
+module _ (s u named subject : List ℕ) (own : ℕ) (N : Lines (namedOf s) named) (O : IsLine u own) (n : Bool)
+    (hn : n ≡ anyFrom 0 32 (picks Named named subject own)) where
+  n-is : any (mentions s) allLines ≡ n
+  n-is = sym (named-lines s u named subject own N O n hn)
 
-      module _ (own : not m ≡ false) (o : Bool) (ho : o ≡ any (answerOf Own s u) allLines) where
-        pub ok-unlisted : not o ≡ true → false ≡ textOk s (commercial-lines-in-text s) u
-        ok-unlisted h = sym (text-is ∙ rw (← hn, not-false n named, ← hm, not-false m own, ← ho, not-true o h) refl)
+  pub ok-none : not n ≡ true → true ≡ textOk s (commercial-lines-in-text s) u
+  ok-none h = sym (text-marked s u ∙ rw (n-is, not-true n h) refl)
 
-        module _ (listed : not o ≡ false) (x : Bool) (hx : x ≡ secondary s u) where
-          pub ok-first : not x ≡ true → true ≡ textOk s (commercial-lines-in-text s) u
-          ok-first h =
-              sym (text-is
-              ∙ rw (← hn, not-false n named, ← hm, not-false m own, ← ho, not-false o listed, ← hx, not-true x h) refl)
+  module _ (some : not n ≡ false) (o : Bool) (ho : o ≡ anyFrom 0 32 (picks Own named subject own)) where
+    o-is : any (λ m. mentions s m && same m u) allLines ≡ o
+    o-is = sym (own-lines s u named subject own N O o ho)
 
-          pub ok-last : not x ≡ false → (y : Bool) → y ≡ any (answerOf Other s u) allLines
-              → not y ≡ textOk s (commercial-lines-in-text s) u
-          ok-last h y hy =
-              sym (text-is
-              ∙ rw (
-                ← hn,
-                not-false n named,
-                ← hm,
-                not-false m own,
-                ← ho,
-                not-false o listed,
-                ← hx,
-                not-false x h,
-                ← hy,
-              ) refl)
+    pub ok-unnamed : not o ≡ true → false ≡ textOk s (commercial-lines-in-text s) u
+    ok-unnamed h = sym (text-marked s u ∙ rw (n-is, not-false n some, o-is, not-true o h) refl)
+
+    module _ (mine : not o ≡ false) (a : Bool) (ha : a ≡ anyFrom 0 32 (picks Another named subject own)) where
+      pub ok-alone : not a ≡ true → true ≡ textOk s (commercial-lines-in-text s) u
+      ok-alone h =
+          sym (text-marked s u
+          ∙ rw (n-is, not-false n some, o-is, not-false o mine, alone, and-no (secondary s u)) refl)
+        where
+          weaker : (m : List ℕ) → otherSubject s u m ≡ true → mentions s m && not (same m u) ≡ true
+          weaker m e =
+              let h = and-true {x = mentions s m} e in
+              let g = and-true {x = not (same m u)} (h .1) in
+              rw (h .0, g .0) refl
+
+          alone : any (otherSubject s u) allLines ≡ false
+          alone =
+              implied-false (any (otherSubject s u) allLines) a
+              (λ e. other-lines s u named subject own N O a ha
+              ∙ any-implies (otherSubject s u) (λ m. mentions s m && not (same m u)) weaker allLines e)
+              (not-true a h)
+
+      module _ (another : not a ≡ false) (x : Bool) (hx : x ≡ secondary s u) where
+        pub ok-first : not x ≡ true → true ≡ textOk s (commercial-lines-in-text s) u
+        ok-first h =
+            sym (text-marked s u
+            ∙ rw (n-is, not-false n some, o-is, not-false o mine, ← hx, not-true x h) refl)
+
+        pub ok-last : not x ≡ false → (y : Bool) → y ≡ any (otherSubject s u) allLines
+            → not y ≡ textOk s (commercial-lines-in-text s) u
+        ok-last h y hy =
+            sym (text-marked s u
+            ∙ rw (n-is, not-false n some, o-is, not-false o mine, ← hx, not-false x h, ← hy) refl)
 
 -- road traffic
 module _ (s : List ℕ) (t : Bool) (ht : t ≡ anyIn (text "TRAFIC ROUTIER") s s) where
@@ -432,5 +325,5 @@ same-turned : (s t : List ℕ) → same s t ≡ same t s
 same-turned s t =
     both-ways (same s t) (same t s) (λ e. rw (same-true s t e) (same-refl t)) (λ e. rw (same-true t s e) (same-refl s))
 
-pub rail-mode : (m : List ℕ) (t : Bool) → t ≡ any (answerOf Own m m) railModes → t ≡ any (same m) railModes
+pub rail-mode : (m : List ℕ) (t : Bool) → t ≡ any (answerOf ask.Own m m) railModes → t ≡ any (same m) railModes
 rail-mode m t e = e ∙ any-same (λ x. same x m) (same m) (λ x. same-turned x m) railModes

@@ -1,3 +1,2 @@
-pub mod Found
-pub mod Tables
 pub mod Blob
+pub mod Tables

@@ -1,4 +1,3 @@
-// The texts of an alert matched with a leg: patterns, the lines that a text names, and the texts as they are searched.
-pub mod text; // texts searched for patterns
-pub mod lines; // the lines that a text names
+// The texts of an alert matched with a leg: whether they are about its line, and the texts as they are searched.
+pub mod lines; // whether a text is about a line
 pub mod blob; // an alert's texts as they are searched

@@ -1,121 +1,33 @@
-// The lines that a folded text names, and whether the text is about a line or names it as advice.
+// Whether a folded text is about a line, names it as advice, or names others.
 ghost use mathlib.Core.Path.{_≡_};
 ghost use Prim.Native.Nat.{_+_, _-_, _≤_};
 ghost use lib.ListN.{length};
 ghost use Rattle.basics.specs.Lists.{any};
-ghost use Rattle.alerts.specs.Text.{ends};
 ghost use Rattle.basics.specs.Texts.{same};
-ghost use Rattle.alerts.specs.Applies.{around, names, letterRows, names-number, names-tram, commercial-lines-in-text};
-ghost use Rattle.alerts.specs.Applies.{anyMarker, window, railModes};
-ghost use Rattle.alerts.specs.promises.Reduced.{adviceMarkers, primary, secondary, textOk, road};
-ghost use Rattle.alerts_text.specs.promises.Tables.{nameFilled, patterns, lesser, allLines, mentions, nearMarker};
-ghost use Rattle.alerts_text.specs.promises.Tables.{otherSubject, answerOf};
+ghost use Rattle.alerts.specs.Applies.{commercial-lines-in-text, anyMarker, window, railModes};
+ghost use Rattle.alerts.specs.promises.Reduced.{adviceMarkers, secondary, textOk, road};
+ghost use Rattle.alerts_patterns.specs.promises.Tables.{nameFilled, patterns};
+ghost use Rattle.alerts_lines.specs.promises.Lines.{namedOf, allLines, otherSubject, IsLine};
+ghost use Rattle.alerts_lines.specs.promises.Marks.{Lines};
+ghost use Rattle.alerts_text.specs.promises.Tables.{lesser, nearMarker, answerOf};
 
 // What is asked of each piece of a table.
 pub enum Ask {
-    // The text names the line.
-    Named,
-    // The line is the one given.
+    // The piece is the one given.
     Own,
-    // The text names another line, and is about it.
-    Other,
     // The pattern stands near a marker of advice.
     Advised,
-}
-
-fn names_letter(s: &[u8], name: &[u8]) -> bool
-    ensures { λ r. ⌜ r ≡ names letterRows (now (s .entry)) (now (name .entry)) ⌝ }
-{
-    crate::text::any_in(b"RER #|RER#", name, s)
-}
-
-// Whether s ends with a space and the name.
-fn ends_spaced(s: &[u8], name: &[u8]) -> bool
-    ensures { λ r. ⌜ r ≡ ends (around " " (now (name .entry)) "") (now (s .entry)) ⌝ }
-{
-    if s.len() <= name.len() {
-        return false;
-    }
-    let i = s.len() - name.len() - 1;
-    crate::text::around_at(s, i, b" ", name, b"")
-}
-
-fn names_number(s: &[u8], name: &[u8]) -> bool
-    ensures { λ r. ⌜ r ≡ names-number (now (s .entry)) (now (name .entry)) ⌝ }
-{
-    if crate::text::any_in(b"METRO #|METRO#|LIGNE #|LIGNES #", name, s) {
-        return true;
-    }
-    if !crate::text::any_in(b"LIGNE|METRO", name, s) {
-        return false;
-    }
-    if crate::text::any_in(b" # | #.| #,|ET #", name, s) {
-        return true;
-    }
-    ends_spaced(s, name)
-}
-
-fn names_tram(s: &[u8], name: &[u8]) -> bool
-    ensures { λ r. ⌜ r ≡ names-tram (now (s .entry)) (now (name .entry)) ⌝ }
-{
-    if !crate::text::any_in(b"#", name, s) {
-        return false;
-    }
-    crate::text::any_in(b"TRAM| #", name, s)
-}
-
-// Whether s names the line: a tram's name begins with T, a letter is an RER line, else it is a number.
-fn mentions(s: &[u8], name: &[u8]) -> bool
-    ensures { λ r. ⌜ r ≡ mentions (now (s .entry)) (now (name .entry)) ⌝ }
-{
-    if name.len() == 0 {
-        return names_number(s, name);
-    }
-    if name[0] == b'T' {
-        return names_tram(s, name);
-    }
-    if b'A' <= name[0] {
-        return names_letter(s, name);
-    }
-    names_number(s, name)
 }
 
 // Whether s has a marker of advice.
 fn marked(s: &[u8]) -> bool
     ensures { λ r. ⌜ r ≡ anyMarker adviceMarkers (now (s .entry)) ⌝ }
 {
-    crate::text::any_in(
+    alerts_patterns::any_in(
         b"PRIVILEGIE|SATURATION|REPORTEZ|REPORTER|UTILISEZ|EMPRUNTEZ|EN DIRECTION DE LA LIGNE|VERS LA LIGNE|CORRESPONDANCE AVEC",
         s,
         s,
     )
-}
-
-// Whether s is about the line.
-fn primary(s: &[u8], name: &[u8]) -> bool
-    ensures { λ r. ⌜ r ≡ primary (now (s .entry)) (now (name .entry)) ⌝ }
-{
-    if crate::text::any_in(
-        b"RER #|RER#|METRO #|INCIDENT LIGNE #|LIGNE # :|LIGNE # -|LIGNE # INTERRUPT|LIGNE # TRAFIC",
-        name,
-        s,
-    ) {
-        return true;
-    }
-    crate::text::around_at(s, 0, b"LIGNE ", name, b"")
-}
-
-// Whether m is another line than the one given, and s names it and is about it.
-fn other_subject(s: &[u8], name: &[u8], m: &[u8]) -> bool
-    ensures { λ r. ⌜ r ≡ otherSubject (now (s .entry)) (now (name .entry)) (now (m .entry)) ⌝ }
-{
-    if !mentions(s, m) {
-        return false;
-    }
-    if slices::same(m, name) {
-        return false;
-    }
-    primary(s, m)
 }
 
 // 48 bytes back, or the start.
@@ -148,7 +60,7 @@ fn marked_near(s: &[u8], i: usize, n: usize) -> bool
 fn filled_len(name: &[u8], pattern: &[u8]) -> usize
     ensures { λ r. ⌜ r ≡ length (nameFilled (now (name .entry)) (now (pattern .entry))) ⌝ }
 {
-    let h = crate::text::next(pattern, 0, b'#');
+    let h = alerts_patterns::next(pattern, 0, b'#');
     if pattern.len() <= h {
         return pattern.len();
     }
@@ -159,12 +71,12 @@ fn filled_len(name: &[u8], pattern: &[u8]) -> usize
 fn near_marker(s: &[u8], name: &[u8], pattern: &[u8]) -> bool
     ensures { λ r. ⌜ r ≡ nearMarker (now (s .entry)) (nameFilled (now (name .entry)) (now (pattern .entry))) ⌝ }
 {
-    match crate::text::find_filled(s, name, pattern) {
-        crate::text::Found::At(i) => {
+    match alerts_patterns::find_filled(s, name, pattern) {
+        alerts_patterns::Found::At(i) => {
             let n = filled_len(name, pattern);
             marked_near(s, i, n)
         }
-        crate::text::Found::Nowhere => false,
+        alerts_patterns::Found::Nowhere => false,
     }
 }
 
@@ -172,9 +84,7 @@ fn answer(ask: Ask, s: &[u8], name: &[u8], piece: &[u8]) -> bool
     ensures { λ r. ⌜ r ≡ answerOf ask (now (s .entry)) (now (name .entry)) (now (piece .entry)) ⌝ }
 {
     match ask {
-        Ask::Named => mentions(s, piece),
         Ask::Own => slices::same(piece, name),
-        Ask::Other => other_subject(s, name, piece),
         Ask::Advised => near_marker(s, name, piece),
     }
 }
@@ -184,13 +94,13 @@ fn any_piece(ask: Ask, table: &[u8], name: &[u8], s: &[u8]) -> bool
     ensures { λ r. ⌜ r ≡ any (answerOf ask (now (s .entry)) (now (name .entry))) (patterns (now (table .entry))) ⌝ }
 {
     let mut at = 0;
-    let mut e = crate::text::next(table, 0, b'|');
+    let mut e = alerts_patterns::next(table, 0, b'|');
     while e < table.len() {
         if answer(ask, s, name, &table[at..e]) {
             return true;
         }
         at = e + 1;
-        e = crate::text::next(table, at, b'|');
+        e = alerts_patterns::next(table, at, b'|');
     }
     answer(ask, s, name, &table[at..])
 }
@@ -207,57 +117,66 @@ fn secondary(s: &[u8], name: &[u8]) -> bool
     ) {
         return true;
     }
-    if !marked(s) {
+    if !alerts_patterns::any_in(b"RER |TRAVAUX SUR", name, s) {
         return false;
     }
-    crate::text::any_in(b"RER |TRAVAUX SUR", name, s)
+    marked(s)
 }
 
-// Whether one of the lines is so.
-fn any_line(ask: Ask, s: &[u8], name: &[u8]) -> bool
-    ensures { λ r. ⌜ r ≡ any (answerOf ask (now (s .entry)) (now (name .entry))) allLines ⌝ }
+// Whether another line than the one given is named and a subject.
+fn other_subject(s: &[u8], named: &[u8], name: &[u8], own: usize) -> bool
+    requires { ⌜ (length (now named) ≡ 32) × Lines (namedOf (now s)) (now named) × IsLine (now name) own ⌝ }
+    ensures { λ r. ⌜ r ≡ any (otherSubject (now (s .entry)) (now (name .entry))) allLines ⌝ }
 {
-    any_piece(
-        ask,
-        b"A|B|C|D|E|1|2|3|4|5|6|7|8|9|10|11|12|13|14|T1|T2|T3|T4|T5|T6|T7|T8|T9|T10|T11|T12|T13",
-        name,
-        s,
-    )
+    let mut subject = [0u8; 32];
+    alerts_lines::mark_subjects(&mut subject, s);
+    alerts_lines::any_line(alerts_lines::Pick::Subject, named, &subject, own)
+}
+
+// Whether a folded text that names the marked lines may be about the line.
+pub fn marked_ok(s: &[u8], named: &[u8], name: &[u8]) -> bool
+    requires { ⌜ (length (now named) ≡ 32) × Lines (namedOf (now s)) (now named) ⌝ }
+    ensures { λ r. ⌜ r ≡ textOk (now (s .entry)) (commercial-lines-in-text (now (s .entry))) (now (name .entry)) ⌝ }
+{
+    let own = alerts_lines::line_of(name);
+    if !alerts_lines::any_line(alerts_lines::Pick::Named, named, named, own) {
+        return true;
+    }
+    if !alerts_lines::any_line(alerts_lines::Pick::Own, named, named, own) {
+        return false;
+    }
+    if !alerts_lines::any_line(alerts_lines::Pick::Another, named, named, own) {
+        return true;
+    }
+    if !secondary(s, name) {
+        return true;
+    }
+    !other_subject(s, named, name, own)
 }
 
 // Whether a folded text may be about the line.
 pub fn text_ok(s: &[u8], name: &[u8]) -> bool
     ensures { λ r. ⌜ r ≡ textOk (now (s .entry)) (commercial-lines-in-text (now (s .entry))) (now (name .entry)) ⌝ }
 {
-    if !any_line(Ask::Named, s, name) {
-        return true;
-    }
-    if !mentions(s, name) {
-        return false;
-    }
-    if !any_line(Ask::Own, s, name) {
-        return false;
-    }
-    if !secondary(s, name) {
-        return true;
-    }
-    !any_line(Ask::Other, s, name)
+    let mut named = [0u8; 32];
+    alerts_lines::mark_named(&mut named, s);
+    marked_ok(s, &named, name)
 }
 
 // Whether a text in capitals is about road traffic.
 pub fn road_traffic(s: &[u8]) -> bool
     ensures { λ r. ⌜ r ≡ road (now (s .entry)) ⌝ }
 {
-    if crate::text::any_in(b"TRAFIC ROUTIER", s, s) {
+    if alerts_patterns::any_in(b"TRAFIC ROUTIER", s, s) {
         return true;
     }
-    if !crate::text::any_in(b"ARRET", s, s) {
+    if !alerts_patterns::any_in(b"ARRET", s, s) {
         return false;
     }
-    if !crate::text::any_in(b"D\xc3\x89PLAC\xc3\x89|DEPLAC", s, s) {
+    if !alerts_patterns::any_in(b"D\xc3\x89PLAC\xc3\x89|DEPLAC", s, s) {
         return false;
     }
-    crate::text::any_in(b"CIRCULATION", s, s)
+    alerts_patterns::any_in(b"CIRCULATION", s, s)
 }
 
 // Whether a mode in capitals is one of rail.

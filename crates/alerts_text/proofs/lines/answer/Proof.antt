@@ -1,6 +1,6 @@
 -- `alerts_text::lines::answer` meets its contract.
 use borrow.Author.Needs.{needs}
-use Rattle.alerts_text.proofs.Naming.{asked-named, asked-own, asked-other, asked-advised}
+use Rattle.alerts_text.proofs.Naming.{asked-own, asked-advised}
 use Rattle.alerts_text.proofs.lines.answer.Statement.{statement}
 use Rattle.alerts_text.proofs.lines.answer.Tie as tie
 
@@ -12,11 +12,5 @@ answer-spec =
     (λ c κs. search needs)
     (λ c. search needs)
     (λ c κs. search needs)
-    (λ c. search needs)
-    (λ c κs. search needs)
-    (λ c. search needs)
-    (λ c κs. search needs)
-    (λ c. search (asked-named))
     (λ c. search (asked-own))
-    (λ c. search (asked-other))
     (λ c. search (asked-advised)))

@@ -4,12 +4,12 @@ use native.Mathlib.Omega.{arith}
 use Prim.Native.Nat.{_-_}
 use lib.ListN.{length}
 use borrow.Author.Needs.{needs}
-use Rattle.alerts_text.proofs.Patterns.{untried-start, tried, untried-more, tried-last, Untried}
+use Rattle.alerts_patterns.specs.laws.Patterns.{untried-start, tried, untried-more, tried-last, Untried}
 use Rattle.alerts_text.proofs.lines.any_piece.Statement.{statement}
 use Rattle.alerts_text.proofs.lines.any_piece.Tie as tie
 
 abbrev Inv-loop : tie.InvT-loop
-Inv-loop ask table name s at₀ e₀ at e = Untried (answerOf ask s name) table at e
+Inv-loop ask table name s at₀ e₀ at e = Untried 0x7c (answerOf ask s name) table at e
 
 abbrev μ-loop : tie.MeasureT-loop
 μ-loop ask table name s at₀ e₀ at e = length table - e

@@ -1,6 +1,6 @@
 -- `alerts_text::lines::other_subject` meets its contract.
 use borrow.Author.Needs.{needs}
-use Rattle.alerts_text.proofs.Naming.{other-unnamed, other-own, other-subject}
+use Rattle.alerts_lines.specs.laws.Choosing.{subject-lines}
 use Rattle.alerts_text.proofs.lines.other_subject.Statement.{statement}
 use Rattle.alerts_text.proofs.lines.other_subject.Tie as tie
 
@@ -8,9 +8,8 @@ pub other-subject-spec : {M : Type 1} → statement M
 other-subject-spec =
     tie.close
     (tie.spec
+    (λ c. search needs)
     (λ c κs. search needs)
-    (λ c. search (other-unnamed))
+    (λ c. search needs)
     (λ c κs. search needs)
-    (λ c. search (other-own))
-    (λ c κs. search needs)
-    (λ c. search (other-subject)))
+    (λ c. search (subject-lines)))

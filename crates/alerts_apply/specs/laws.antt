@@ -1,0 +1,3 @@
+pub mod Texts
+pub mod Hits
+pub mod Room

@@ -1,0 +1,78 @@
+// Whether an alert applies to a leg: its ids first, then road traffic, and its texts only where the route alone hits.
+use crate::hits::Hit;
+use crate::hits::hit_by;
+use crate::texts::road_alert;
+use crate::texts::text_fits;
+ghost use mathlib.Core.Path.{_≡_};
+ghost use Rattle.alerts_apply.specs.promises.Hits.{hitAny, Clear, Told, Decided, Applied};
+
+fn is_hit(h: Hit) -> bool
+    ensures { λ r. ⌜ r ≡ hitAny h ⌝ }
+{
+    if h.trip {
+        return true;
+    }
+    if h.stop {
+        return true;
+    }
+    h.route
+}
+
+// Whether the alert isn't one about road traffic that meets a rail leg.
+fn is_clear(text: &mut [u8], s: &[u8], at: usize, mode: &[u8]) -> bool
+    ensures { λ r. ⌜ Clear (now (s .entry)) at (now (mode .entry)) r (now (text .entry)) (now (text .exit)) ⌝ }
+{
+    if !alerts_ids::is_rail_like_mode(mode) {
+        return true;
+    }
+    !road_alert(text, s, at)
+}
+
+// A trip or a stop that is hit decides; a route does where the texts may be about its line.
+fn is_told(text: &mut [u8], s: &[u8], at: usize, short: &[u8], h: Hit) -> bool
+    ensures { λ r. ⌜ Told (now (s .entry)) at (now (short .entry)) h r (now (text .entry)) (now (text .exit)) ⌝ }
+{
+    if h.trip {
+        return true;
+    }
+    if h.stop {
+        return true;
+    }
+    if !h.route {
+        return false;
+    }
+    text_fits(text, s, at, short)
+}
+
+fn decide(text: &mut [u8], s: &[u8], at: usize, short: &[u8], mode: &[u8], h: Hit) -> bool
+    ensures { λ r. ⌜ Decided (now (s .entry)) at (now (short .entry)) (now (mode .entry)) h r (now (text .entry))
+        (now (text .exit)) ⌝ }
+{
+    if !is_hit(h) {
+        return false;
+    }
+    if !is_clear(text, s, at, mode) {
+        return false;
+    }
+    is_told(text, s, at, short, h)
+}
+
+// `text` is what the alert's texts are written into.
+pub fn applies(
+    text: &mut [u8],
+    s: &[u8],
+    at: usize,
+    trip: &[u8],
+    route: &[u8],
+    short: &[u8],
+    from: &[u8],
+    to: &[u8],
+    mode: &[u8],
+) -> bool
+    ensures { λ r. ⌜ Applied (now (trip .entry)) (now (route .entry)) (now (short .entry)) (now (from .entry))
+        (now (to .entry)) (now (mode .entry)) (now (s .entry)) at r (now (text .entry)) (now (text .exit)) ⌝ }
+{
+    let name = alerts_ids::trimmed(short);
+    let h = hit_by(s, at, trip, route, name, from, to);
+    decide(text, s, at, name, mode, h)
+}

@@ -1,0 +1,17 @@
+-- `alerts_lines::mark_named` meets its contract.
+use borrow.Author.Needs.{needs}
+use Rattle.alerts_lines.specs.laws.Rows.{named-marked, begin-all}
+use Rattle.alerts_lines.proofs.mark_named.Statement.{statement}
+use Rattle.alerts_lines.proofs.mark_named.Tie as tie
+
+pub mark-named-spec : {M : Type 1} → statement M
+mark-named-spec =
+    tie.close
+    (tie.spec
+    (λ c. search needs)
+    (λ c. search needs)
+    (λ c κs. search (needs, begin-all))
+    (λ c κs. search needs)
+    (λ c κs. search needs)
+    (λ c. search needs)
+    (λ c. search (named-marked)))

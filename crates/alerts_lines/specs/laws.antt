@@ -1,0 +1,4 @@
+pub mod Kinds
+pub mod Marking
+pub mod Rows
+pub mod Choosing

@@ -1,0 +1,5 @@
+pub mod Ids
+pub mod Marks
+pub mod Candidates
+pub mod Places
+pub mod Found

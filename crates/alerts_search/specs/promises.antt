@@ -1,0 +1,4 @@
+pub mod Ids
+pub mod Marks
+pub mod Candidates
+pub mod Places

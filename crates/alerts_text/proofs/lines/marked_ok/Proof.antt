@@ -1,0 +1,21 @@
+-- `alerts_text::lines::marked_ok` meets its contract.
+use borrow.Author.Needs.{needs}
+use Rattle.alerts_text.proofs.Naming.{ok-none, ok-unnamed, ok-alone, ok-first, ok-last}
+use Rattle.alerts_text.proofs.lines.marked_ok.Statement.{statement}
+use Rattle.alerts_text.proofs.lines.marked_ok.Tie as tie
+
+pub marked-ok-spec : {M : Type 1} → statement M
+marked-ok-spec =
+    tie.close
+    (tie.spec
+    (λ c κs. search needs)
+    (λ c κs. search needs)
+    (λ c. search (ok-none))
+    (λ c κs. search needs)
+    (λ c. search (ok-unnamed))
+    (λ c κs. search needs)
+    (λ c. search (ok-alone))
+    (λ c κs. search needs)
+    (λ c. search (ok-first))
+    (λ c κs. search needs)
+    (λ c. search (ok-last)))
