@@ -1,0 +1,3 @@
+pub mod Survey
+pub mod Steps
+pub mod Head
