@@ -1,0 +1,100 @@
+-- Law. A changed state as an outcome, and question 7 of one whose new feed fails it.
+use mathlib.Core.Path.{_≡_, refl, sym, ap, _∙_}
+use mathlib.Core.Bool.{Bool, true, false, _&&_}
+use mathlib.Core.List.{List, [], _∷_}
+use Prim.Native.Nat.{ℕ}
+use native.Mathlib.Omega.{arith}
+use lib.Dec.{leb, eqb}
+use borrow.Author.Tests.{eqb-true}
+use lib.ListN.{length}
+use Rattle.basics.specs.Texts.{same}
+use Rattle.basics.specs.Lists.{all}
+use Rattle.basics.specs.laws.Booleans.{both-true, false-true}
+use Rattle.slices.specs.declared.Order.{Order}
+use Rattle.slices.specs.declared.Order.the-variants.{Less, Same, More}
+use Rattle.maps.specs.Map.{Ordered, byOrder, put}
+use Rattle.maps.specs.Order.{texts}
+use Rattle.formats.specs.Format.{list, optional, write}
+use Rattle.formats_judge.specs.Judged.{ok}
+use Rattle.formats_write.specs.declared.Put.{Put}
+use Rattle.decode.specs.Sizes.{mostTrips}
+use Rattle.decode.specs.Trip.{tripEntry}
+use Rattle.alerts.specs.Alert.{Alert, alert}
+use Rattle.overlay.specs.State.{Feed, State, timestamp, vehicleEntry, feed, feedEntry, overlay, versionOf, feedsOf}
+use Rattle.overlay.specs.State.{timestampOf, tripsOf, vehiclesOf}
+use Rattle.overlay.specs.Image.{room}
+use Rattle.overlay.specs.Change.{feedAt, putFeed, afterAlerts}
+use Rattle.overlay_bodies.specs.promises.Bodies.{withAlerts}
+use Rattle.overlay_sheets.specs.promises.Sheets.{Changes}
+use Rattle.panel.specs.Outcome.{Outcome, refused, accepted, need, numberOf, bytesOf}
+use Rattle.panel.specs.Questions.{Lengths, lengthsOk, changedState}
+use Rattle.panel_output.specs.declared.Ending.{Ending}
+use Rattle.panel_output.specs.promises.Ending.{outcomeOf, putEnding, Finished}
+use Rattle.panel_output.specs.laws.Ending.{written-outcome}
+use Rattle.panel_sheets.specs.promises.Calls.{Gives}
+
+-- QUESTION 1 holds: the output is as long as it is due
+pub due-is : (L : Lengths) (old : List ℕ) (out due : ℕ) (work workDue : List ℕ)
+    → lengthsOk L old out due work workDue ≡ true → out ≡ due
+due-is L old out due work workDue h =
+    eqb-true out due
+    (both-true (eqb out due) (same work workDue)
+    (both-true (eqb (length old) (L .overlay)) (eqb out due && same work workDue) h .1) .0)
+
+-- a call that ends so gives the outcome
+pub gives : {o : Outcome} {l m : List ℕ} {e : Ending} {r : ℕ} (n : ℕ) → length l ≡ n → outcomeOf l e ≡ o
+    → Finished l e m r → Gives n o r m
+gives {l} {e} n k d F = record {
+  number = F .number ∙ ap numberOf d;
+  bytes = F .bytes ∙ ap (λ n. bytesOf n (outcomeOf l e)) k ∙ ap (bytesOf n) d;
+}
+
+-- what is written, or not, is the outcome
+pub changed-outcome : {l m : List ℕ} {q : Put} (s : State) → Changes l m q s
+    → outcomeOf m (putEnding q) ≡ changedState (length l) s
+unfolding room
+changed-outcome {l} {m} {q} s C = go (ok 7 overlay s) refl
+  where
+    go : (b : Bool) → ok 7 overlay s ≡ b
+        → outcomeOf m (putEnding q)
+        ≡ need (b && leb (length (write overlay s)) (length l)) 7 (accepted (write overlay s))
+    go true e = written-outcome (C .few e)
+    go false e = ap (λ q. outcomeOf m (putEnding q)) (C .many e)
+
+-- what holds of every entry after a put holds of the one that was put
+module _ {K : Type 0} (O : Ordered K) {A : Type 0} (p : K × A → Bool) (k : K) (v : A) where
+  put-one : (m : List (K × A)) → all p (put O k v m) ≡ true → p (k, v) ≡ true
+  put-one [] h = both-true (p (k, v)) true h .0
+  put-one (e ∷ m) h = go (O .compare k (e .0)) (put-one m) h
+    where
+      go : (o : Order) → (all p (put O k v m) ≡ true → p (k, v) ≡ true)
+          → all p (byOrder o ((k, v) ∷ e ∷ m) ((k, v) ∷ m) (e ∷ put O k v m)) ≡ true → p (k, v) ≡ true
+      go Less i h = both-true (p (k, v)) (all p (e ∷ m)) h .0
+      go Same i h = both-true (p (k, v)) (all p m) h .0
+      go More i h = i (both-true (p e) (all p (put O k v m)) h .1)
+
+feed-seven : (f : List ℕ) (G : Feed) (n : ℕ) (s : State) → ok 7 overlay (putFeed f G n s) ≡ true → ok 7 feed G ≡ true
+unfolding putFeed
+feed-seven f G n s h =
+    let fs = put texts f G (feedsOf s) in
+    put-one texts (ok 7 feedEntry) f G (feedsOf s) (both-true (leb (length fs) 4) (all (ok 7 feedEntry) fs) h .1)
+
+alerts-of : (F : Feed) (vs : List Alert) → ok 7 feed (withAlerts F vs) ≡ true → ok 7 (list 256 alert) vs ≡ true
+alerts-of F vs h =
+    let a = ok 7 (list 256 alert) vs in
+    let v = ok 7 (list 1024 vehicleEntry) (vehiclesOf F) in
+    let t = ok 7 (list mostTrips tripEntry) (tripsOf F) in
+    both-true v a (both-true t (v && a)
+    (both-true (ok 7 (optional timestamp) (timestampOf F)) (t && (v && a)) h .1) .1) .1
+
+-- a sheet with too many alerts, or ids, is too much for every state
+pub alerts-over : (n : ℕ) (f : List ℕ) (vs : List Alert) (s : State) → ok 7 (list 256 alert) vs ≡ false
+    → changedState n (afterAlerts f vs s) ≡ refused 7
+unfolding afterAlerts
+alerts-over n f vs s h = go (ok 7 overlay (afterAlerts f vs s)) refl
+  where
+    go : (b : Bool) → ok 7 overlay (afterAlerts f vs s) ≡ b
+        → need (b && room n (afterAlerts f vs s)) 7 (accepted (write overlay (afterAlerts f vs s))) ≡ refused 7
+    go true e =
+        false-true (sym h ∙ alerts-of (feedAt f s) vs (feed-seven f (withAlerts (feedAt f s) vs) (versionOf s) s e))
+    go false e = refl
