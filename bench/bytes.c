@@ -1,5 +1,5 @@
-/* Runs and measures `slices` and `wire` through the calls of crates/wire_probes. A slice is two arguments: where it starts and how long
-   it is. */
+/* Runs and measures `slices` and `wire` through the calls of crates/wire_probes. A slice is two arguments: where it
+   starts and how long it is. */
 #include <stdbool.h>
 #include <stdint.h>
 #include <stdio.h>
@@ -120,7 +120,8 @@ int main(void) {
     s[MIB - 1] = 0x0c;
     expect("end of a group of 1 MiB", probes_field_end(s, MIB, 0), MIB);
     expect("the same group, cut by a byte", probes_field_end(s, MIB - 1, 0), 0);
-    printf("a group of 1 MiB with %d fields, on a stack of %llu KiB: skipped\n", MIB / 2 - 1, (unsigned long long)stack.rlim_cur / 1024);
+    printf("a group of 1 MiB with %d fields, on a stack of %llu KiB: skipped\n", MIB / 2 - 1,
+           (unsigned long long)stack.rlim_cur / 1024);
 
     measure(s, "numbers of one byte", 1);
     measure(s, "numbers of one or two bytes", 2);

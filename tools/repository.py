@@ -133,7 +133,7 @@ class Spec:
         self.parse(self.text.rstrip("\n").split("\n"))
 
     def parse(self, lines):
-        module, nested, current, known, at = [], 0, None, {}, 0  # nested: the column of declarations in a module
+        outer, module, nested, current, known, at = [], [], 0, None, {}, 0  # nested: the column of declarations
         while at < len(lines):
             line, at = lines[at], at + 1
             stripped, indent = line.strip(), len(line) - len(line.lstrip())
@@ -144,14 +144,15 @@ class Spec:
                     stripped, at = f"{stripped} {lines[at].strip()}", at + 1
                 self.uses.append(parse_use(stripped))
                 continue
-            if stripped.startswith("module ") and indent in (0, 2):
+            if stripped.startswith("module ") and indent <= nested:
                 header = [line]
                 while not lines[at - 1].rstrip().endswith("where"):
                     header, at = header + [lines[at]], at + 1
-                module, nested, current = (module if indent else []) + header, indent + 2, None
+                outer = [(column, head) for column, head in outer if column < indent] + [(indent, header)]
+                module, nested, current = [part for _, head in outer for part in head], indent + 2, None
                 continue
             if indent == 0:
-                module, nested = [], 0
+                outer, module, nested = [], [], 0
             level = min(indent, nested)
             item = self.begins(stripped, module, known) if indent == level else None
             if item:

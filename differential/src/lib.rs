@@ -13,6 +13,7 @@ pub mod bounds;
 pub mod form;
 pub mod gens;
 pub mod host;
+pub mod largest;
 pub mod layout;
 pub mod literal;
 pub mod messages;
@@ -23,5 +24,7 @@ pub mod port;
 pub mod questions;
 pub mod random;
 pub mod samples;
+#[cfg(feature = "port")]
+pub mod states;
 pub mod tree;
 pub mod wire;

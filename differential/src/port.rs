@@ -75,6 +75,16 @@ mod raw {
         pub fn trips_stop(update: *const u8, length: usize) -> Stop;
         pub fn trips_stop_text(update: *const u8, length: usize, stop: *const u8, stop_length: usize)
             -> bool;
+        pub fn alerts_text_fits(
+            out: *mut u8,
+            out_length: usize,
+            header: *const u8,
+            header_length: usize,
+            description: *const u8,
+            description_length: usize,
+            short: *const u8,
+            short_length: usize,
+        ) -> bool;
     }
 }
 
@@ -206,4 +216,20 @@ fn is_update(update: &[u8], UpdateEntry { sequence, update: expected }: &UpdateE
         && time(&found.arrival) == expected.arrival_time
         && delay(&found.departure) == expected.departure_delay
         && time(&found.departure) == expected.departure_time
+}
+
+/// Whether an alert's texts may be about a line; they are folded into `out`.
+pub fn text_fits(out: &mut [u8], header: &str, description: &str, short: &str) -> bool {
+    unsafe {
+        raw::alerts_text_fits(
+            out.as_mut_ptr(),
+            out.len(),
+            header.as_ptr(),
+            header.len(),
+            description.as_ptr(),
+            description.len(),
+            short.as_ptr(),
+            short.len(),
+        )
+    }
 }

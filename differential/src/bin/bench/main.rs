@@ -1,5 +1,9 @@
-//! The port's index of what a message leaves beside the original's `apply_trip_updates`, run in turn; and the port alone on the
-//! largest messages. Each time is the best of many runs.
+//! The port's index of what a message leaves beside the original's `apply_trip_updates`, run in turn; the port alone on
+//! the largest messages and onto the largest feed; alert texts beside the original. Each time is the best of many runs.
+mod texts;
+
+use differential::form::Form;
+use differential::largest::feed;
 use differential::messages::*;
 use differential::port::{judge, Index};
 use differential::random::Random;
@@ -15,6 +19,9 @@ const MIB: usize = 1 << 20;
 
 /// What a call needs of the stack goes by the depth of the listed messages and of groups, not by the message.
 const STACK: usize = 64 << 10;
+
+/// No text of an alert takes more than so many times what the original takes.
+const TEXTS: f64 = 4.0;
 
 /// No old trips.
 const NONE: &[u8] = &[0];
@@ -88,10 +95,14 @@ fn filled(part: &[u8]) -> Vec<u8> {
 fn largest() -> Vec<(&'static str, Vec<u8>)> {
     let named = |id: &str| trip(&[trip_id(id)]);
     let record = |fields: Vec<u8>| entity(&[trip_update(&[named("a"), fields])]);
+    let dated =
+        |fields: Vec<u8>| entity(&[trip_update(&[trip(&[trip_id("a"), start_date("20260101")]), fields])]);
     let keys: Vec<u8> =
         (0..2048).rev().flat_map(|key| entity(&[trip_update(&[named(&format!("{key:04}"))])])).collect();
     let descending: Vec<u8> =
         (1..=128).rev().flat_map(|turn| stop_time_update(&[stop_sequence(turn)])).collect();
+    let ascending: Vec<u8> = (1..=127).flat_map(|turn| stop_time_update(&[stop_sequence(turn)])).collect();
+    let unnumbered = stop_time_update(&[]).repeat((MIB - 64 - ascending.len()) / 2);
     let events = stop_time_update(&[arrival(&[delay(1)]), departure(&[delay(1)])]);
     let deep = (0..16).fold(filled(&varint(15, 1)), |inner, _| group(15, &inner));
     vec![
@@ -101,6 +112,10 @@ fn largest() -> Vec<(&'static str, Vec<u8>)> {
         ("an entity of empty trip_updates", entity(&[filled(&trip_update(&[]))])),
         ("a record of empty updates", record(filled(&stop_time_update(&[])))),
         ("a record of updates, 128 to 1 over and over", record(filled(&descending))),
+        (
+            "a dated record of updates, 1 to 127 and then without a sequence",
+            dated([ascending, unnumbered].concat()),
+        ),
         ("a record of updates with two events each", record(filled(&events))),
         ("a record of one text", record(trip(&[trip_id(&"a".repeat(MIB - 32))]))),
         ("texts of 64 bytes", record(filled(&trip(&[trip_id(&"a".repeat(64))])))),
@@ -126,10 +141,34 @@ fn largest_in_time(index: &mut Index) -> bool {
     in_time
 }
 
+/// A DIFFERENTIAL message of one trip, at the two keys that are left: the whole call, and the judgement of the old
+/// trips alone, after which a message that is too long is refused. Whether it takes less than a second.
+fn one_trip_in_time(index: &mut Index) -> bool {
+    let mut trips = feed().trips;
+    trips.truncate(2_046);
+    let old = trips.written();
+    let message = [header(&[incrementality(DIFFERENTIAL)]), trip_entity(&mut Random::new(7), 1)].concat();
+    let long = vec![0; MIB + 1];
+    let answers = [&long, &message].map(|message| index.leave(b"IDFM", message, &old));
+    assert_eq!(answers, [Err(3), Ok(2_048)]);
+    let [judged, whole] = best(5, || {
+        [&long, &message].map(|message| millis(|| index.leave(b"IDFM", black_box(message), &old)))
+    });
+    println!("a message of one trip onto the largest feed, {} bytes, by the port:", old.len());
+    println!("  {whole:.1} ms, of which the judgement of the old trips alone {judged:.1} ms");
+    whole <= 1e3
+}
+
+/// Runs on a small stack.
+fn bounded(index: &mut Index) -> bool {
+    largest_in_time(index) & one_trip_in_time(index)
+}
+
 fn main() {
     let mut index = Index::default();
     against_the_original(&mut index);
     let small = thread::Builder::new().stack_size(STACK);
-    let in_time = small.spawn(move || largest_in_time(&mut index)).expect("a thread").join();
-    std::process::exit(i32::from(!in_time.expect("no fault")));
+    let in_time = small.spawn(move || bounded(&mut index)).expect("a thread").join();
+    let in_time = in_time.expect("no fault") & texts::texts(TEXTS);
+    std::process::exit(i32::from(!in_time));
 }
