@@ -1,2 +1,4 @@
 pub mod Texts
+pub mod Words
 pub mod Hits
+pub mod Known

@@ -2,3 +2,4 @@
 pub mod texts; // an alert's texts: its label, and what they say of the leg
 pub mod hits; // which of the leg's ids an alert's ids hit
 pub mod applies; // whether an alert applies
+pub mod known; // the same by what is known of its texts

@@ -1,10 +1,19 @@
 // An alert's texts: its label, whether they may be about the leg's line, whether they are about road traffic.
+use alerts_text::blob::first_fits;
+use alerts_text::blob::named_fits;
+use alerts_text::blob::settle_name;
+use alerts_text::lines::Settled;
+use alerts_text::word::gather;
+use alerts_text::word::spread;
 use formats_skip::past_optional_text;
 use formats_write::Span;
 ghost use mathlib.Core.Path.{_≡_};
 ghost use Prim.Native.Nat.{_+_};
 ghost use lib.Dec.{ltb};
-ghost use Rattle.alerts_apply.specs.promises.Texts.{Shown, Given, Labelled, Fits, Road};
+ghost use lib.ListN.{length};
+ghost use Rattle.alerts_text.specs.promises.Marked.{Roomy};
+ghost use Rattle.alerts_apply.specs.promises.Texts.{Shown, Given, Labelled, Road};
+ghost use Rattle.alerts_apply.specs.promises.Words.{roadWord, FitsAgain, FitsKnown, Fits, RoadKnown};
 
 // The part that an optional text has, an empty one where it is absent.
 fn text_at(s: &[u8], at: usize) -> Span
@@ -60,10 +69,52 @@ fn has_room(room: usize, a: usize, b: usize, c: usize) -> bool
     1 < y - c
 }
 
-// Whether the alert's texts may be about the line; `text` is what they are folded into.
-pub fn text_fits(text: &mut [u8], s: &[u8], at: usize, short: &[u8]) -> bool
-    ensures { λ r. ⌜ Fits (now (s .entry)) at (now (short .entry)) r (now (text .entry)) (now (text .exit)) ⌝ }
+// The text test where the lines that the texts name are known, as bits of a word.
+fn fits_again(text: &mut [u8], word: u32, header: &[u8], description: &[u8], short: &[u8]) -> bool
+    requires { ⌜ Roomy (now header) (now description) (now short) (now text) ⌝ }
+    ensures { λ r. ⌜ FitsAgain word (now (header .entry)) (now (description .entry)) (now (short .entry)) r
+        (now (text .entry)) (now (text .exit)) ⌝ }
 {
+    let mut named = [0u8; 32];
+    spread(&mut named, word);
+    match settle_name(text, &named, short) {
+        Settled::Right => true,
+        Settled::Wrong => false,
+        Settled::Open => named_fits(text, &named, header, description, short),
+    }
+}
+
+// The lines are marked once; `words` is what is known of the alert.
+fn fits_known(
+    text: &mut [u8],
+    words: &mut [u32],
+    header: &[u8],
+    description: &[u8],
+    short: &[u8],
+) -> bool
+    requires { ⌜ (length (now words) ≡ 3) × Roomy (now header) (now description) (now short) (now text) ⌝ }
+    ensures { λ r. ⌜ FitsKnown (now (header .entry)) (now (description .entry)) (now (short .entry)) r
+        (now (text .entry)) (now (text .exit)) (now (words .entry)) (now (words .exit)) ⌝ }
+{
+    if words[1] == 1 {
+        return fits_again(text, words[2], header, description, short);
+    }
+    let mut named = [0u8; 32];
+    let r = first_fits(text, &mut named, header, description, short);
+    words[2] = gather(&named);
+    words[1] = 1;
+    r
+}
+
+// Whether the alert's texts may be about the line; `text` is what they are folded into.
+pub fn text_fits(text: &mut [u8], words: &mut [u32], s: &[u8], at: usize, short: &[u8]) -> bool
+    requires { ⌜ length (now words) ≡ 3 ⌝ }
+    ensures { λ r. ⌜ Fits (now (s .entry)) at (now (short .entry)) r (now (text .entry)) (now (text .exit))
+        (now (words .entry)) (now (words .exit)) ⌝ }
+{
+    if short.len() == 0 {
+        return true;
+    }
     let h = text_at(s, at);
     let d = text_at(s, past_optional_text(s, at));
     let a = h.from;
@@ -73,11 +124,11 @@ pub fn text_fits(text: &mut [u8], s: &[u8], at: usize, short: &[u8]) -> bool
     if !has_room(text.len(), b - a, e - c, short.len()) {
         return true;
     }
-    alerts_text::blob::text_fits(text, &s[a..b], &s[c..e], short)
+    fits_known(text, words, &s[a..b], &s[c..e], short)
 }
 
 // Whether the alert is about road traffic; `text` is what its texts are written into.
-pub fn road_alert(text: &mut [u8], s: &[u8], at: usize) -> bool
+fn road_alert(text: &mut [u8], s: &[u8], at: usize) -> bool
     ensures { λ r. ⌜ Road (now (s .entry)) at r (now (text .entry)) (now (text .exit)) ⌝ }
 {
     let second = past_optional_text(s, at);
@@ -94,4 +145,27 @@ pub fn road_alert(text: &mut [u8], s: &[u8], at: usize) -> bool
         return true;
     }
     alerts_text::blob::road_alert(text, &s[a..b], &s[c..e], &s[f..g])
+}
+
+fn road_word(road: bool) -> u32
+    ensures { λ r. ⌜ r ≡ roadWord road ⌝ }
+{
+    if road { 2 } else { 1 }
+}
+
+// The same, asked once; `words` is what is known of the alert.
+pub fn road_known(text: &mut [u8], words: &mut [u32], s: &[u8], at: usize) -> bool
+    requires { ⌜ length (now words) ≡ 3 ⌝ }
+    ensures { λ r. ⌜ RoadKnown (now (s .entry)) at r (now (text .entry)) (now (text .exit)) (now (words .entry))
+        (now (words .exit)) ⌝ }
+{
+    if words[0] == 1 {
+        return false;
+    }
+    if words[0] == 2 {
+        return true;
+    }
+    let r = road_alert(text, s, at);
+    words[0] = road_word(r);
+    r
 }

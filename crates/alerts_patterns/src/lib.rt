@@ -201,18 +201,34 @@ pub fn skip(s: &[u8], i: usize, before: &[u8], name: &[u8]) -> usize
     seek(s, i, before[0], before.len(), name[0])
 }
 
+// A place from i on before which the three parts don't stand: by the first byte of the first and of the last, where
+// both have one. What stands between is a line's name, which a text may have at many places.
+fn skip_around(s: &[u8], i: usize, before: &[u8], name: &[u8], after: &[u8]) -> usize
+    requires { ⌜ i ≤ length (now s) ⌝ }
+    ensures { λ r. ⌜ Skips (now (before .entry) ++ now (name .entry) ++ now (after .entry)) (now (s .entry)) i r ⌝ }
+{
+    if before.len() == 0 {
+        return skip(s, i, before, name);
+    }
+    if after.len() == 0 {
+        return skip(s, i, before, name);
+    }
+    let d = before.len() + name.len();
+    seek(s, i, before[0], d, after[0])
+}
+
 // Where the three parts first stand in s.
 pub fn find_around(s: &[u8], before: &[u8], name: &[u8], after: &[u8]) -> Found
     ensures { λ r. ⌜ r ≡
         foundOf (find (now (before .entry) ++ now (name .entry) ++ now (after .entry)) (now (s .entry))) ⌝ }
 {
-    let mut i = skip(s, 0, before, name);
+    let mut i = skip_around(s, 0, before, name, after);
     while i < s.len() {
         if around_at(s, i, before, name, after) {
             return Found::At(i);
         }
         let from = i + 1;
-        i = skip(s, from, before, name);
+        i = skip_around(s, from, before, name, after);
     }
     if around_at(s, i, before, name, after) {
         return Found::At(i);

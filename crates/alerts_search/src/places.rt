@@ -24,7 +24,7 @@ pub fn note_alerts(s: &[u8], at: usize, places: &mut [u32]) -> usize
     let mut i = 0;
     while 0 < left {
         note(places, i, p);
-        p = overlay_skip::past_alert(s, p);
+        p = alerts_skip::past_alert(s, p);
         i += 1;
         left -= 1;
     }

@@ -7,16 +7,22 @@ use Prim.Native.Nat.{ℕ, zero, suc, _+_, _-_, _≤_, _<_}
 use native.Mathlib.Numerals.{add-one}
 use native.Mathlib.Omega.{arith}
 use lib.Dec.{leb, eqb}
-use lib.ListN.{length, getD, take, drop, set, length-set, length-append, length-map, drop-of-length-le}
+use lib.ListN.{length, getD, take, drop, set, replicate, length-set, length-append, length-map, drop-of-length-le}
 use lib.ListN.{take-append-drop}
 use lib.Seq.{drop-cons, take-suc-set, take-append-seam, take-at, drop-at, length-take-le}
 use borrow.Author.Tests.{le-leb, lt-leb, leb-true, eq-eqb, ne-eqb, eqb-true, eqb-false, not-true, not-false}
 use Rattle.basics.specs.laws.Options.{none-some}
 use Rattle.basics.specs.Lists.{all, member}
 use Rattle.alerts.specs.Text.{text, upperByte, upper}
-use Rattle.alerts.specs.Applies.{accents, plainLetter, unaccented, folded, fold-alert-blob, commercial-lines-in-text}
-use Rattle.alerts.specs.promises.Reduced.{textOk, road}
-use Rattle.alerts_text.specs.promises.Blob.{letterOf, searched, Stepped, Written, Answered, okAt, fitsOf, roadOf}
+use Rattle.alerts.specs.Applies.{accents, plainLetter, unaccented, folded, fold-alert-blob}
+use Rattle.alerts.specs.promises.Reduced.{road}
+use Rattle.alerts_lines.specs.promises.Lines.{namedOf, IsLine}
+use Rattle.alerts_lines.specs.promises.Marks.{Lines, Marked}
+use Rattle.alerts_lines.specs.laws.Choosing.{lines-fresh}
+use Rattle.alerts_text.specs.promises.Blob.{letterOf, searched, Stepped, Written, Answered, fitsOf, roadOf}
+use Rattle.alerts_text.specs.promises.Marked.{okFor, blobOf, Roomy, Settles, MarkedOk, NamedFits}
+use Rattle.alerts_text.specs.promises.Marked.{FirstFits, SettlesName}
+use Rattle.alerts_text.specs.declared.lines.Settled.{Settled}
 use Rattle.basics.specs.laws.Booleans.{and-true}
 
 -- capitals
@@ -257,17 +263,21 @@ fits-empty old h d [] e = record { kept = refl; is = refl }
 fits-empty old h d (b ∷ short) e = absurd (omega (arith, e))
 
 -- the short name stands behind the folded texts
-pub short-room : (old one h d short : List ℕ) (n : ℕ) → length h + length d + length short < length old
-    → Written old one 0 (h ++ (32 ∷ d)) true n → n + length short ≤ length one
-short-room old one h d short n room b = omega (arith, b .within, b .kept, length-append h (32 ∷ d))
+module _ {old one h d short : List ℕ} {n : ℕ} (room : Roomy h d short old)
+    (b : Written old one 0 (h ++ (32 ∷ d)) true n) where
+  pub short-room : n + length short ≤ length one
+  short-room = omega (arith, room .fits, b .within, b .kept, length-append h (32 ∷ d))
 
-module _ (old one two h d short : List ℕ) (n e : ℕ) (room : length h + length d + length short < length old)
+  pub marks-room : n ≤ length one
+  marks-room = omega (arith, short-room)
+
+module _ {old one two h d short : List ℕ} {n e : ℕ} (room : Roomy h d short old)
     (b : Written old one 0 (h ++ (32 ∷ d)) true n) (w : Written one two n short false e) where
   size : length (h ++ (32 ∷ d)) ≡ length h + 1 + length d
   size = omega (arith, length-append h (32 ∷ d))
 
   front : length (take n one) ≡ n
-  front = length-take-le n one (omega (arith, b .within, b .kept, size))
+  front = length-take-le n one (omega (arith, room .fits, b .within, b .kept, size))
 
   name-ends : e ≡ n + length short
   name-ends =
@@ -276,12 +286,15 @@ module _ (old one two h d short : List ℕ) (n e : ℕ) (room : length h + lengt
         ap length (w .made),
         length-append (take n one) (upper short),
         front,
-        length-take-le e two (omega (arith, w .within, w .kept, b .within, b .kept, size)),
+        length-take-le e two (omega (arith, room .fits, w .within, w .kept, b .within, b .kept, size)),
         length-map short upperByte,
       )
 
-  pub name-room : (n ≤ e) × (e ≤ length two)
-  name-room = (omega (arith, name-ends), omega (arith, w .within, w .kept, b .within, b .kept, size))
+  pub name-start : n ≤ e
+  name-start = omega (arith, name-ends)
+
+  pub name-room : e ≤ length two
+  name-room = omega (arith, room .fits, w .within, w .kept, b .within, b .kept, size)
 
   whole : two ≡ take n one ++ (upper short ++ drop e two)
   whole = sym (take-append-drop e two) ∙ ap (λ l. l ++ drop e two) (w .made)
@@ -299,14 +312,45 @@ module _ (old one two h d short : List ℕ) (n e : ℕ) (room : length h + lengt
       ap (take n) whole ∙ take-at (take n one) (upper short ++ drop e two) n front ∙ b .made
       ∙ ap fold-alert-blob (sym (append-assoc h (32 ∷ []) d))
 
-  pub fits-text : (t : Bool) → (length short ≡ 0 → ⊥) → t ≡ okAt two n e → Answered old two t (fitsOf h d short)
-  fits-text t z x = record { kept = w .kept ∙ b .kept; is = x ∙ rw (name-stands, blob-stands) (go short z) }
-    where
-      go : (s : List ℕ) → (length s ≡ 0 → ⊥)
-          → textOk (fold-alert-blob (h ++ text " " ++ d))
-          (commercial-lines-in-text (fold-alert-blob (h ++ text " " ++ d))) (upper s) ≡ fitsOf h d s
-      go [] z = absurd (z refl)
-      go (b ∷ s) z = refl
+  pub named-fits : {named : List ℕ} {t : Bool} → MarkedOk (take n two) named (take (e - n) (drop n two)) t
+      → NamedFits named h d short t old two
+  named-fits M = record {
+    kept = w .kept ∙ b .kept;
+    is = λ N. (rw (name-stands, blob-stands) at M) .is N;
+  }
+
+  front-kept : take n two ≡ take n one
+  front-kept = ap (take n) whole ∙ take-at (take n one) (upper short ++ drop e two) n front
+
+  pub first-fits : {before named : List ℕ} {t : Bool} → length named ≡ length before
+      → Marked (namedOf (take n one)) before named
+      → MarkedOk (take n two) named (take (e - n) (drop n two)) t → FirstFits h d short t old two before named
+  first-fits {before} {named} k M O =
+      let F = named-fits O in
+      let blob : take n one ≡ blobOf h d = sym front-kept ∙ blob-stands in
+      let lines : before ≡ replicate 32 0 → Lines (namedOf (blobOf h d)) named =
+      λ z. lines-fresh (namedOf (blobOf h d)) named (rw (blob, z) at M) in
+      record { kept = F .kept; marks = k; is = λ z. F .is (lines z); lines = lines }
+
+pub fits-first : (old new h d short after : List ℕ) (t : Bool) → (length short ≡ 0 → ⊥)
+    → FirstFits h d short t old new (replicate 32 0) after → Answered old new t (fitsOf h d short)
+fits-first old new h d short after t z F = record { kept = F .kept; is = F .is refl ∙ go short z }
+  where
+    go : (s : List ℕ) → (length s ≡ 0 → ⊥) → okFor (blobOf h d) (upper s) ≡ fitsOf h d s
+    go [] z = absurd (z refl)
+    go (b ∷ s) z = refl
+
+-- a short name in capitals at the front
+pub settle-room : (old one short : List ℕ) (e : ℕ) → length short ≤ length old → Written old one 0 short false e
+    → e ≤ length one
+settle-room old one short e room w = omega (arith, w .within, w .kept)
+
+pub settles-name : (old one short named : List ℕ) (e own : ℕ) (r : Settled) → Written old one 0 short false e
+    → IsLine (take e one) own → Settles named own r → SettlesName named short r old one
+settles-name old one short named e own r w O S = record {
+  kept = w .kept;
+  is = λ s N. S .is s N (rw (w .made) at O);
+}
 
 -- the three texts of the road test
 module _ (old one h d c : List ℕ) (a : ℕ) (room : length h + length d + length c + 1 < length old)

@@ -6,7 +6,7 @@ use mathlib.Core.Bool.{Bool, true, false, cond, not, _&&_, _||_}
 use Prim.Native.Nat.{ℕ, suc, _+_, _-_, _≤_, _<_}
 use native.Mathlib.Omega.{arith}
 use lib.Dec.{leb}
-use lib.ListN.{length, take, drop, length-append, length-drop}
+use lib.ListN.{length, take, drop, replicate, length-append, length-drop}
 use lib.Seq.{take-all, length-take-le}
 use borrow.Author.Tests.{le-leb, lt-leb, leb-true, leb-false, not-true, not-false}
 use Rattle.basics.specs.laws.Options.{none-some}
@@ -21,11 +21,14 @@ use Rattle.alerts_patterns.specs.promises.Found.{foundOf}
 use Rattle.alerts_patterns.specs.declared.Found.{Found}
 use Rattle.alerts_patterns.specs.declared.Found.the-variants.{At, Nowhere}
 use Rattle.alerts_patterns.specs.laws.Patterns.{filled-none, filled-here, tail-whole}
-use Rattle.alerts_lines.specs.promises.Lines.{allLines, IsLine, mentions, namedOf, otherSubject}
-use Rattle.alerts_lines.specs.promises.Marks.{Lines, anyFrom, picks}
-use Rattle.alerts_lines.specs.declared.Pick.the-variants.{Named, Own, Another}
-use Rattle.alerts_lines.specs.laws.Choosing.{named-lines, own-lines, other-lines}
+use Rattle.alerts_lines.specs.promises.Lines.{allLines, IsLine, mentions, namedOf, subjectOf, otherSubject}
+use Rattle.alerts_lines.specs.promises.Marks.{Lines, Marked, anyFrom, picks}
+use Rattle.alerts_lines.specs.declared.Pick.the-variants.{Named, Own, Another, Subject}
+use Rattle.alerts_lines.specs.laws.Choosing.{named-lines, own-lines, other-lines, subject-lines}
 use Rattle.alerts_text.specs.promises.Tables.{lesser, nearMarker, answerOf}
+use Rattle.alerts_text.specs.promises.Marked.{okFor, notAdvised, Others, Settles, Opened, MarkedOk}
+use Rattle.alerts_text.specs.declared.lines.Settled.{Settled}
+use Rattle.alerts_text.specs.declared.lines.Settled.the-variants.{Right, Wrong, Open}
 use Rattle.alerts_text.specs.declared.lines.Ask.{Ask}
 use Rattle.alerts_text.specs.declared.lines.Ask.the-variants as ask
 use Rattle.basics.specs.laws.Lists.{any-append, any-same, any-implies}
@@ -246,52 +249,76 @@ module _ (s u : List ℕ) where
       (λ x. not (any (mentions s) allLines) || x && not (secondary s u && any (otherSubject s u) allLines))
       (sym (own-line s u allLines))
 
--- the answers, in the order in which they are asked
-module _ (s u named subject : List ℕ) (own : ℕ) (N : Lines (namedOf s) named) (O : IsLine u own) (n : Bool)
-    (hn : n ≡ anyFrom 0 32 (picks Named named subject own)) where
-  n-is : any (mentions s) allLines ≡ n
-  n-is = sym (named-lines s u named subject own N O n hn)
+-- what the named lines say
+module _ (s u named : List ℕ) (own : ℕ) (N : Lines (namedOf s) named) (O : IsLine u own) where
+  as-named : (n : Bool) → n ≡ anyFrom 0 32 (picks Named named named own) → any (mentions s) allLines ≡ n
+  as-named n hn = sym (named-lines s u named named own N O n hn)
 
-  pub ok-none : not n ≡ true → true ≡ textOk s (commercial-lines-in-text s) u
-  ok-none h = sym (text-marked s u ∙ rw (n-is, not-true n h) refl)
+  as-own : (o : Bool) → o ≡ anyFrom 0 32 (picks Own named named own)
+      → any (λ m. mentions s m && same m u) allLines ≡ o
+  as-own o ho = sym (own-lines s u named named own N O o ho)
 
-  module _ (some : not n ≡ false) (o : Bool) (ho : o ≡ anyFrom 0 32 (picks Own named subject own)) where
-    o-is : any (λ m. mentions s m && same m u) allLines ≡ o
-    o-is = sym (own-lines s u named subject own N O o ho)
+  alone : (a : Bool) → a ≡ anyFrom 0 32 (picks Another named named own) → a ≡ false
+      → any (otherSubject s u) allLines ≡ false
+  alone a ha h =
+      implied-false (any (otherSubject s u) allLines) a
+      (λ e. other-lines s u named named own N O a ha
+      ∙ any-implies (otherSubject s u) (λ m. mentions s m && not (same m u)) weaker allLines e) h
+    where
+      weaker : (m : List ℕ) → otherSubject s u m ≡ true → mentions s m && not (same m u) ≡ true
+      weaker m e =
+          let h = and-true {x = mentions s m} e in
+          let g = and-true {x = not (same m u)} (h .1) in
+          rw (h .0, g .0) refl
 
-    pub ok-unnamed : not o ≡ true → false ≡ textOk s (commercial-lines-in-text s) u
-    ok-unnamed h = sym (text-marked s u ∙ rw (n-is, not-false n some, o-is, not-true o h) refl)
+module _ (named : List ℕ) (own : ℕ) (n : Bool) (hn : n ≡ anyFrom 0 32 (picks Named named named own)) where
+  pub settle-none : not n ≡ true → Settles named own Right
+  settle-none h = record { is = λ s {u} N O. text-marked s u ∙ rw (as-named s u named own N O n hn, not-true n h) refl }
 
-    module _ (mine : not o ≡ false) (a : Bool) (ha : a ≡ anyFrom 0 32 (picks Another named subject own)) where
-      pub ok-alone : not a ≡ true → true ≡ textOk s (commercial-lines-in-text s) u
-      ok-alone h =
-          sym (text-marked s u
-          ∙ rw (n-is, not-false n some, o-is, not-false o mine, alone, and-no (secondary s u)) refl)
-        where
-          weaker : (m : List ℕ) → otherSubject s u m ≡ true → mentions s m && not (same m u) ≡ true
-          weaker m e =
-              let h = and-true {x = mentions s m} e in
-              let g = and-true {x = not (same m u)} (h .1) in
-              rw (h .0, g .0) refl
+  module _ (some : not n ≡ false) (o : Bool) (ho : o ≡ anyFrom 0 32 (picks Own named named own)) where
+    pub settle-unnamed : not o ≡ true → Settles named own Wrong
+    settle-unnamed h = record {
+      is = λ s {u} N O.
+          text-marked s u
+          ∙ rw (as-named s u named own N O n hn, not-false n some, as-own s u named own N O o ho, not-true o h) refl;
+    }
 
-          alone : any (otherSubject s u) allLines ≡ false
-          alone =
-              implied-false (any (otherSubject s u) allLines) a
-              (λ e. other-lines s u named subject own N O a ha
-              ∙ any-implies (otherSubject s u) (λ m. mentions s m && not (same m u)) weaker allLines e)
-              (not-true a h)
+    open-is : not o ≡ false → (s u : List ℕ) → Lines (namedOf s) named → IsLine u own → okFor s u ≡ notAdvised s u
+    open-is mine s u N O =
+        text-marked s u
+        ∙ rw (as-named s u named own N O n hn, not-false n some, as-own s u named own N O o ho, not-false o mine) refl
 
-      module _ (another : not a ≡ false) (x : Bool) (hx : x ≡ secondary s u) where
-        pub ok-first : not x ≡ true → true ≡ textOk s (commercial-lines-in-text s) u
-        ok-first h =
-            sym (text-marked s u
-            ∙ rw (n-is, not-false n some, o-is, not-false o mine, ← hx, not-true x h) refl)
+    module _ (mine : not o ≡ false) (a : Bool) (ha : a ≡ anyFrom 0 32 (picks Another named named own)) where
+      pub settle-alone : not a ≡ true → Settles named own Right
+      settle-alone h = record {
+        is = λ s {u} N O.
+            open-is mine s u N O ∙ rw (alone s u named own N O a ha (not-true a h), and-no (secondary s u)) refl;
+      }
 
-        pub ok-last : not x ≡ false → (y : Bool) → y ≡ any (otherSubject s u) allLines
-            → not y ≡ textOk s (commercial-lines-in-text s) u
-        ok-last h y hy =
-            sym (text-marked s u
-            ∙ rw (n-is, not-false n some, o-is, not-false o mine, ← hx, not-false x h, ← hy) refl)
+      pub settle-open : not a ≡ false → Settles named own Open
+      settle-open h = record { is = λ s {u} N O. open-is mine s u N O }
+
+-- whether the text names the line as advice and is about another
+module _ (s named u : List ℕ) (own : ℕ) (x : Bool) (hx : x ≡ secondary s u) where
+  pub opened-first : not x ≡ true → Opened s named u own true
+  opened-first h = record { is = λ N O. sym (rw (← hx, not-true x h) refl) }
+
+  pub opened-last : not x ≡ false → (y : Bool) → Others s named own y → Opened s named u own (not y)
+  opened-last h y Y = record { is = λ N O. sym (rw (← hx, not-false x h, ← Y .is N O) refl) }
+
+pub others : (s named subject : List ℕ) (own : ℕ) (r : Bool) → Marked (subjectOf s) (replicate 32 0) subject
+    → r ≡ anyFrom 0 32 (picks Subject named subject own) → Others s named own r
+others s named subject own r P e = record { is = λ {u} N O. subject-lines s u named subject own N O r P e }
+
+module _ (s named u : List ℕ) (own : ℕ) (O : IsLine u own) (w : Settled) (S : Settles named own w) where
+  pub ok-right : w ≡ Right → MarkedOk s named u true
+  ok-right e = record { is = λ N. sym (S .is s N O ∙ rw e refl) }
+
+  pub ok-wrong : w ≡ Wrong → MarkedOk s named u false
+  ok-wrong e = record { is = λ N. sym (S .is s N O ∙ rw e refl) }
+
+  pub ok-open : w ≡ Open → (r : Bool) → Opened s named u own r → MarkedOk s named u r
+  ok-open e r A = record { is = λ N. A .is N O ∙ sym (S .is s N O ∙ rw e refl) }
 
 -- road traffic
 module _ (s : List ℕ) (t : Bool) (ht : t ≡ anyIn (text "TRAFIC ROUTIER") s s) where

@@ -1,1 +1,2 @@
 pub mod Blob
+pub mod Word

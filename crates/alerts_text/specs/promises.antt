@@ -1,2 +1,4 @@
 pub mod Blob
+pub mod Word
 pub mod Tables
+pub mod Marked

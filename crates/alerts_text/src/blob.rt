@@ -1,13 +1,17 @@
 // The texts of an alert as they are searched: in capitals, and with accents folded, written one after the other into
 // a lent buffer.
+use crate::lines::Settled;
 ghost use mathlib.Core.Path.{_≡_};
-ghost use Prim.Native.Nat.{_+_, _<_, _≤_};
-ghost use lib.ListN.{length, getD, take};
+ghost use Prim.Native.Nat.{_+_, _-_, _<_, _≤_};
+ghost use lib.ListN.{length, getD, take, drop};
 ghost use mathlib.Core.List.{_∷_, _++_};
 ghost use Rattle.alerts.specs.promises.Reduced.{road};
 ghost use Rattle.alerts.specs.Text.{upperByte};
 ghost use Rattle.alerts.specs.Applies.{unaccented};
-ghost use Rattle.alerts_text.specs.promises.Blob.{letterOf, Stepped, Written, Answered, okAt, fitsOf, roadOf};
+ghost use Rattle.alerts_lines.specs.promises.Lines.{namedOf, IsLine};
+ghost use Rattle.alerts_lines.specs.promises.Marks.{Marked};
+ghost use Rattle.alerts_text.specs.promises.Blob.{letterOf, Stepped, Written, Answered, fitsOf, roadOf};
+ghost use Rattle.alerts_text.specs.promises.Marked.{Roomy, MarkedOk, NamedFits, FirstFits, SettlesName};
 
 // What a place of a text gives: a byte, and the next place.
 pub struct Step {
@@ -179,12 +183,74 @@ pub fn write_both(out: &mut [u8], s: &[u8], t: &[u8], fold: bool) -> usize
     write_next(out, a, t, fold)
 }
 
-// Whether the folded text that ends at n may be about the line whose name ends at e.
-fn text_ok_at(s: &[u8], n: usize, e: usize) -> bool
-    requires { ⌜ (n ≤ e) × (e ≤ length (now s)) ⌝ }
-    ensures { λ r. ⌜ r ≡ okAt (now (s .entry)) n e ⌝ }
+// Marks the lines that the folded text which ends at n names.
+fn mark_folded(named: &mut [u8], s: &[u8], n: usize)
+    requires { ⌜ (length (now named) ≡ 32) × (n ≤ length (now s)) ⌝ }
+    ensures { λ _. ⌜ Marked (namedOf (take n (now (s .entry)))) (now (named .entry)) (now (named .exit)) ⌝ }
 {
-    crate::lines::text_ok(&s[..n], &s[n..e])
+    alerts_lines::mark_named(named, &s[..n]);
+}
+
+// Whether the folded text that ends at n may be about the line whose name ends at e.
+fn ok_at(s: &[u8], n: usize, e: usize, named: &[u8]) -> bool
+    requires { ⌜ (length (now named) ≡ 32) × (n ≤ e) × (e ≤ length (now s)) ⌝ }
+    ensures { λ r. ⌜ MarkedOk (take n (now (s .entry))) (now (named .entry))
+        (take (e - n) (drop n (now (s .entry)))) r ⌝ }
+{
+    crate::lines::marked_ok(&s[..n], named, &s[n..e])
+}
+
+// Whether the alert's texts, which name the marked lines, may be about the line; out is what they are folded into.
+pub fn named_fits(
+    out: &mut [u8],
+    named: &[u8],
+    header: &[u8],
+    description: &[u8],
+    short: &[u8],
+) -> bool
+    requires { ⌜ (length (now named) ≡ 32) × Roomy (now header) (now description) (now short) (now out) ⌝ }
+    ensures { λ r. ⌜ NamedFits (now (named .entry)) (now (header .entry)) (now (description .entry))
+        (now (short .entry)) r (now (out .entry)) (now (out .exit)) ⌝ }
+{
+    let n = write_both(out, header, description, true);
+    let e = write(out, n, short, false);
+    ok_at(out, n, e, named)
+}
+
+// The same where the lines are yet to be marked.
+pub fn first_fits(
+    out: &mut [u8],
+    named: &mut [u8],
+    header: &[u8],
+    description: &[u8],
+    short: &[u8],
+) -> bool
+    requires { ⌜ (length (now named) ≡ 32) × Roomy (now header) (now description) (now short) (now out) ⌝ }
+    ensures { λ r. ⌜ FirstFits (now (header .entry)) (now (description .entry)) (now (short .entry)) r
+        (now (out .entry)) (now (out .exit)) (now (named .entry)) (now (named .exit)) ⌝ }
+{
+    let n = write_both(out, header, description, true);
+    mark_folded(named, out, n);
+    let e = write(out, n, short, false);
+    ok_at(out, n, e, named)
+}
+
+// The line that a text in capitals names, which ends at e.
+fn own_at(s: &[u8], e: usize) -> usize
+    requires { ⌜ e ≤ length (now s) ⌝ }
+    ensures { λ r. ⌜ IsLine (take e (now (s .entry))) r ⌝ }
+{
+    alerts_lines::line_of(&s[..e])
+}
+
+// What the named lines say of the line; out is what its name is written into.
+pub fn settle_name(out: &mut [u8], named: &[u8], short: &[u8]) -> Settled
+    requires { ⌜ (length (now named) ≡ 32) × (length (now short) ≤ length (now out)) ⌝ }
+    ensures { λ r. ⌜ SettlesName (now (named .entry)) (now (short .entry)) r (now (out .entry)) (now (out .exit)) ⌝ }
+{
+    let e = write(out, 0, short, false);
+    let own = own_at(out, e);
+    crate::lines::settle(named, own)
 }
 
 // Whether the alert's texts may be about the line; out is what they are folded into.
@@ -196,9 +262,8 @@ pub fn text_fits(out: &mut [u8], header: &[u8], description: &[u8], short: &[u8]
     if short.len() == 0 {
         return true;
     }
-    let n = write_both(out, header, description, true);
-    let e = write(out, n, short, false);
-    text_ok_at(out, n, e)
+    let mut named = [0u8; 32];
+    first_fits(out, &mut named, header, description, short)
 }
 
 fn road_at(s: &[u8], n: usize) -> bool

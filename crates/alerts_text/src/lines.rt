@@ -4,12 +4,11 @@ ghost use Prim.Native.Nat.{_+_, _-_, _≤_};
 ghost use lib.ListN.{length};
 ghost use Rattle.basics.specs.Lists.{any};
 ghost use Rattle.basics.specs.Texts.{same};
-ghost use Rattle.alerts.specs.Applies.{commercial-lines-in-text, anyMarker, window, railModes};
-ghost use Rattle.alerts.specs.promises.Reduced.{adviceMarkers, secondary, textOk, road};
+ghost use Rattle.alerts.specs.Applies.{anyMarker, window, railModes};
+ghost use Rattle.alerts.specs.promises.Reduced.{adviceMarkers, secondary, road};
 ghost use Rattle.alerts_patterns.specs.promises.Tables.{nameFilled, patterns};
-ghost use Rattle.alerts_lines.specs.promises.Lines.{namedOf, allLines, otherSubject, IsLine};
-ghost use Rattle.alerts_lines.specs.promises.Marks.{Lines};
 ghost use Rattle.alerts_text.specs.promises.Tables.{lesser, nearMarker, answerOf};
+ghost use Rattle.alerts_text.specs.promises.Marked.{Others, Settles, Opened, MarkedOk};
 
 // What is asked of each piece of a table.
 pub enum Ask {
@@ -124,43 +123,63 @@ fn secondary(s: &[u8], name: &[u8]) -> bool
 }
 
 // Whether another line than the one given is named and a subject.
-fn other_subject(s: &[u8], named: &[u8], name: &[u8], own: usize) -> bool
-    requires { ⌜ (length (now named) ≡ 32) × Lines (namedOf (now s)) (now named) × IsLine (now name) own ⌝ }
-    ensures { λ r. ⌜ r ≡ any (otherSubject (now (s .entry)) (now (name .entry))) allLines ⌝ }
+fn other_subject(s: &[u8], named: &[u8], own: usize) -> bool
+    requires { ⌜ length (now named) ≡ 32 ⌝ }
+    ensures { λ r. ⌜ Others (now (s .entry)) (now (named .entry)) own r ⌝ }
 {
     let mut subject = [0u8; 32];
     alerts_lines::mark_subjects(&mut subject, s);
     alerts_lines::any_line(alerts_lines::Pick::Subject, named, &subject, own)
 }
 
-// Whether a folded text that names the marked lines may be about the line.
-pub fn marked_ok(s: &[u8], named: &[u8], name: &[u8]) -> bool
-    requires { ⌜ (length (now named) ≡ 32) × Lines (namedOf (now s)) (now named) ⌝ }
-    ensures { λ r. ⌜ r ≡ textOk (now (s .entry)) (commercial-lines-in-text (now (s .entry))) (now (name .entry)) ⌝ }
+// What the lines that a text names say of one line, before the text is read.
+pub enum Settled {
+    // The text may be about it.
+    Right,
+    // It is about others.
+    Wrong,
+    // It names others too.
+    Open,
+}
+
+pub fn settle(named: &[u8], own: usize) -> Settled
+    requires { ⌜ length (now named) ≡ 32 ⌝ }
+    ensures { λ r. ⌜ Settles (now (named .entry)) own r ⌝ }
 {
-    let own = alerts_lines::line_of(name);
     if !alerts_lines::any_line(alerts_lines::Pick::Named, named, named, own) {
-        return true;
+        return Settled::Right;
     }
     if !alerts_lines::any_line(alerts_lines::Pick::Own, named, named, own) {
-        return false;
+        return Settled::Wrong;
     }
     if !alerts_lines::any_line(alerts_lines::Pick::Another, named, named, own) {
-        return true;
+        return Settled::Right;
     }
+    Settled::Open
+}
+
+// Whether a folded text that names the line and others may be about it.
+fn not_advised(s: &[u8], named: &[u8], name: &[u8], own: usize) -> bool
+    requires { ⌜ length (now named) ≡ 32 ⌝ }
+    ensures { λ r. ⌜ Opened (now (s .entry)) (now (named .entry)) (now (name .entry)) own r ⌝ }
+{
     if !secondary(s, name) {
         return true;
     }
-    !other_subject(s, named, name, own)
+    !other_subject(s, named, own)
 }
 
-// Whether a folded text may be about the line.
-pub fn text_ok(s: &[u8], name: &[u8]) -> bool
-    ensures { λ r. ⌜ r ≡ textOk (now (s .entry)) (commercial-lines-in-text (now (s .entry))) (now (name .entry)) ⌝ }
+// Whether a folded text that names the marked lines may be about the line.
+pub fn marked_ok(s: &[u8], named: &[u8], name: &[u8]) -> bool
+    requires { ⌜ length (now named) ≡ 32 ⌝ }
+    ensures { λ r. ⌜ MarkedOk (now (s .entry)) (now (named .entry)) (now (name .entry)) r ⌝ }
 {
-    let mut named = [0u8; 32];
-    alerts_lines::mark_named(&mut named, s);
-    marked_ok(s, &named, name)
+    let own = alerts_lines::line_of(name);
+    match settle(named, own) {
+        Settled::Right => true,
+        Settled::Wrong => false,
+        Settled::Open => not_advised(s, named, name, own),
+    }
 }
 
 // Whether a text in capitals is about road traffic.

@@ -48,7 +48,7 @@ pub fn read_parts(s: &[u8], at: usize) -> Parts
     let trips = n.next;
     let vehicles = decode_skip::past_trips(s, trips);
     let alerts = overlay_skip::past_vehicles(s, vehicles);
-    let end = overlay_skip::past_alerts(s, alerts);
+    let end = alerts_skip::past_alerts(s, alerts);
     Parts {
         timestamp,
         counted,

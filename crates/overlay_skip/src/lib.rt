@@ -1,7 +1,6 @@
 // Quick passes over the parts of an overlay, as formats_skip has them over leaves.
 ghost use Rattle.formats.specs.Format.{list};
 ghost use Rattle.formats_skip.specs.promises.Passes.{Passes, Leads};
-ghost use Rattle.alerts.specs.Alert.{alert};
 ghost use Rattle.overlay.specs.State.{vehicle, vehicleEntry, feed, feedEntry};
 
 pub fn past_vehicle(s: &[u8], at: usize) -> usize
@@ -34,30 +33,6 @@ pub fn past_vehicles(s: &[u8], at: usize) -> usize
     p
 }
 
-pub fn past_alert(s: &[u8], at: usize) -> usize
-    ensures { λ r. ⌜ Passes alert (now (s .entry)) at r ⌝ }
-{
-    let a = formats_skip::past_optional_text(s, at);
-    let b = formats_skip::past_optional_text(s, a);
-    let c = formats_skip::past_optional_text(s, b);
-    let d = formats_skip::past_texts(s, c);
-    let e = formats_skip::past_texts(s, d);
-    formats_skip::past_texts(s, e)
-}
-
-pub fn past_alerts(s: &[u8], at: usize) -> usize
-    ensures { λ r. ⌜ Passes (list 256 alert) (now (s .entry)) at r ⌝ }
-{
-    let n = formats_read::number(s, at);
-    let mut p = n.next;
-    let mut left = n.value;
-    while 0 < left {
-        p = past_alert(s, p);
-        left -= 1;
-    }
-    p
-}
-
 // The place of a feed's trips, in front of which stand its timestamp and its count.
 pub fn trips_place(s: &[u8], at: usize) -> usize
     ensures { λ r. ⌜ Leads 2 feed (now (s .entry)) at r ⌝ }
@@ -74,7 +49,7 @@ pub fn past_feed(s: &[u8], at: usize) -> usize
     let b = formats_skip::past_number(s, a);
     let c = decode_skip::past_trips(s, b);
     let d = past_vehicles(s, c);
-    past_alerts(s, d)
+    alerts_skip::past_alerts(s, d)
 }
 
 // A feed with its id in front.

@@ -6,19 +6,20 @@ use mathlib.Core.Bool.{Bool, true, false, cond, not, _&&_, _||_}
 use Prim.Native.Nat.{ℕ}
 use native.Mathlib.Omega.{arith}
 use lib.Dec.{eqb}
-use lib.ListN.{length}
+use lib.ListN.{length, replicate}
 use borrow.Author.Tests.{eq-eqb, ne-eqb, not-true, not-false}
 use Rattle.basics.specs.Lists.{any, isEmpty}
 use Rattle.basics.specs.Texts.{same}
 use Rattle.basics.specs.laws.Lists.{any-none, any-or, any-implies}
 use Rattle.basics.specs.laws.Booleans.{and-yes, and-no, or-assoc, absorb-right, false-true}
+use Rattle.formats_read.specs.promises.Here.{Here}
 use Rattle.formats_skip.specs.promises.Passes.{Leads}
 use Rattle.alerts.specs.Alert.{alert, Alert, informed-route-ids, informed-stop-ids}
 use Rattle.alerts.specs.Text.{sameIgnoringCase, trim}
 use Rattle.alerts.specs.Index.{undated}
 use Rattle.alerts.specs.Applies.{product-code-token, stop-tail, route-refs-match, by-name, by-product}
 use Rattle.alerts.specs.Applies.{route-hit}
-use Rattle.alerts.specs.Applies.{roadBlob, is-rail-like-mode}
+use Rattle.alerts.specs.Applies.{roadBlob, is-rail-like-mode, alert-applies-to-leg-with-mode}
 use Rattle.alerts.specs.promises.Reduced.{hitsTrip, hitsStop, hitsRoute, textFits, road}
 use Rattle.alerts.specs.laws.ProductCodes.{product-code-never-decides}
 use Rattle.alerts.specs.laws.Implied.{applies-reduced}
@@ -26,8 +27,9 @@ use Rattle.alerts_search.specs.declared.ids.Ask.the-variants.{HitsTrip, HitsRou
 use Rattle.alerts_search.specs.promises.Ids.{hitsStopId, hitsRouteId, Asked}
 use Rattle.alerts_search.specs.laws.Candidates.{in-trips, in-routes, in-stops}
 use Rattle.alerts_apply.specs.declared.hits.Hit.{Hit}
-use Rattle.alerts_apply.specs.promises.Texts.{Fits, Road}
-use Rattle.alerts_apply.specs.promises.Hits.{unless, HitBy, hitAny, Clear, Told, Decided, Applied}
+use Rattle.alerts_apply.specs.promises.Words.{Says, WordsSay, Fits, RoadKnown}
+use Rattle.alerts_apply.specs.promises.Hits.{unless, HitBy, hitAny, toldOf, decidedOf, Clear, Told, Decided}
+use Rattle.alerts_apply.specs.promises.Hits.{DecidedNew, Applied}
 
 -- ---- a list of ids
 
@@ -124,47 +126,60 @@ hit-by {trip} {route} {short} {from} {to} {base} L e T R U f =
 
 -- ---- whether the alert applies
 
-module _ {s : List ℕ} {p : ℕ} {mode old : List ℕ} {t : Bool} (e : t ≡ is-rail-like-mode mode) where
-  pub clear-mode : not t ≡ true → Clear s p mode true old old
+module _ {s : List ℕ} {p : ℕ} {mode old w : List ℕ} {t : Bool} (e : t ≡ is-rail-like-mode mode) where
+  pub clear-mode : not t ≡ true → Clear s p mode true old old w w
   clear-mode f = record {
     kept = refl;
-    is = λ {a} h l. clear (is-rail-like-mode mode) (road (roadBlob a)) (sym e ∙ not-true t f);
+    words = refl;
+    says = λ S. S;
+    is = λ S {a} h l. clear (is-rail-like-mode mode) (road (roadBlob a)) (sym e ∙ not-true t f);
   }
     where
       clear : (x y : Bool) → x ≡ false → true ≡ not (x && y)
       clear x y g = rw g refl
 
-  pub clear-road : {r : Bool} {new : List ℕ} → not t ≡ false → Road s p r old new → Clear s p mode (not r) old new
+  pub clear-road : {r : Bool} {new w′ : List ℕ} → not t ≡ false → RoadKnown s p r old new w w′
+      → Clear s p mode (not r) old new w w′
   clear-road {r} f R = record {
     kept = R .kept;
-    is = λ {a} h l. clear (is-rail-like-mode mode) (road (roadBlob a)) (sym e ∙ not-false t f) (R .is h l);
+    words = R .words;
+    says = R .says;
+    is = λ S {a} h l. clear (is-rail-like-mode mode) (road (roadBlob a)) (sym e ∙ not-false t f) (R .is S h l);
   }
     where
       clear : (x y : Bool) → x ≡ true → r ≡ y → not r ≡ not (x && y)
       clear x y g k = rw (g, k) refl
 
-module _ {s : List ℕ} {p : ℕ} {short : List ℕ} {h : Hit} {old : List ℕ} where
-  pub told-trip : h .trip ≡ true → Told s p short h true old old
-  told-trip e = record { kept = refl; is = λ {a} x l. go (textFits a short) }
+module _ {s : List ℕ} {p : ℕ} {short : List ℕ} {h : Hit} {old w : List ℕ} where
+  at-once : {r : Bool} → ((a : Alert) → r ≡ toldOf h a short) → Told s p short h r old old w w
+  at-once e = record { kept = refl; words = refl; says = λ S. S; is = λ S {a} x l. e a }
+
+  pub told-trip : h .trip ≡ true → Told s p short h true old old w w
+  told-trip e = at-once (λ a. go (textFits a short))
     where
       go : (f : Bool) → true ≡ h .trip || h .stop || h .route && f
       go f = rw e refl
 
-  pub told-stop : h .trip ≡ false → h .stop ≡ true → Told s p short h true old old
-  told-stop e g = record { kept = refl; is = λ {a} x l. go (textFits a short) }
+  pub told-stop : h .trip ≡ false → h .stop ≡ true → Told s p short h true old old w w
+  told-stop e g = at-once (λ a. go (textFits a short))
     where
       go : (f : Bool) → true ≡ h .trip || h .stop || h .route && f
       go f = rw (e, g) refl
 
-  pub told-none : h .trip ≡ false → h .stop ≡ false → not (h .route) ≡ true → Told s p short h false old old
-  told-none e g k = record { kept = refl; is = λ {a} x l. go (textFits a short) }
+  pub told-none : h .trip ≡ false → h .stop ≡ false → not (h .route) ≡ true → Told s p short h false old old w w
+  told-none e g k = at-once (λ a. go (textFits a short))
     where
       go : (f : Bool) → false ≡ h .trip || h .stop || h .route && f
       go f = rw (e, g, not-true (h .route) k) refl
 
-  pub told-text : {r : Bool} {new : List ℕ} → h .trip ≡ false → h .stop ≡ false → not (h .route) ≡ false
-      → Fits s p short r old new → Told s p short h r old new
-  told-text {r} e g k F = record { kept = F .kept; is = λ {a} x l. go (textFits a short) (F .is x l) }
+  pub told-text : {r : Bool} {new w′ : List ℕ} → h .trip ≡ false → h .stop ≡ false → not (h .route) ≡ false
+      → Fits s p short r old new w w′ → Told s p short h r old new w w′
+  told-text {r} e g k F = record {
+    kept = F .kept;
+    words = F .words;
+    says = F .says;
+    is = λ S {a} x l. go (textFits a short) (F .is S x l);
+  }
     where
       go : (f : Bool) → r ≡ f → r ≡ h .trip || h .stop || h .route && f
       go f j = rw (e, g, not-false (h .route) k) j
@@ -174,53 +189,78 @@ none-hit true y z f g = false-true (sym g)
 none-hit false true z f g = false-true (sym g)
 none-hit false false z f g = rw g refl
 
-module _ {s : List ℕ} {p : ℕ} {short mode : List ℕ} {h : Hit} {old : List ℕ} {t : Bool} (e : t ≡ hitAny h) where
-  pub decided-none : not t ≡ true → Decided s p short mode h false old old
+module _ {s : List ℕ} {p : ℕ} {short mode : List ℕ} {h : Hit} {old w : List ℕ} {t : Bool} (e : t ≡ hitAny h) where
+  pub decided-none : not t ≡ true → Decided s p short mode h false old old w w
   decided-none f = record {
     kept = refl;
-    is = λ {a} x l. go (not (is-rail-like-mode mode && road (roadBlob a))) (textFits a short);
+    words = refl;
+    says = λ S. S;
+    is = λ S {a} x l. go (not (is-rail-like-mode mode && road (roadBlob a))) (textFits a short);
   }
     where
       go : (n g : Bool) → false ≡ n && (h .trip || h .stop || h .route && g)
       go n g = rw (none-hit (h .trip) (h .stop) (h .route) g (sym e ∙ not-true t f)) (sym (and-no n))
 
-  pub decided-road : {r : Bool} {new : List ℕ} → Clear s p mode r old new → not r ≡ true
-      → Decided s p short mode h false old new
+  pub decided-road : {r : Bool} {new w′ : List ℕ} → Clear s p mode r old new w w′ → not r ≡ true
+      → Decided s p short mode h false old new w w′
   decided-road {r} C f = record {
     kept = C .kept;
-    is = λ {a} x l. go (not (is-rail-like-mode mode && road (roadBlob a))) (textFits a short) (C .is x (l .road));
+    words = C .words;
+    says = C .says;
+    is = λ S {a} x l. go (not (is-rail-like-mode mode && road (roadBlob a))) (textFits a short) (C .is S x (l .road));
   }
     where
       go : (n g : Bool) → r ≡ n → false ≡ n && (h .trip || h .stop || h .route && g)
       go n g k = rw (sym k ∙ not-true r f) refl
 
-  pub decided-told : {r u : Bool} {new text : List ℕ} → Clear s p mode r old new → not r ≡ false
-      → Told s p short h u new text → Decided s p short mode h u old text
-  decided-told {r} {u} {new} C f T = record {
+  pub decided-told : {r u : Bool} {new text w′ w″ : List ℕ} → Clear s p mode r old new w w′ → not r ≡ false
+      → Told s p short h u new text w′ w″ → Decided s p short mode h u old text w w″
+  decided-told {r} {u} {new} {text} {w′} {w″} C f T = record {
     kept = T .kept ∙ C .kept;
-    is = λ {a} x l.
+    words = T .words ∙ C .words;
+    says = λ S. rw (C .kept) at (T .says (now S));
+    is = λ S {a} x l.
         let room = rw (← C .kept) at (l .name) in
-        go (not (is-rail-like-mode mode && road (roadBlob a))) (textFits a short) (C .is x (l .road)) (T .is x room);
+        go (not (is-rail-like-mode mode && road (roadBlob a))) (textFits a short) (C .is S x (l .road))
+        (T .is (now S) x room);
   }
     where
+      now : WordsSay (length old) s p w → WordsSay (length new) s p w′
+      now S = rw (C .kept) (C .says S)
+
       go : (n g : Bool) → r ≡ n → u ≡ h .trip || h .stop || h .route && g
           → u ≡ n && (h .trip || h .stop || h .route && g)
       go n g k j = rw (sym k ∙ not-false r f) j
 
-pub applied : {trip route short from to mode name s : List ℕ} {p : ℕ} {h : Hit} {r : Bool} {old new : List ℕ}
-    → name ≡ trim short → HitBy trip route name from to s p h → Decided s p name mode h r old new
-    → Applied trip route short from to mode s p r old new
-applied {trip} {route} {short} {from} {to} {mode} {name} {h = h} {r = r} e H D = record {
-  kept = D .kept;
-  is = λ {a} x l.
-      D .is x (rw e l)
-      ∙ joined (h .trip) (h .stop) (h .route) (hitsTrip a trip) (hitsStop a from || hitsStop a to)
+-- nothing is known yet
+pub says-nothing : (n : ℕ) (s : List ℕ) (p m : ℕ) → Says n s p 0 0 m
+says-nothing n s p m = record {
+  not-road = λ h l e. absurd (omega arith);
+  is-road = λ h l e. absurd (omega arith);
+  named = λ h e. absurd (omega arith);
+}
+
+pub decided-new : {s : List ℕ} {p : ℕ} {short mode : List ℕ} {h : Hit} {r : Bool} {old new w′ : List ℕ}
+    → Decided s p short mode h r old new (replicate 3 0) w′ → DecidedNew s p short mode h r old new
+decided-new {s} {p} {old = old} D = record { kept = D .kept; is = D .is (says-nothing (length old) s p 0) }
+
+-- ---- the answer is the rules'
+
+module _ {trip route from to name s : List ℕ} {p : ℕ} {h : Hit} (short mode : List ℕ) (e : name ≡ trim short)
+    (H : HitBy trip route name from to s p h) where
+  pub decided-is : {a : Alert} {q : ℕ} → Here alert s p q a
+      → decidedOf h a name mode ≡ alert-applies-to-leg-with-mode a trip route short from to mode
+  decided-is {a} x =
+      joined (h .trip) (h .stop) (h .route) (hitsTrip a trip) (hitsStop a from || hitsStop a to)
       (hitsRoute a route (trim short)) (not (is-rail-like-mode mode && road (roadBlob a))) (textFits a name)
       (textFits a (trim short)) (H .by-trip x) (H .by-stop x)
       (H .by-route x short e ∙ ap (hitsRoute a route) e) (ap (textFits a) e)
-      ∙ sym (applies-reduced a trip route short from to mode);
-}
-  where
-    joined : (t u v t′ u′ v′ n f f′ : Bool) → t ≡ t′ → u ≡ u′ → v ≡ v′ → f ≡ f′
-        → n && (t || u || v && f) ≡ n && (t′ || u′ || v′ && f′)
-    joined t u v t′ u′ v′ n f f′ a b c d = rw (a, b, c, d) refl
+      ∙ sym (applies-reduced a trip route short from to mode)
+    where
+      joined : (t u v t′ u′ v′ n f f′ : Bool) → t ≡ t′ → u ≡ u′ → v ≡ v′ → f ≡ f′
+          → n && (t || u || v && f) ≡ n && (t′ || u′ || v′ && f′)
+      joined t u v t′ u′ v′ n f f′ a b c d = rw (a, b, c, d) refl
+
+  pub applied : {r : Bool} {old new : List ℕ} → DecidedNew s p name mode h r old new
+      → Applied trip route short from to mode s p r old new
+  applied D = record { kept = D .kept; is = λ {a} x l. D .is x (rw e l) ∙ decided-is x }

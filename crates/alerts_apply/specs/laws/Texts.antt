@@ -21,9 +21,10 @@ use Rattle.formats_skip.specs.laws.Leads.{lead-field, lead-here, lead-optional-
 use Rattle.alerts.specs.Alert.{alert, Alert, header, description, cause, isGiven, orEmptyText}
 use Rattle.alerts.specs.Label.{characters, labelOf}
 use Rattle.alerts.specs.promises.Label.{Ends}
-use Rattle.alerts_text.specs.promises.Blob.{fitsOf, roadOf, Answered}
-use Rattle.alerts_text.specs.laws.Blob.{fits-alert, road-alert}
-use Rattle.alerts_apply.specs.promises.Texts.{Shown, Given, Labelled, taken, Fits, Road}
+use Rattle.alerts_text.specs.promises.Blob.{roadOf, Answered}
+use Rattle.alerts_text.specs.promises.Marked.{Roomy}
+use Rattle.alerts_text.specs.laws.Blob.{road-alert}
+use Rattle.alerts_apply.specs.promises.Texts.{Shown, Given, Labelled, taken, Road}
 
 -- ---- an optional text
 
@@ -145,7 +146,7 @@ module _ (room a b c : ℕ) where
       go false e = sym (le-ltb (a + b + c + 1) room (omega (arith, ltb-false 1 (room - a - b - c) e)))
 
 -- the lengths of the texts are those of their parts
-part-is : (s : List ℕ) {v : List ℕ} (a e : ℕ) → a ≤ e → e ≤ length s → slice a e s ≡ v → length v ≡ e - a
+pub part-is : (s : List ℕ) {v : List ℕ} (a e : ℕ) → a ≤ e → e ≤ length s → slice a e s ≡ v → length v ≡ e - a
 part-is s a e h k f = sym (ap length f) ∙ length-slice a e s k
 
 -- so there is room for the parts
@@ -156,12 +157,11 @@ module _ {s : List ℕ} {p m a b c e : ℕ} (H : Shown s p a b) (D : Shown s m c
   description-part : length (take (e - c) (drop c s)) ≡ e - c
   description-part = part-length s c e (D .forward) (D .within)
 
-  pub text-room : {t : Bool} (short old : List ℕ) → t ≡ ltb (b - a + (e - c) + length short + 1) (length old)
-      → not t ≡ false
-      → length (take (b - a) (drop a s)) + length (take (e - c) (drop c s)) + length short < length old
-  text-room {t} short old f g =
+  pub text-room : {t : Bool} {short old : List ℕ} → t ≡ ltb (b - a + (e - c) + length short + 1) (length old)
+      → not t ≡ false → Roomy (take (b - a) (drop a s)) (take (e - c) (drop c s)) short old
+  text-room {t} {short} {old} f g =
       let r = ltb-true (b - a + (e - c) + length short + 1) (length old) (sym f ∙ not-false t g) in
-      omega (arith, header-part, description-part)
+      record { fits = omega (arith, header-part, description-part) }
 
   pub road-room : {n f g : ℕ} {t : Bool} (old : List ℕ) → Shown s n f g
       → t ≡ ltb (b - a + (e - c) + (g - f) + 1) (length old) → not t ≡ false
@@ -171,32 +171,7 @@ module _ {s : List ℕ} {p m a b c e : ℕ} (H : Shown s p a b) (D : Shown s m c
       let r = ltb-true (b - a + (e - c) + (g - f) + 1) (length old) (sym i ∙ not-false t j) in
       omega (arith, header-part, description-part, part-length s f g (C .forward) (C .within))
 
--- ---- may the texts be about the line
-
-module _ {s short old : List ℕ} {p m a b c e : ℕ} (H : Shown s p a b) (P : Passes (optional (text 0 Class.any)) s p m)
-    (D : Shown s m c e) where
-  pub fits-no-room : {t : Bool} → t ≡ ltb (b - a + (e - c) + length short + 1) (length old) → not t ≡ true
-      → Fits s p short true old old
-  fits-no-room {t} f g = record {
-    kept = refl;
-    is = λ {v} h r.
-        let x = part-is s a b (H .forward) (H .within) (of-header H h) in
-        let y = part-is s c e (D .forward) (D .within) (of-description P D h) in
-        absurd (omega (arith, ltb-false (b - a + (e - c) + length short + 1) (length old) (sym f ∙ not-true t g)));
-  }
-
-  pub fits-told : {new : List ℕ} {r : Bool}
-      → Answered old new r (fitsOf (take (b - a) (drop a s)) (take (e - c) (drop c s)) short) → Fits s p short r old new
-  fits-told {new} {r} A = record {
-    kept = A .kept;
-    is = λ {v} h l.
-        let x = slice-is a b s (H .forward) (H .within) ∙ of-header H h in
-        let y = slice-is c e s (D .forward) (D .within) ∙ of-description P D h in
-        A .is ∙ ap (λ t. fitsOf t (take (e - c) (drop c s)) short) x
-        ∙ ap (λ t. fitsOf (orEmptyText (header v)) t short) y ∙ fits-alert v short;
-  }
-
--- and about road traffic
+-- ---- about road traffic
 module _ {s old : List ℕ} {p m n a b c e f g : ℕ} (H : Shown s p a b) (P : Passes (optional (text 0 Class.any)) s p m)
     (D : Shown s m c e) (Q : Passes (optional (text 0 Class.any)) s m n) (C : Shown s n f g) where
   pub road-no-room : {t : Bool} → t ≡ ltb (b - a + (e - c) + (g - f) + 1) (length old) → not t ≡ true

@@ -12,7 +12,7 @@ use Rattle.formats_read.specs.promises.Here.{Here}
 use Rattle.alerts.specs.Alert.{alert, Alert, header, description, cause, isGiven, orEmptyText}
 use Rattle.alerts.specs.Applies.{roadBlob}
 use Rattle.alerts.specs.Label.{label}
-use Rattle.alerts.specs.promises.Reduced.{textFits, road}
+use Rattle.alerts.specs.promises.Reduced.{road}
 
 -- an optional text that stands at p: its bytes from a up to e, and whether there is one
 pub record Shown (s : List ℕ) (p a e : ℕ) : Type 0 where
@@ -33,11 +33,7 @@ pub record Labelled (s : List ℕ) (p a e : ℕ) : Type 0 where
 abbrev pub taken : Alert → ℕ → ℕ
 taken v n = length (orEmptyText (header v)) + length (orEmptyText (description v)) + n + 1
 
--- the answers, from a buffer that has room and keeps its length
-pub record Fits (s : List ℕ) (p : ℕ) (short : List ℕ) (r : Bool) (old new : List ℕ) : Type 0 where
-  pub kept : length new ≡ length old
-  pub is : {v : Alert} {q : ℕ} → Here alert s p q v → taken v (length short) < length old → r ≡ textFits v short
-
+-- the answer, from a buffer that has room and keeps its length
 pub record Road (s : List ℕ) (p : ℕ) (r : Bool) (old new : List ℕ) : Type 0 where
   pub kept : length new ≡ length old
   pub is : {v : Alert} {q : ℕ} → Here alert s p q v → taken v (length (orEmptyText (cause v))) < length old

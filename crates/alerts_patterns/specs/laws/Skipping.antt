@@ -234,6 +234,15 @@ module _ (p s : List ℕ) (i : ℕ) where
   skips-text d r h S = seeks-skips (getD p 0 0) d (getD p d 0) p s i r S h refl refl
 
 -- by the first bytes of two parts
+module _ (n : List ℕ) where
+  first-of : (b : List ℕ) → (length b ≡ 0 → ⊥) → getD (b ++ n) 0 0 ≡ getD b 0 0
+  first-of [] h = absurd (h refl)
+  first-of (a ∷ b) h = refl
+
+  second-of : (b : List ℕ) → getD (b ++ n) (length b) 0 ≡ getD n 0 0
+  second-of [] = refl
+  second-of (a ∷ b) = second-of b
+
 module _ (b n s : List ℕ) (i : ℕ) where
   nothing : (l : List ℕ) → length l ≡ 0 → l ≡ []
   nothing [] h = refl
@@ -245,39 +254,48 @@ module _ (b n s : List ℕ) (i : ℕ) where
   pub skips-before : (r : ℕ) → length n ≡ 0 → Skips b s i r → Skips (b ++ n) s i r
   skips-before r h S = rw (nothing n h, append-nil b) S
 
-  first-of : (b : List ℕ) → (length b ≡ 0 → ⊥) → getD (b ++ n) 0 0 ≡ getD b 0 0
-  first-of [] h = absurd (h refl)
-  first-of (a ∷ b) h = refl
-
-  second-of : (b : List ℕ) → getD (b ++ n) (length b) 0 ≡ getD n 0 0
-  second-of [] = refl
-  second-of (a ∷ b) = second-of b
-
   pub skips-both : (r : ℕ) → (length b ≡ 0 → ⊥) → (length n ≡ 0 → ⊥) → Seeks (getD b 0 0) (length b) (getD n 0 0) s i r
       → Skips (b ++ n) s i r
   skips-both r h g S =
       seeks-skips (getD b 0 0) (length b) (getD n 0 0) (b ++ n) s i r S (omega (arith, length-append b n))
-      (first-of b h) (second-of b)
+      (first-of n b h) (second-of n b)
+
+-- by the first bytes of the first part and the last
+module _ (b n a s : List ℕ) (i r : ℕ) where
+  pub skips-front : Skips (b ++ n) s i r → Skips (b ++ n ++ a) s i r
+  skips-front S = record {
+    forward = S .forward;
+    within = S .within;
+    none-here = λ k g l. front-false (b ++ n) a (drop k s) (S .none-here k g l);
+  }
+
+  pub skips-ends : (length b ≡ 0 → ⊥) → (length a ≡ 0 → ⊥)
+      → Seeks (getD b 0 0) (length b + length n) (getD a 0 0) s i r → Skips (b ++ n ++ a) s i r
+  skips-ends h g S =
+      let l : length (b ++ n) ≡ length b + length n = length-append b n in
+      seeks-skips (getD b 0 0) (length b + length n) (getD a 0 0) (b ++ n ++ a) s i r S
+      (omega (arith, l, length-append (b ++ n) a))
+      (first-of a (b ++ n) (λ z. h (omega (arith, l))) ∙ first-of n b h)
+      (ap (λ k. getD (b ++ n ++ a) k 0) (sym l) ∙ second-of a (b ++ n))
 
 -- a first place is none of those skipped
-module _ (b n a s : List ℕ) where
-  over : (i r : ℕ) → Skips (b ++ n) s i r → Unfound (b ++ n ++ a) s i
-      → (m : ℕ) → i + m ≤ r → Unfound (b ++ n ++ a) s (i + m)
+module _ (p s : List ℕ) where
+  over : (i r : ℕ) → Skips p s i r → Unfound p s i → (m : ℕ) → i + m ≤ r → Unfound p s (i + m)
   over i r S U zero h = let e : i + 0 ≡ i = omega arith in rw e U
   over i r S U (suc m) h =
       let e : i + suc m ≡ i + m + 1 = omega arith in
       rw e
-      (unfound-more (b ++ n ++ a) s (i + m) false (over i r S U m (omega arith)) (omega (arith, S .within))
-      (sym (front-false (b ++ n) a (drop (i + m) s) (S .none-here (i + m) (omega arith) (omega arith)))) refl)
+      (unfound-more p s (i + m) false (over i r S U m (omega arith)) (omega (arith, S .within))
+      (sym (S .none-here (i + m) (omega arith) (omega arith))) refl)
 
-  unfound-over : (i r : ℕ) → Skips (b ++ n) s i r → Unfound (b ++ n ++ a) s i → Unfound (b ++ n ++ a) s r
+  unfound-over : (i r : ℕ) → Skips p s i r → Unfound p s i → Unfound p s r
   unfound-over i r S U =
       let e : i + (r - i) ≡ r = omega (arith, S .forward) in
       rw e at (over i r S U (r - i) (omega (arith, S .forward)))
 
-  pub unfound-first : (r : ℕ) → Skips (b ++ n) s 0 r → Unfound (b ++ n ++ a) s r
-  unfound-first r S = unfound-over 0 r S (unfound-start (b ++ n ++ a) s)
+  pub unfound-first : (r : ℕ) → Skips p s 0 r → Unfound p s r
+  unfound-first r S = unfound-over 0 r S (unfound-start p s)
 
-  pub unfound-next : (i r : ℕ) (t : Bool) → Unfound (b ++ n ++ a) s i → i < length s
-      → t ≡ begins (b ++ n ++ a) (drop i s) → t ≡ false → Skips (b ++ n) s (i + 1) r → Unfound (b ++ n ++ a) s r
-  unfound-next i r t U g e h S = unfound-over (i + 1) r S (unfound-more (b ++ n ++ a) s i t U g e h)
+  pub unfound-next : (i r : ℕ) (t : Bool) → Unfound p s i → i < length s → t ≡ begins p (drop i s) → t ≡ false
+      → Skips p s (i + 1) r → Unfound p s r
+  unfound-next i r t U g e h S = unfound-over (i + 1) r S (unfound-more p s i t U g e h)

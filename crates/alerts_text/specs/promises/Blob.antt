@@ -4,7 +4,7 @@ use mathlib.Core.Path.{_≡_}
 use mathlib.Core.List.{List, _∷_, _++_}
 use mathlib.Core.Option.{Option, none, some}
 use mathlib.Core.Bool.{Bool, cond, _||_}
-use Prim.Native.Nat.{ℕ, _+_, _-_, _≤_, _<_}
+use Prim.Native.Nat.{ℕ, _+_, _≤_, _<_}
 use lib.ListN.{length, take, drop}
 use Rattle.basics.specs.Lists.{isEmpty}
 use Rattle.alerts.specs.Text.{text, upper}
@@ -29,10 +29,6 @@ pub record Written (old new : List ℕ) (at : ℕ) (s : List ℕ) (fold : Bool) 
   pub kept : length new ≡ length old
   pub within : r ≤ at + length s
   pub made : take r new ≡ take at old ++ searched fold s
-
--- the answer for a folded text that ends at n and a name that ends at e
-abbrev pub okAt : List ℕ → ℕ → ℕ → Bool
-okAt s n e = textOk (take n s) (commercial-lines-in-text (take n s)) (take (e - n) (drop n s))
 
 -- the answers of the text test, for a trimmed short name, and of the road test
 abbrev pub fitsOf : List ℕ → List ℕ → List ℕ → Bool

@@ -12,4 +12,5 @@ is-clear-spec =
     (λ c. search (clear-mode))
     (λ c κs. search needs)
     (λ c. search needs)
+    (λ c. search needs)
     (λ c. search (clear-road)))

@@ -13,4 +13,5 @@ is-told-spec =
     (λ c. search (told-none))
     (λ c κs. search needs)
     (λ c. search needs)
+    (λ c. search needs)
     (λ c. search (told-text)))

@@ -1,21 +1,15 @@
 -- `alerts_apply::texts::text_fits` meets its contract.
-use Rattle.alerts_apply.specs.laws.Texts.{text-room, fits-no-room, fits-told}
+use Rattle.alerts_apply.specs.laws.Texts.{text-room}
+use Rattle.alerts_apply.specs.laws.Words.{fits-empty, fits-no-room, fits-told}
 use borrow.Author.Needs.{needs}
 use Rattle.alerts_apply.proofs.texts.text_fits.Statement.{statement}
 use Rattle.alerts_apply.proofs.texts.text_fits.Tie as tie
-
-text-fits-requires : tie.Need-text-fits-requires
-text-fits-requires c κs =
-    let room = c .before .before .before .before in
-    let header = room .before .before .before in
-    let args = header .before .before .before .before .args in
-    text-room (header .text-at .ensures) (room .before .text-at2 .ensures) (args .short .now) (args .text .now)
-    (room .has-room .ensures) (c .before .before .before .if1 .left)
 
 pub text-fits-spec : {M : Type 1} → statement M
 text-fits-spec =
     tie.close
     (tie.spec
+    (λ c. search (fits-empty))
     (λ c κs. search needs)
     (λ c κs. search needs)
     (λ c κs. search needs)
@@ -29,6 +23,13 @@ text-fits-spec =
     (λ c. search needs)
     (λ c. search needs)
     (λ c. search needs)
-    text-fits-requires
+    (λ c κs.
+    let room = c .before .before .before .before in
+    let description = room .before .before in (
+      search needs,
+      text-room (description .before .before .text-at .ensures) (description .text-at2 .ensures)
+          (room .before .has-room .ensures) (room .if2 .left),
+    ))
+    (λ c. search needs)
     (λ c. search needs)
     (λ c. search (fits-told)))

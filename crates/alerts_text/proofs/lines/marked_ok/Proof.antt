@@ -1,6 +1,6 @@
 -- `alerts_text::lines::marked_ok` meets its contract.
 use borrow.Author.Needs.{needs}
-use Rattle.alerts_text.proofs.Naming.{ok-none, ok-unnamed, ok-alone, ok-first, ok-last}
+use Rattle.alerts_text.proofs.Naming.{ok-right, ok-wrong, ok-open}
 use Rattle.alerts_text.proofs.lines.marked_ok.Statement.{statement}
 use Rattle.alerts_text.proofs.lines.marked_ok.Tie as tie
 
@@ -10,12 +10,10 @@ marked-ok-spec =
     (tie.spec
     (λ c κs. search needs)
     (λ c κs. search needs)
-    (λ c. search (ok-none))
+    (λ c. search needs)
+    (λ c. search needs)
+    (λ c. search needs)
     (λ c κs. search needs)
-    (λ c. search (ok-unnamed))
-    (λ c κs. search needs)
-    (λ c. search (ok-alone))
-    (λ c κs. search needs)
-    (λ c. search (ok-first))
-    (λ c κs. search needs)
-    (λ c. search (ok-last)))
+    (λ c. search (ok-right))
+    (λ c. search (ok-wrong))
+    (λ c. search (ok-open)))

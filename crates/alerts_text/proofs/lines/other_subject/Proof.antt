@@ -1,6 +1,6 @@
 -- `alerts_text::lines::other_subject` meets its contract.
 use borrow.Author.Needs.{needs}
-use Rattle.alerts_lines.specs.laws.Choosing.{subject-lines}
+use Rattle.alerts_text.proofs.Naming.{others}
 use Rattle.alerts_text.proofs.lines.other_subject.Statement.{statement}
 use Rattle.alerts_text.proofs.lines.other_subject.Tie as tie
 
@@ -12,4 +12,4 @@ other-subject-spec =
     (λ c κs. search needs)
     (λ c. search needs)
     (λ c κs. search needs)
-    (λ c. search (subject-lines)))
+    (λ c. search (others)))

@@ -1,8 +1,8 @@
 -- `past_alert` meets its contract.
 use Rattle.formats_skip.specs.laws.Passes.{any-texts, texts-then, optional-text-then}
 use borrow.Author.Needs.{needs}
-use Rattle.overlay_skip.proofs.past_alert.Statement.{statement}
-use Rattle.overlay_skip.proofs.past_alert.Tie as tie
+use Rattle.alerts_skip.proofs.past_alert.Statement.{statement}
+use Rattle.alerts_skip.proofs.past_alert.Tie as tie
 
 pub past-alert-spec : {M : Type 1} → statement M
 past-alert-spec =

@@ -2,8 +2,8 @@
 use Rattle.alerts.specs.Alert.{alert}
 use Rattle.formats_skip.specs.laws.Passes.{Passing, list-start, list-on, list-end}
 use borrow.Author.Needs.{needs}
-use Rattle.overlay_skip.proofs.past_alerts.Statement.{statement}
-use Rattle.overlay_skip.proofs.past_alerts.Tie as tie
+use Rattle.alerts_skip.proofs.past_alerts.Statement.{statement}
+use Rattle.alerts_skip.proofs.past_alerts.Tie as tie
 
 abbrev Inv-loop : tie.InvT-loop
 Inv-loop s at p₀ left₀ p left = Passing alert s p₀ left₀ p left
