@@ -1,2 +1,4 @@
 pub mod Tests
+pub mod Halving
+pub mod Rest
 pub mod Looks

@@ -1,57 +1,72 @@
-// Look-ups in an overlay, by the places of what they find.
+// Look-ups among the noted trips of a feed, by the places of what they find.
 use formats_write::OptionalNumber;
 use formats_write::Span;
 use overlay_ids::Place;
 use overlay_seek::Found;
-ghost use Rattle.formats.specs.Format.{list};
+use slices::Order;
+ghost use Rattle.maps.specs.Map.{get};
+ghost use Rattle.maps.specs.Order.{texts};
 ghost use Rattle.formats_write.specs.promises.Given.{givenNumber};
-ghost use Rattle.decode.specs.Sizes.{mostTrips};
-ghost use Rattle.decode.specs.Trip.{trip, tripEntry};
+ghost use Rattle.decode.specs.Trip.{tripEntry};
 ghost use Rattle.overlay.specs.Lookup.{trip-at, get-trip, find-trip-by-descriptor};
-ghost use Rattle.overlay_find.specs.promises.Finds.{Finds};
+ghost use Rattle.overlay_places.specs.promises.Noted.{RankNoted};
 ghost use Rattle.overlay_seek.specs.promises.Answers.{Tests};
-ghost use Rattle.overlay_find.specs.promises.Texts.{RouteIs, DirectionIs, Described};
-ghost use Rattle.overlay_find.specs.promises.Texts.{keyTest, descriptorTest};
+ghost use Rattle.overlay_find.specs.promises.Finds.{Finds};
+ghost use Rattle.overlay_find.specs.promises.Texts.{RouteIs, DirectionIs, Described, descriptorTest};
 
-// Whether the entry at `at` has a whole key.
-fn key_is(s: &[u8], at: usize, feed: &[u8], key: &[u8]) -> bool
-    ensures { λ r. ⌜ Tests tripEntry (keyTest (now (feed .entry)) (now (key .entry))) (now (s .entry)) at r ⌝ }
+// The record at the rest of a key, among the trips of the feed at rank r: found by halving.
+fn rest_at(s: &[u8], places: &[u32], r: usize, rest: &[u8]) -> Found
+    requires { ⌜ RankNoted (now s) (now places) r ⌝ }
+    ensures { λ x. ⌜ Finds (get texts (now (rest .entry))) (now (s .entry)) (now (places .entry)) r x ⌝ }
 {
-    let t: Span = formats_read::text(s, at);
-    let from = t.from;
-    let to = t.to;
-    overlay_ids::same_joined(feed, &s[from..to], key)
+    let mut lo = 0;
+    let mut hi = overlay_places::trip_count(places, r);
+    while lo < hi {
+        let mid = lo + (hi - lo) / 2;
+        let p = overlay_places::trip_place(places, r, mid);
+        match overlay_feeds::compare_text(s, p, rest) {
+            Order::Less => {
+                hi = mid;
+            }
+            Order::Same => return Found::At(formats_skip::past_text(s, p)),
+            Order::More => {
+                lo = mid + 1;
+            }
+        }
+    }
+    Found::Missing
 }
 
-// The record of a feed at a whole key, among the trips at `at`.
-pub fn trip_at(s: &[u8], at: usize, feed: &[u8], key: &[u8]) -> Found
-    ensures { λ r. ⌜
-        Finds (list mostTrips tripEntry) trip (trip-at (now (feed .entry)) (now (key .entry))) (now (s .entry))
-        at r ⌝ }
+// The record at a whole key, among the trips of the feed at rank r.
+fn trip_at(s: &[u8], places: &[u32], r: usize, feed: &[u8], key: &[u8]) -> Found
+    requires { ⌜ RankNoted (now s) (now places) r ⌝ }
+    ensures { λ x. ⌜
+        Finds (trip-at (now (feed .entry)) (now (key .entry))) (now (s .entry)) (now (places .entry)) r x ⌝ }
 {
-    let n = formats_read::number(s, at);
-    let mut p = n.next;
-    let mut left = n.value;
-    while 0 < left {
-        if key_is(s, p, feed, key) {
-            return Found::At(formats_skip::past_text(s, p));
-        }
-        p = decode_skip::past_entry(s, p);
-        left -= 1;
+    let n = feed.len();
+    if key.len() <= n {
+        return Found::Missing;
+    }
+    if key[n] != 58 {
+        return Found::Missing;
+    }
+    if slices::same(feed, &key[..n]) {
+        let p = n + 1;
+        return rest_at(s, places, r, &key[p..]);
     }
     Found::Missing
 }
 
 // By the whole key, else without what follows its last '@'.
-pub fn get_trip(s: &[u8], at: usize, feed: &[u8], key: &[u8]) -> Found
-    ensures { λ r. ⌜
-        Finds (list mostTrips tripEntry) trip (get-trip (now (feed .entry)) (now (key .entry))) (now (s .entry))
-        at r ⌝ }
+pub fn get_trip(s: &[u8], places: &[u32], r: usize, feed: &[u8], key: &[u8]) -> Found
+    requires { ⌜ RankNoted (now s) (now places) r ⌝ }
+    ensures { λ x. ⌜
+        Finds (get-trip (now (feed .entry)) (now (key .entry))) (now (s .entry)) (now (places .entry)) r x ⌝ }
 {
-    match trip_at(s, at, feed, key) {
+    match trip_at(s, places, r, feed, key) {
         Found::At(p) => Found::At(p),
         Found::Missing => match overlay_ids::last_at(key) {
-            Place::At(k) => trip_at(s, at, feed, &key[..k]),
+            Place::At(k) => trip_at(s, places, r, feed, &key[..k]),
             Place::Nowhere => Found::Missing,
         },
     }
@@ -121,29 +136,30 @@ fn descriptor_is(
     described(s, q, feed, leg, direction, date)
 }
 
-// A feed's first record of that route, direction and start date, among the trips at `at`.
+// The first record of that route, direction and start date, among the trips of the feed at rank r.
 pub fn by_descriptor(
     s: &[u8],
-    at: usize,
+    places: &[u32],
+    r: usize,
     feed: &[u8],
     leg: &[u8],
     direction: OptionalNumber,
     date: &[u8],
 ) -> Found
-    ensures { λ r. ⌜
-        Finds (list mostTrips tripEntry) trip
+    requires { ⌜ RankNoted (now s) (now places) r ⌝ }
+    ensures { λ x. ⌜
+        Finds
         (find-trip-by-descriptor (now (feed .entry)) (now (leg .entry)) (givenNumber direction) (now (date .entry)))
-        (now (s .entry)) at r ⌝ }
+        (now (s .entry)) (now (places .entry)) r x ⌝ }
 {
-    let n = formats_read::number(s, at);
-    let mut p = n.next;
-    let mut left = n.value;
-    while 0 < left {
+    let n = overlay_places::trip_count(places, r);
+    let mut i = 0;
+    while i < n {
+        let p = overlay_places::trip_place(places, r, i);
         if descriptor_is(s, p, feed, leg, direction, date) {
             return Found::At(formats_skip::past_text(s, p));
         }
-        p = decode_skip::past_entry(s, p);
-        left -= 1;
+        i += 1;
     }
     Found::Missing
 }

@@ -14,12 +14,12 @@ use lib.ListN.{length}
 use mathlib.Core.Path.{_≡_, refl}
 
 abbrev Inv-loop : tie.InvT-loop
-Inv-loop s at n b out₀ p₀ left₀ k₀ out p left k =
+Inv-loop s at n b places out₀ p₀ left₀ k₀ out p left k =
     (length out ≡ length out₀) × ((st : State) → StateIn b st
     → Advance leg (Judged56 leg) (λ v. write leg (enrichLeg (shown st) v)) s at n p left out₀ k₀ out k)
 
 abbrev μ-loop : tie.MeasureT-loop
-μ-loop s at n b out₀ p₀ left₀ k₀ out p left k = left
+μ-loop s at n b places out₀ p₀ left₀ k₀ out p left k = left
 
 loop-again : tie.Need-loop-again Inv-loop μ-loop
 loop-again c = (

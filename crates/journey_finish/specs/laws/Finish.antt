@@ -30,7 +30,7 @@ use Rattle.overlay_seek.specs.declared.Found as seek
 use Rattle.overlay_seek.specs.declared.Found.the-variants as seeks
 use Rattle.overlay_vehicle.specs.declared.OptionalPlace.{OptionalPlace}
 use Rattle.journey.specs.Card.{scheduled}
-use Rattle.journey.specs.Enrich.{seconds, trip-rt}
+use Rattle.journey.specs.Enrich.{seconds, trip-rt, departs, arrives, cancels}
 use Rattle.journey.specs.laws.Found.{FoundJudged, resolve-gives}
 use Rattle.journey_places.specs.declared.LegPlaces.{LegPlaces}
 use Rattle.journey_places.specs.promises.Places.{LegAt}
@@ -38,7 +38,8 @@ use Rattle.journey_leg.specs.declared.LegRealtime.{LegRealtime}
 use Rattle.journey_legs.specs.promises.Stops.{LegKnown, LegAnew}
 use Rattle.journey_legs.specs.laws.Endpoints.{leg-written}
 use Rattle.journey_legs.specs.laws.Stops.{found-so}
-use Rattle.journey_finish.specs.promises.Finish.{LegResolved, LegVehicle, FinishesBy, Finishes}
+use Rattle.journey_finish.specs.declared.RowPlace.{RowPlace}
+use Rattle.journey_finish.specs.promises.Finish.{LegResolved, RowAt, Looks, LegVehicle, FinishesBy, Finishes}
 
 -- a text's bytes as a part of a slice
 part-is : {s : List ℕ} {p a e q : ℕ} {v : List ℕ} {l : ℕ} {c : Class} → ReadsText s p a e → Here (text l c) s p q v
@@ -83,18 +84,20 @@ pub finished-by : {s : List ℕ} {p q : ℕ} {b : List ℕ} {x : seek.Found} {f 
     → FinishesBy s p q b x f l w m r
 finished-by K Y A = record { adds = λ H J {st} S X. leg-written (shown st) H J X (Y .to H S) K A }
 
-module _ {s : List ℕ} {p q : ℕ} {b : List ℕ} {x : Resolved} {l m : List ℕ} {w r : Put} (L : LegResolved s p b x) where
-  pub finished-none : {f : List ℕ} → x ≡ resolves.Missing → FinishesBy s p q b seeks.Missing f l w m r
-      → Finishes s p q b l w m r
-  finished-none e F = record { adds = λ H J S. F .adds H J S (L .to H J S .missing e) }
+-- where the record stands
+module _ {s : List ℕ} {p : ℕ} {b : List ℕ} {x : Resolved} (L : LegResolved s p b x) where
+  pub row-none : x ≡ resolves.Missing → RowAt s p b (record { row = seeks.Missing; from = 0; to = 0 })
+  row-none e =
+      record { forward = omega arith; within = omega arith; holds = λ H J S. L .to H J S .missing e }
 
-  pub finished-found : {i j a e : ℕ} → x ≡ resolves.At i j → ReadsText b j a e
-      → FinishesBy s p q b (seeks.At i) (take (e - a) (drop a b)) l w m r → Finishes s p q b l w m r
+  pub row-found : {i j a e : ℕ} → x ≡ resolves.At i j → ReadsText b j a e
+      → RowAt s p b (record { row = seeks.At i; from = a; to = e })
   unfolding trip-rt
-  finished-found {i} {j} g T F = record {
-    adds = λ H J {st} S.
-        let A = L .to H J S .found i j g in
-        F .adds H J S (
+  row-found {i} {j} g T = record {
+    forward = T .forward;
+    within = T .within;
+    holds = λ H J {st} S.
+        let A = L .to H J S .found i j g in (
           (A .feed, A .it),
           A .is,
           sym (part-is T (A .id-here)),
@@ -102,3 +105,19 @@ module _ {s : List ℕ} {p q : ℕ} {b : List ℕ} {x : Resolved} {l m : List �
           (A .end, A .here),
         );
   }
+
+module _ {s : List ℕ} {p : ℕ} {b : List ℕ} {x : RowPlace} (X : RowAt s p b x) where
+  abbrev feed : List ℕ
+  feed = take (x .to - x .from) (drop (x .from) b)
+
+  pub looked : {R : LegRealtime} → LegKnown s p b (x .row) feed R → Looks s p b R
+  unfolding departs arrives cancels
+  looked K = record {
+    departs = λ H J S. K .departs _ (X .holds H J S) H J;
+    arrives = λ H J S. K .arrives _ (X .holds H J S) H J;
+    cancels = λ H J S. K .cancels _ (X .holds H J S);
+  }
+
+  pub finished : {q : ℕ} {l m : List ℕ} {w r : Put} → FinishesBy s p q b (x .row) feed l w m r
+      → Finishes s p q b l w m r
+  finished F = record { adds = λ H J S. F .adds H J S (X .holds H J S) }

@@ -2,8 +2,8 @@
 use mathlib.Core.Path.{_≡_}
 use mathlib.Core.Bool.{true}
 use mathlib.Core.List.{List, map}
-use Prim.Native.Nat.{ℕ}
-use lib.ListN.{length}
+use Prim.Native.Nat.{ℕ, _-_, _≤_}
+use lib.ListN.{length, take, drop}
 use Rattle.basics.specs.Lists.{All}
 use Rattle.maps.specs.Map.{ascending}
 use Rattle.maps.specs.Order.{texts}
@@ -23,9 +23,12 @@ use Rattle.overlay_seek.specs.declared.Found as seek
 use Rattle.overlay_vehicle.specs.declared.OptionalPlace.{OptionalPlace}
 use Rattle.overlay_vehicle.specs.promises.Vehicle.{Sees}
 use Rattle.journey.specs.Card.{transit, leg, transitOf, transitValue}
-use Rattle.journey.specs.Enrich.{trip-rt, enrichTransit, enrichLeg}
+use Rattle.journey.specs.Enrich.{trip-rt, departs, arrives, cancels, enrichTransit, enrichLeg}
 use Rattle.journey.specs.laws.Found.{FeedsJudged}
+use Rattle.journey_times.specs.promises.Realtime.{realtimeOf}
+use Rattle.journey_leg.specs.declared.LegRealtime.{LegRealtime}
 use Rattle.journey_legs.specs.promises.Stops.{Holds}
+use Rattle.journey_finish.specs.declared.RowPlace.{RowPlace}
 
 -- the state that stands in b, whose feeds ascend and are within the questions
 pub record StateIn (b : List ℕ) (st : State) : Type 0 where
@@ -34,11 +37,28 @@ pub record StateIn (b : List ℕ) (st : State) : Type 0 where
   pub up : ascending texts (feedsOf st) ≡ true
   pub judged : FeedsJudged (shown st)
 
--- the record of the leg at p, and its vehicle
+-- the record of the leg at p
 pub record LegResolved (s : List ℕ) (p : ℕ) (b : List ℕ) (r : Resolved) : Type 0 where
   pub to : {q : ℕ} {v : Value transit} → Here transit s p q v → Judged56 transit v → {st : State} → StateIn b st
       → FoundIn b (trip-rt (shown st) (transitOf v)) r
 
+-- where it stands, and the id of its feed
+pub record RowAt (s : List ℕ) (p : ℕ) (b : List ℕ) (r : RowPlace) : Type 0 where
+  pub forward : r .from ≤ r .to
+  pub within : r .to ≤ length b
+  pub holds : {q : ℕ} {v : Value transit} → Here transit s p q v → Judged56 transit v → {st : State} → StateIn b st
+      → Holds b (r .row) (take (r .to - r .from) (drop (r .from) b)) (trip-rt (shown st) (transitOf v))
+
+-- what look-ups give for the leg at p
+pub record Looks (s : List ℕ) (p : ℕ) (b : List ℕ) (R : LegRealtime) : Type 0 where
+  pub departs : {q : ℕ} {v : Value transit} → Here transit s p q v → Judged56 transit v → {st : State} → StateIn b st
+      → realtimeOf (R .departs) ≡ departs (shown st) (transitOf v)
+  pub arrives : {q : ℕ} {v : Value transit} → Here transit s p q v → Judged56 transit v → {st : State} → StateIn b st
+      → realtimeOf (R .arrives) ≡ arrives (shown st) (transitOf v)
+  pub cancels : {q : ℕ} {v : Value transit} → Here transit s p q v → Judged56 transit v → {st : State} → StateIn b st
+      → R .cancels ≡ cancels (shown st) (transitOf v)
+
+-- its vehicle
 pub record LegVehicle (s : List ℕ) (p : ℕ) (b : List ℕ) (r : OptionalPlace) : Type 0 where
   pub to : {q : ℕ} {v : Value transit} → Here transit s p q v → {st : State} → StateIn b st
       → Sees r (get-vehicle-for-trip (shown st) (transitOf v .trip))

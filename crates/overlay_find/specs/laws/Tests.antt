@@ -1,7 +1,7 @@
 -- Law. Tests of entries, by the texts and numbers that stand in them.
 use mathlib.Core.Path.{_≡_, refl, sym, ap, _∙_}
 use mathlib.Core.Bool.{Bool, true, false}
-use mathlib.Core.List.{List, _∷_, _++_}
+use mathlib.Core.List.{List}
 use Prim.Native.Nat.{ℕ, _-_}
 use lib.Dec.{eqb}
 use lib.ListN.{take, drop}
@@ -24,19 +24,15 @@ use Rattle.overlay_feeds.specs.laws.Head.{begins}
 use Rattle.decode.specs.Key.{prefixed}
 use Rattle.decode.specs.Trip.{date, trip, tripEntry}
 use Rattle.overlay.specs.Lookup.{route-matches, direction-matches}
-use Rattle.overlay_ids.specs.promises.Ids.{IsJoined, RouteFits}
+use Rattle.overlay_ids.specs.promises.Ids.{RouteFits}
 use Rattle.overlay_seek.specs.promises.Answers.{Tests, IsText}
 use Rattle.overlay_find.specs.promises.Texts.{RouteIs, DirectionIs, Described}
-use Rattle.overlay_find.specs.promises.Texts.{keyTest, descriptorTest}
+use Rattle.overlay_find.specs.promises.Texts.{descriptorTest}
 
 -- the text that was read, and the bytes that were compared
 module _ {s : List ℕ} {p a e : ℕ} (T : ReadsText s p a e) where
   bytes : {l : ℕ} {c : Class} {v : List ℕ} {q : ℕ} → Here (text l c) s p q v → take (e - a) (drop a s) ≡ v
   bytes h = slice-is a e s (T .forward) (T .within) ∙ T .bytes h
-
-  pub key-is : {f key : List ℕ} {b : Bool} → IsJoined f (take (e - a) (drop a s)) key b
-      → Tests tripEntry (keyTest f key) s p b
-  key-is {f} {key} J = record { to = λ h. J .is ∙ ap (λ r. same (f ++ 58 ∷ r) key) (bytes (halves h .first)) }
 
   pub route-is : {f leg : List ℕ} {b : Bool} → RouteFits f (take (e - a) (drop a s)) leg b → RouteIs s p f leg b
   route-is {f} {leg} R = record {

@@ -1,12 +1,14 @@
--- Promise. What a look-up takes from a value that stands at a place, by its place.
+-- Promise. What a look-up takes from the trips of a feed that is noted, by its place.
 use mathlib.Core.List.{List}
 use mathlib.Core.Option.{Option}
 use Prim.Native.Nat.{ℕ}
-use Rattle.formats.specs.Format.{Format, Value}
-use Rattle.formats_read.specs.promises.Here.{Here}
+use Rattle.decode.specs.Leaves.{Trips}
+use Rattle.decode.specs.Trip.{Trip, trip}
+use Rattle.overlay.specs.State.{Feed, tripsOf}
+use Rattle.overlay_places.specs.promises.Noted.{FeedNoted}
 use Rattle.overlay_seek.specs.declared.Found.{Found}
 use Rattle.overlay_seek.specs.promises.Answers.{Answers}
 
--- of a value of g that stands at p, the look-up's answer is r
-pub record Finds (g f : Format) (look : Value g → Option (Value f)) (s : List ℕ) (p : ℕ) (r : Found) : Type 0 where
-  pub to : {v : Value g} {q : ℕ} → Here g s p q v → Answers f s (look v) r
+-- of the trips of the feed at rank r, the look-up's answer is x
+pub record Finds (look : Trips → Option Trip) (s places : List ℕ) (r : ℕ) (x : Found) : Type 0 where
+  pub to : {e : List ℕ × Feed} → FeedNoted s places r e → Answers trip s (look (tripsOf (e .1))) x

@@ -1,7 +1,7 @@
--- Promise. Tests on what stands in a record: its key, its date, route and direction.
+-- Promise. Tests on what stands in a record: its date, route and direction.
 use mathlib.Core.Path.{_≡_}
 use mathlib.Core.Bool.{Bool, _&&_}
-use mathlib.Core.List.{List, _∷_, _++_}
+use mathlib.Core.List.{List}
 use Prim.Native.Nat.{ℕ}
 use Rattle.basics.specs.Texts.{same}
 use Rattle.formats.specs.Class.{Class}
@@ -30,10 +30,7 @@ pub record Described (s : List ℕ) (p : ℕ) (f leg : List ℕ) (d : OptionalNu
       → b ≡ route-matches (prefixed f (v .1 .0)) leg
       && (direction-matches (givenNumber d) (v .1 .1 .0) && same (v .0) date)
 
--- of a trip's entry: its whole key; the leg's descriptor
-abbrev pub keyTest : List ℕ → List ℕ → List ℕ × Trip → Bool
-keyTest f key e = same (f ++ 58 ∷ e .0) key
-
+-- of a trip's entry: the leg's descriptor
 abbrev pub descriptorTest : List ℕ → List ℕ → OptionalNumber → List ℕ → List ℕ × Trip → Bool
 descriptorTest f leg d date e =
     route-matches (prefixed f (routeOf (e .1))) leg

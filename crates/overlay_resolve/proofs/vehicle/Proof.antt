@@ -1,5 +1,6 @@
 -- `vehicle` meets its contract.
 use Rattle.overlay_resolve.specs.laws.Shown.{in-feed, no-feed}
+use Rattle.overlay_places.specs.laws.Ranks.{noted-room, found-low}
 use borrow.Author.Needs.{needs}
 use lib.ListN.{length-take}
 use native.Mathlib.Omega.{arith}
@@ -14,8 +15,7 @@ vehicle-spec =
     (λ c. simp length-take (omega arith))
     (λ c κs. search needs)
     (λ c. search needs)
-    (λ c κs. search needs)
-    (λ c κs. search needs)
+    (λ c κs. (search noted-room, search found-low))
     (λ c κs. search needs)
     (λ c. search needs)
     (λ c. search in-feed)

@@ -1,5 +1,5 @@
 -- Law. The record of a leg, by the searches that it is made of.
-use mathlib.Core.Path.{_≡_, refl, ap}
+use mathlib.Core.Path.{_≡_, refl, sym, ap}
 use mathlib.Core.Bool.{true, false}
 use mathlib.Core.List.{List, [], _∷_}
 use mathlib.Core.Option.{Option, none}
@@ -8,21 +8,17 @@ use native.Mathlib.Omega.{arith}
 use lib.ListN.{length, take}
 use Rattle.basics.specs.Lists.{isEmpty}
 use Rattle.basics.specs.Options.{orElse, bindO}
-use Rattle.formats.specs.Format.{list}
-use Rattle.formats_read.specs.laws.Here.{halves}
 use Rattle.formats_write.specs.declared.OptionalNumber.{OptionalNumber}
 use Rattle.formats_write.specs.promises.Given.{givenNumber}
-use Rattle.formats_skip.specs.promises.Passes.{Leads}
-use Rattle.formats_skip.specs.laws.Leads.{lead-field}
 use Rattle.decode.specs.Leaves.{Trips}
-use Rattle.decode.specs.Sizes.{mostTrips}
-use Rattle.decode.specs.Trip.{Trip, trip, tripEntry}
-use Rattle.overlay.specs.State.{feed}
+use Rattle.decode.specs.Trip.{Trip}
 use Rattle.overlay.specs.Records.{shown}
 use Rattle.overlay.specs.Lookup.{Found, feed-of, inFeed, get-trip, find-trip-by-descriptor, resolve-trip-rt}
-use Rattle.overlay_feeds.specs.declared.FeedPlace.{FeedPlace}
-use Rattle.overlay_feeds.specs.declared.FeedPlace.the-variants as feeds
-use Rattle.overlay_feeds.specs.promises.Place.{FindsFeed}
+use Rattle.overlay_feeds.specs.laws.Head.{begins}
+use Rattle.overlay_places.specs.declared.FeedRank.{FeedRank}
+use Rattle.overlay_places.specs.declared.FeedRank.the-variants as rank
+use Rattle.overlay_places.specs.promises.Noted.{entryAt}
+use Rattle.overlay_places.specs.promises.Ranks.{RanksFeed}
 use Rattle.overlay_seek.specs.declared.Found as seek
 use Rattle.overlay_seek.specs.declared.Found.the-variants as place
 use Rattle.overlay_ids.specs.promises.Ids.{FeedEnd}
@@ -43,38 +39,35 @@ found-none : {b : List ℕ} {o : Option Found} → o ≡ none → FoundIn b o Mi
 found-none e = record { found = λ q d h. absurd (let z : _≡_ {A = ℕ} 0 1 = cc in omega arith); missing = λ h. e }
 
 -- A FEED'S RECORD
-module _ (look : Trips → Option Trip) {f b : List ℕ} {r : FeedPlace} (F : FindsFeed b f r) where
-  pub feed-missing : {i p : ℕ} → r ≡ feeds.Missing i p → Resolves (inTrips f look) b Missing
+module _ (look : Trips → Option Trip) {f b places : List ℕ} {x : FeedRank} (F : RanksFeed b places f x) where
+  pub feed-missing : x ≡ rank.Missing → Resolves (inTrips f look) b Missing
   unfolding inTrips
-  feed-missing {i} {p} e = record {
+  feed-missing e = record {
     to = λ {st} h o. found-none (ap (λ x. bindO x (λ R. inFeed f (look (R .trips))))
-        (shown-none st f (F .to h o .lost i p e .got)));
+        (shown-none st f (F .to h .lost e)));
   }
 
-  module _ {i e m p : ℕ} {t : seek.Found} (w : r ≡ feeds.At i e m) (L : Leads 2 feed b m p)
-      (A : Finds (list mostTrips tripEntry) trip look b p t) where
+  module _ {r : ℕ} {t : seek.Found} (w : x ≡ rank.At r) (A : Finds look b places r t) where
     pub record-missing : t ≡ place.Missing → Resolves (inTrips f look) b Missing
     unfolding inTrips
     record-missing n = record {
       to = λ {st} h o.
-          let M = F .to h o .found i e m w in
-          let x = halves (lead-field L tt (M .feed-here) .here) in
+          let M = F .to h .found r w in
           let s = shown-some st f (M .it) (M .got) in
-          found-none (rw s (ap (inFeed f) (A .to (x .first) .missing n)));
+          found-none (rw s (ap (inFeed f) (A .to (M .noted) .missing n)));
     }
 
-    pub record-found : {q : ℕ} → t ≡ place.At q → Resolves (inTrips f look) b (At q e)
+    pub record-found : {q e : ℕ} → t ≡ place.At q → e ≡ entryAt places r → Resolves (inTrips f look) b (At q e)
     unfolding inTrips
-    record-found {q} n = record {
+    record-found {q} n i = record {
       to = λ {st} h o.
-          let M = F .to h o .found i e m w in
-          let x = halves (lead-field L tt (M .feed-here) .here) in
+          let M = F .to h .found r w in
           let s = shown-some st f (M .it) (M .got) in
-          let S = A .to (x .first) .found q n in
+          let S = A .to (M .noted) .found q n in
           found-at (record {
             feed = f;
-            id-end = m;
-            id-here = M .id-here;
+            id-end = M .noted .id-end;
+            id-here = begins (sym i) (M .noted .id-here);
             it = S .it;
             end = S .end;
             here = S .here;

@@ -9,15 +9,18 @@ use Rattle.basics.specs.Options.{Maybe, bindO}
 use Rattle.maps.specs.Map.{ascending}
 use Rattle.maps.specs.Order.{texts}
 use Rattle.formats.specs.Class.{token}
-use Rattle.formats.specs.Format.{text}
+use Rattle.formats.specs.Format.{text, list}
 use Rattle.formats_read.specs.promises.Here.{Here}
 use Rattle.decode.specs.Leaves.{Trips}
 use Rattle.decode.specs.Sizes.{mostFeed}
 use Rattle.decode.specs.Trip.{Trip, trip}
 use Rattle.overlay.specs.State.{State, overlay, feedsOf}
-use Rattle.overlay.specs.Records.{Feeds, shown}
+use Rattle.alerts.specs.Alert.{alert}
+use Rattle.overlay.specs.Records.{Records, Feeds, shown}
 use Rattle.overlay.specs.Lookup.{Found, feed-of, inFeed, find-trip-by-descriptor}
 use Rattle.overlay.specs.Lookup.{resolve-trip-rt, get-vehicle-for-trip}
+use Rattle.overlay_seek.specs.declared.Found as seek
+use Rattle.overlay_seek.specs.declared.Found.the-variants as place
 use Rattle.overlay_vehicle.specs.declared.OptionalPlace.{OptionalPlace}
 use Rattle.overlay_vehicle.specs.promises.Vehicle.{Sees}
 use Rattle.overlay_resolve.specs.declared.Resolved.{Resolved}
@@ -27,6 +30,20 @@ use Rattle.overlay_resolve.specs.declared.Resolved.the-variants.{At, Mis
 pub record ShowsVehicle (b x : List ℕ) (r : OptionalPlace) : Type 0 where
   pub to : {st : State} {q : ℕ} → Here overlay b 0 q st → ascending texts (feedsOf st) ≡ true
       → Sees r (get-vehicle-for-trip (shown st) x)
+
+-- the alerts of trip x's feed
+pub record AlertsAt (b : List ℕ) (o : Option Records) (p : ℕ) : Type 0 where
+  pub records : Records
+  pub end : ℕ
+  pub here : Here (list 256 alert) b p end (records .alerts)
+  pub is : o ≡ some records
+
+pub record AlertsIn (b : List ℕ) (o : Option Records) (r : seek.Found) : Type 0 where
+  pub found : (p : ℕ) → r ≡ place.At p → AlertsAt b o p
+  pub missing : r ≡ place.Missing → o ≡ none
+
+pub record ShowsAlerts (b x : List ℕ) (r : seek.Found) : Type 0 where
+  pub to : {st : State} {q : ℕ} → Here overlay b 0 q st → AlertsIn b (shown st (feed-of x)) r
 
 -- a record at p, of the feed whose id is at e
 pub record ResolvedAt (b : List ℕ) (p e : ℕ) (o : Option Found) : Type 0 where
