@@ -1,4 +1,5 @@
-// The trips that a message leaves, written: a record of the message is made from its entity, an old one copied.
+// The records that a message leaves, written: one of the message is made from its entity, an old one copied. How many
+// keys count.
 use decode::sizes::BEYOND;
 use decode::sizes::KEY_BYTES;
 use formats_write::OptionalNumber;
@@ -243,7 +244,7 @@ fn write_record(
 }
 
 // The record at a place: made from the message, or copied from the old overlay.
-fn write_held(
+pub fn write_held(
     out: &mut [u8],
     w: Put,
     updates: &mut [u32],
@@ -261,82 +262,6 @@ fn write_held(
         return write_record(out, w, updates, s, from, to);
     }
     formats_write::stretch(out, w, old, from - BEYOND, to - BEYOND)
-}
-
-// A slot's key and record.
-fn write_entry(
-    out: &mut [u8],
-    w: Put,
-    updates: &mut [u32],
-    keys: &[u8],
-    marks: &[u32],
-    slot: usize,
-    s: &[u8],
-    old: &[u8],
-) -> Put
-    requires { ⌜ (length (now updates) ≡ updatesLength) × (length (now s) ≤ mostMessage) ⌝ }
-    requires { ⌜ GoodSlot (now s) (now old) (now keys) (now marks) slot ⌝ }
-    ensures { λ r. ⌜ Adds (now (out .entry)) w (now (out .exit)) r
-        (write tripEntry (heldEntry (now (s .entry)) (now (old .entry))
-        (slotEntry (now (keys .entry)) (now (marks .entry)) slot))) ⌝ }
-{
-    let start = KEY_BYTES * slot;
-    let len = decode_slots::word(marks, 3 * slot);
-    let from = decode_slots::word(marks, 3 * slot + 1);
-    let to = decode_slots::word(marks, 3 * slot + 2);
-    let q = formats_write::text(out, w, keys, start, start + len);
-    write_held(out, q, updates, s, old, from, to)
-}
-
-// The keys and records of the first n slots, in the order of the keys.
-fn put_entries(
-    out: &mut [u8],
-    w: Put,
-    updates: &mut [u32],
-    keys: &[u8],
-    marks: &[u32],
-    order: &[u32],
-    n: usize,
-    s: &[u8],
-    old: &[u8],
-) -> Put
-    requires { ⌜ (length (now updates) ≡ updatesLength) × (length (now s) ≤ mostMessage) ⌝ }
-    requires { ⌜ n ≤ length (now order) ⌝ }
-    requires { ⌜ All (GoodSlot (now s) (now old) (now keys) (now marks)) (take n (now order)) ⌝ }
-    ensures { λ r. ⌜ Adds (now (out .entry)) w (now (out .exit)) r
-        (manyW (write tripEntry) (held (now (s .entry)) (now (old .entry))
-        (index (now (keys .entry)) (now (marks .entry)) (now (order .entry)) n))) ⌝ }
-{
-    let mut q = w;
-    let mut i: usize = 0;
-    while i < n {
-        let slot = decode_slots::word(order, i);
-        q = write_entry(out, q, updates, keys, marks, slot, s, old);
-        i += 1;
-    }
-    q
-}
-
-// The trips that an index holds.
-pub fn write_trips(
-    out: &mut [u8],
-    w: Put,
-    updates: &mut [u32],
-    keys: &[u8],
-    marks: &[u32],
-    order: &[u32],
-    n: usize,
-    s: &[u8],
-    old: &[u8],
-) -> Put
-    requires { ⌜ (length (now updates) ≡ updatesLength) × (length (now s) ≤ mostMessage) ⌝ }
-    requires { ⌜ Writable (now s) (now old) (now keys) (now marks) (now order) n ⌝ }
-    ensures { λ r. ⌜ Adds (now (out .entry)) w (now (out .exit)) r
-        (write (list mostTrips tripEntry) (held (now (s .entry)) (now (old .entry))
-        (index (now (keys .entry)) (now (marks .entry)) (now (order .entry)) n))) ⌝ }
-{
-    let q = formats_write::number(out, w, n as u64);
-    put_entries(out, q, updates, keys, marks, order, n, s, old)
 }
 
 // Whether '@' is in the bytes of s from `from` up to `to`.

@@ -1,28 +1,10 @@
 // An overlay written anew with one feed put: what stands before that feed's body, and what follows it.
-use formats_read::Numbered;
 use formats_write::Put;
-ghost use mathlib.Core.Path.{_≡_};
 ghost use mathlib.Core.List.{List};
 ghost use Prim.Native.Nat.{ℕ};
 ghost use Rattle.formats_write.specs.promises.Adds.{Adds};
-ghost use Rattle.formats_read.specs.promises.Here.{Here};
-ghost use Rattle.overlay.specs.State.{State, overlay, versionOf};
-ghost use Rattle.overlay_frame.specs.promises.Frame.{Feeds, Spot, headW, openingW, closingW};
-
-// The version of an overlay.
-pub fn version(old: &[u8]) -> u64
-    ensures { λ r. ⌜ ((s : State) (q : ℕ) → Here overlay (now (old .entry)) 0 q s → r ≡ versionOf s) ⌝ }
-{
-    formats_read::number(old, 1).value
-}
-
-// How many feeds it has, and the place of the first.
-pub fn feeds(old: &[u8]) -> Numbered
-    ensures { λ r. ⌜ Feeds (now (old .entry)) (r .value) (r .next) ⌝ }
-{
-    let v = formats_read::number(old, 1);
-    formats_read::number(old, v.next)
-}
+ghost use Rattle.overlay.specs.State.{State};
+ghost use Rattle.overlay_frame.specs.promises.Frame.{Spot, headW, openingW, closingW};
 
 // Its first byte, version and number of feeds.
 fn head(out: &mut [u8], w: Put, version: u64, count: u64) -> Put
@@ -47,7 +29,7 @@ pub fn opening(
         ((q : ℕ) (s : State) (to : ℕ) (S : Spot (now (old .entry)) q s (now (feed .entry)) from to count)
         → Adds (now (out .entry)) w (now (out .exit)) r (openingW version count (S .front) (now (feed .entry)))) ⌝ }
 {
-    let first = feeds(old).next;
+    let first = overlay_feeds::read_head(old).first;
     let w1 = head(out, w, version, count);
     let w2 = formats_write::stretch(out, w1, old, first, from);
     let n = feed.len();

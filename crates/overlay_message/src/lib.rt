@@ -93,7 +93,7 @@ fn write_body(
 {
     let w1 = put_timestamp(out, w, given, known);
     let w2 = formats_write::number(out, w1, count);
-    let w3 = decode_write::write_trips(out, w2, updates, keys, marks, order, n, s, home);
+    let w3 = decode_trips::write_trips(out, w2, updates, keys, marks, order, n, s, home);
     formats_write::stretch(out, w3, home, p.vehicles, p.end)
 }
 
@@ -170,7 +170,7 @@ fn write_state(
         (held (now (s .entry)) (now (home .entry)) (index (now (keys .entry)) (now (marks .entry))
         (now (order .entry)) n))) (versionOf st) st))) ⌝ }
 {
-    let version = overlay_frame::version(old);
+    let version = overlay_feeds::read_head(old).version;
     let w1 = overlay_frame::opening(new, Put::At(0), version, count, old, from, feed);
     let w2 = write_feed(new, w1, updates, keys, marks, order, n, feed, s, home, p);
     overlay_frame::closing(new, w2, old, to, end)

@@ -11,7 +11,7 @@ ghost use Rattle.formats.specs.Format.{small, list, optional, _&_};
 ghost use Rattle.decode.specs.Trip.{id, delay, instant, number32, stopUpdate, time, trip};
 ghost use Rattle.formats_check.specs.promises.Checked.{Checked, Fine, Tested};
 ghost use Rattle.formats_check.specs.laws.Rising.{Rises, ascend};
-ghost use Rattle.overlay_trip.specs.laws.Trip.{timeGood, routeGood, tripGood, Past};
+ghost use Rattle.overlay_trip.specs.laws.Trip.{timeGood, routeGood, tripGood};
 
 // Any 32 bits, by how a signed number is written.
 fn delay(s: &[u8], at: usize) -> Skip
@@ -214,14 +214,4 @@ pub fn trip(s: &[u8], at: usize) -> Skip
         return Skip::Broken;
     };
     from_route(s, u)
-}
-
-// The place past a good record that stands at `at`.
-pub fn past_trip(s: &[u8], at: usize) -> usize
-    ensures { λ r. ⌜ Past (now (s .entry)) at r ⌝ }
-{
-    match trip(s, at) {
-        Skip::At(p) => p,
-        Skip::Broken => 0,
-    }
 }

@@ -10,15 +10,15 @@ copied c = c .before .before .before .before .before .before
 abbrev headed : tie.After-stretch → tie.After-head
 headed c = c .before .before .before .before
 
-abbrev counted : tie.After-head → tie.After-feeds
+abbrev counted : tie.After-head → tie.After-read-head
 counted c = c .before .before
 
-abbrev start : tie.After-feeds → tie.Start
+abbrev start : tie.After-read-head → tie.Start
 start c = c .before .before .before .before
 
 returns : tie.Need-returns
 returns c = λ q s to S. let h = headed (copied c) in
-    opened S (start (counted h) .args .version) (counted h .feeds .ensures) (h .head .ensures)
+    opened S (start (counted h) .args .version) (counted h .read-head .ensures) (h .head .ensures)
     (copied c .stretch .ensures) (c .before .before .text .ensures)
 
 pub opening-spec : {M : Type 1} → statement M

@@ -1,41 +1,25 @@
 -- Law. The writing of a state with one feed put: what stands before its body, the body, and what follows it.
-use mathlib.Core.Path.{_≡_, refl, sym, ap, _∙_}
-use mathlib.Core.List.{List, [], _∷_, _++_, append-assoc}
-use Prim.Native.Nat.{ℕ, suc, _+_, _-_, _≤_}
+use mathlib.Core.Path.{_≡_, sym, ap, _∙_}
+use mathlib.Core.List.{List, _∷_, _++_, append-assoc}
+use Prim.Native.Nat.{ℕ, _+_, _-_, _≤_}
 use native.Mathlib.Omega.{arith}
 use lib.ListN.{length, length-append}
 use lib.Seq.{slice, length-slice, take-all}
 use Rattle.formats.specs.Readers.{manyW}
 use Rattle.formats.specs.Number.{numberW}
-use Rattle.formats.specs.Format.{Format, list, Value, write}
+use Rattle.formats.specs.Format.{Format, Value, write}
 use Rattle.formats_write.specs.declared.Put.{Put}
 use Rattle.formats_write.specs.laws.Adds.{then, same}
 use Rattle.formats_write.specs.promises.Adds.{Adds}
 use Rattle.formats_write.specs.promises.Given.{textW}
-use Rattle.formats_read.specs.laws.Here.{halves, number-here}
-use Rattle.formats_read.specs.laws.Lists.{listed, run, many-append}
-use Rattle.formats_read.specs.promises.Here.{Here}
+use Rattle.formats_read.specs.laws.Lists.{run, many-append}
 use Rattle.formats_read.specs.promises.Lists.{Many}
-use Rattle.formats_read.specs.promises.Reads.{ReadsNumber}
 use Rattle.maps.specs.Map.{put}
 use Rattle.maps.specs.Order.{texts}
-use Rattle.overlay.specs.State.{Feed, State, feed, feedEntry, overlay, versionOf, feedsOf}
+use Rattle.overlay.specs.State.{Feed, State, feed, feedEntry, overlay, feedsOf}
 use Rattle.overlay.specs.Change.{putFeed}
-use Rattle.overlay_frame.specs.promises.Frame.{Feeds, Spot, headW, openingW, closingW}
-
--- the version, and the count of feeds with the place of the first
-module _ {b : List ℕ} {n e : ℕ} (N : ReadsNumber b 1 n e) where
-  pub version-read : {s : State} {q : ℕ} → Here overlay b 0 q s → n ≡ versionOf s
-  version-read h = N .value (number-here (halves (halves h .second) .first))
-
-  list-here : {s : State} {q : ℕ} → Here overlay b 0 q s → Here (list 4 feedEntry) b e q (feedsOf s)
-  list-here h = rw (N .next (number-here (halves (halves h .second) .first))) (halves (halves h .second) .second)
-
-  pub feeds-read : {m d : ℕ} → ReadsNumber b e m d → Feeds b m d
-  feeds-read M = record {
-    count = λ h. M .value (listed (list-here h) .1 .count);
-    listed = λ h. rw (M .next (listed (list-here h) .1 .count)) (listed (list-here h) .1 .values);
-  }
+use Rattle.overlay_feeds.specs.promises.Head.{ReadsHead}
+use Rattle.overlay_frame.specs.promises.Frame.{Spot, headW, openingW, closingW}
 
 -- values that stand up to one place begin at one place
 same-start : (f : Format) (s : List ℕ) (p o q : ℕ) (vs : List (Value f)) → Many f s p q vs → Many f s o q vs → p ≡ o
@@ -51,13 +35,14 @@ regroup a n m t d e = simp append-assoc
 
 module _ {b : List ℕ} {q : ℕ} {s : State} {f : List ℕ} {from to count : ℕ} (S : Spot b q s f from to count) where
   -- before the body
-  pub opened : (v : ℕ) {n first : ℕ} {l m o i : List ℕ} {r k j z : Put} → Feeds b n first → Adds l r m k (headW v count)
+  pub opened : (v : ℕ) {w c n first : ℕ} {l m o i : List ℕ} {r k j z : Put} → ReadsHead b w c n first
+      → Adds l r m k (headW v count)
       → (first ≤ from → from ≤ length b → Adds m k o j (slice first from b))
       → (0 ≤ length f → length f ≤ length f → Adds o j i z (textW (slice 0 (length f) f)))
       → Adds l r i z (openingW v count (S .front) f)
   opened v {first} {m} {o} {k} {j} N a g t =
       let e : first ≡ S .first =
-      same-start feedEntry b first (S .first) q (feedsOf s) (N .listed (S .whole)) (S .listed) in
+      same-start feedEntry b first (S .first) q (feedsOf s) (N .to (S .whole) .feeds-here) (S .listed) in
       let x = run feedEntry b (S .first) from (S .front) (S .before) in
       let y : Adds m k o j (manyW (write feedEntry) (S .front)) =
       same (g (omega (arith, x .forward)) (x .within)) (ap (λ p. slice p from b) e ∙ x .written) in

@@ -13,11 +13,6 @@ use Rattle.maps.specs.Map.{put}
 use Rattle.maps.specs.Order.{texts}
 use Rattle.overlay.specs.State.{Feed, State, feedEntry, overlay, feedsOf}
 
--- an overlay that stands in b has n feeds, the first of them at `first`
-pub record Feeds (b : List ℕ) (n first : ℕ) : Type 0 where
-  pub count : {s : State} {q : ℕ} → Here overlay b 0 q s → n ≡ length (feedsOf s)
-  pub listed : {s : State} {q : ℕ} → Here overlay b 0 q s → Many feedEntry b first q (feedsOf s)
-
 -- the state s stands in b up to q. The feed of the id f goes between `from` and `to`, where its entry or nothing
 -- stands, and with it there are `count` feeds
 pub record Spot (b : List ℕ) (q : ℕ) (s : State) (f : List ℕ) (from to count : ℕ) : Type 0 where

@@ -12,12 +12,12 @@ returns c =
     let at-closing = c .before .before in
     let at-write-feed = at-closing .before .before .before .before .before .before in
     let at-opening = at-write-feed .before .before .before .before .before in
-    let at-version = at-opening .before .before in
-    let start = at-version .before .before .before .before .before .before .before .before .before .before in
+    let at-head = at-opening .before .before in
+    let start = at-head .before .before .before .before .before .before .before .before .before .before in
     λ st F a e t S P is. state-wrote (feedAfter (start .args .feed .now) t F
     (held (start .args .s .now) (start .args .home .now)
     (index (start .args .keys .now) (start .args .marks .now) (start .args .order .now) (start .args .n))))
-    S (at-version .version .ensures st (start .args .end) (S .whole))
+    S (at-head .read-head .ensures .to (S .whole) .version-is)
     (at-opening .opening .ensures (start .args .end) st (start .args .to) S)
     (at-write-feed .write-feed .ensures F a e t P is)
     (at-closing .closing .ensures st (start .args .feed .now) (start .args .from) (start .args .count) S)

@@ -29,7 +29,6 @@ use Rattle.overlay.specs.Valid.{tripValid, countValid, feedValid, within, valid
 use Rattle.overlay.specs.Image.{filled, image, stateOf}
 use Rattle.overlay.specs.laws.Buffer.{state-buffer}
 use Rattle.overlay.specs.laws.EveryEntry.{each-of, each-map, each-both, get-each}
-use Rattle.overlay_trip.specs.laws.Trip.{tripGood, trip-good}
 use Rattle.overlay_open.specs.declared.Opened.{Opened}
 use Rattle.overlay_open.specs.declared.Opened.the-variants.{No, At}
 use Rattle.overlay_open.specs.promises.Opened.{ending}
@@ -109,10 +108,6 @@ trip-held f e h v =
       up = w .1;
       few = list-few 128 (number32 & stopUpdate) (updatesOf (e .1)) (rest time updates (e .1 .1 .1 .1 .1 .1) d);
     }
-
--- such a record is one that `past_trip` passes
-pub trip-passes : {f : List ℕ} {e : List ℕ × Trip} → HeldTrip f e → holds tripGood (e .1) ≡ true
-trip-passes {f} {e} H = sym (trip-good (e .1)) ∙ rw (H .fine, H .up) refl
 
 -- A FEED
 abbrev vehiclesOn : Format

@@ -1,24 +1,20 @@
 -- Law. A trip's record by checked reading.
-use mathlib.Core.Path.{_≡_, refl, sym, ap, _∙_}
+use mathlib.Core.Path.{_≡_, refl, ap, _∙_}
 use mathlib.Core.List.{List}
 use Prim.Native.Nat.{ℕ, _%_, _≤_, _<_}
 use native.Mathlib.Omega.{arith}
-use lib.ListN.{length, drop}
 use lib.IntN.{pos, negsuc}
 use Rattle.formats.specs.declared.Numeral.{Numeral}
 use Rattle.formats.specs.declared.Numeral.the-variants.{Got, Bad}
-use Rattle.formats.specs.declared.Skip.{Skip}
 use Rattle.formats.specs.declared.Skip.the-variants.{At, Broken}
-use mathlib.Core.Option.{some}
-use mathlib.Core.Bool.{Bool, true, _&&_}
-use Rattle.formats.specs.Format.{Format, small, optional, _&_, list, Value, read}
+use mathlib.Core.Bool.{Bool, _&&_}
+use Rattle.formats.specs.Format.{Format, small, optional, _&_, list, Value}
 use Rattle.maps.specs.Map.{ascending}
 use Rattle.maps.specs.Order.{numbers}
 use Rattle.decode.specs.Trip.{delay, instant, date, id, number32, time, stopUpdate, trip, Trip}
 use Rattle.decode.specs.Trip.{updatesOf}
 use Rattle.formats_check.specs.laws.Rising.{ascend}
-use Rattle.formats_check.specs.promises.Checked.{Number, fine, Fine, Test, own, behind, holds, Tested}
-use Rattle.formats_check.specs.laws.Checked.{check-past}
+use Rattle.formats_check.specs.promises.Checked.{Number, fine, Fine, Test, own, behind, holds}
 use Rattle.formats_check.specs.laws.Elements.{number-no, number-high, number-so, signed-no, signed-bad, signed-so}
 use Rattle.formats_check.specs.laws.Elements.{around-in, around-over, upward-in, upward-over, upward-below}
 use Rattle.basics.specs.laws.Booleans.{and-assoc}
@@ -92,21 +88,3 @@ trip-good =
     (v .1 .1 .1 .1 .1))
     (behind-as (small 1) (date & id & F4) (behind date routeGood) (λ v. A6 (v .1 .1 .1 .1))
     (behind-as date (id & F4) routeGood (λ v. A6 (v .1 .1 .1)) route-good))
-
--- where a good record is known to stand, this is the way past it
-pub record Past (s : List ℕ) (at r : ℕ) : Type 0 where
-  pub on : (v : Trip) (q : ℕ) → read trip (drop at s) ≡ some (v, drop q s) → q ≤ length s → holds tripGood v ≡ true
-      → r ≡ q
-
-module _ {s : List ℕ} {at : ℕ} {x : Skip} (T : Tested trip tripGood s at x) where
-  at-at : {p q : ℕ} → At p ≡ At q → p ≡ q
-  at-at e = cc
-
-  pub past-so : {p : ℕ} → x ≡ At p → Past s at p
-  past-so h = record { on = λ v q e i j. at-at (sym h ∙ check-past (T .is) v q e i j) }
-
-  pub past-no : x ≡ Broken → (r : ℕ) → Past s at r
-  past-no h r = record {
-    on = λ v q e i j. absurd (let z : Broken ≡ At q = sym h
-        ∙ check-past (T .is) v q e i j in let y : _≡_ {A = ℕ} 0 1 = cc in omega arith);
-  }

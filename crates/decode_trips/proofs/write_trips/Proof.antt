@@ -1,9 +1,9 @@
--- `decode_write::write_trips` meets its contract. Assumes nothing.
+-- `decode_trips::write_trips` meets its contract. Assumes nothing.
 use borrow.Author.Needs.{needs}
 use native.Mathlib.Omega.{arith}
 use Rattle.decode_write.specs.laws.Slots.{good-slots, trips-adds}
-use Rattle.decode_write.proofs.write_trips.Statement.{statement}
-use Rattle.decode_write.proofs.write_trips.Tie as tie
+use Rattle.decode_trips.proofs.write_trips.Statement.{statement}
+use Rattle.decode_trips.proofs.write_trips.Tie as tie
 
 put-entries-requires : tie.Need-put-entries-requires
 put-entries-requires c κs =
