@@ -1,7 +1,9 @@
 // How a call leaves its output: what it wrote and then zeros, or zeros alone where it is refused.
 use formats_write::Put;
 ghost use mathlib.Core.Path.{_≡_};
-ghost use Rattle.panel_output.specs.promises.Ending.{putEnding, Cleared, Finished};
+ghost use Prim.Native.Nat.{_<_};
+ghost use lib.ListN.{length, set, replicate};
+ghost use Rattle.panel_output.specs.promises.Ending.{endingOf, putEnding, Cleared, Finished};
 
 // A call is refused by the question of this number, or it has written its output up to a place.
 pub enum Ending {
@@ -9,14 +11,21 @@ pub enum Ending {
     Written(usize),
 }
 
-// What does not fit is question 7's.
-pub fn of_put(w: Put) -> Ending
-    ensures { λ r. ⌜ r ≡ putEnding w ⌝ }
+// What does not fit is the question's of this number.
+pub fn ended(w: Put, full: u32) -> Ending
+    ensures { λ r. ⌜ r ≡ endingOf full w ⌝ }
 {
     match w {
         Put::At(p) => Ending::Written(p),
-        Put::Full => Ending::Refused(7),
+        Put::Full => Ending::Refused(full),
     }
+}
+
+// A state that does not fit is question 7's.
+pub fn of_put(w: Put) -> Ending
+    ensures { λ r. ⌜ r ≡ putEnding w ⌝ }
+{
+    ended(w, 7)
 }
 
 // Zeros from p on.
@@ -41,5 +50,47 @@ pub fn finish(out: &mut [u8], e: Ending) -> u32
             clear_behind(out, p);
             0
         }
+    }
+}
+
+// Zero at i, written only where there is another number: memory never written stays unwritten.
+fn clear16_at(s: &mut [u16], i: usize)
+    requires { ⌜ i < length (now s) ⌝ }
+    ensures { λ _. ⌜ now (s .exit) ≡ set (now (s .entry)) i 0 ⌝ }
+{
+    if s[i] == 0 {
+        return;
+    }
+    s[i] = 0;
+}
+
+fn clear32_at(s: &mut [u32], i: usize)
+    requires { ⌜ i < length (now s) ⌝ }
+    ensures { λ _. ⌜ now (s .exit) ≡ set (now (s .entry)) i 0 ⌝ }
+{
+    if s[i] == 0 {
+        return;
+    }
+    s[i] = 0;
+}
+
+// All elements of a working slice become 0.
+pub fn clear16(s: &mut [u16])
+    ensures { λ _. ⌜ now (s .exit) ≡ replicate (length (now (s .entry))) 0 ⌝ }
+{
+    let mut i = 0;
+    while i < s.len() {
+        clear16_at(s, i);
+        i += 1;
+    }
+}
+
+pub fn clear32(s: &mut [u32])
+    ensures { λ _. ⌜ now (s .exit) ≡ replicate (length (now (s .entry))) 0 ⌝ }
+{
+    let mut i = 0;
+    while i < s.len() {
+        clear32_at(s, i);
+        i += 1;
     }
 }

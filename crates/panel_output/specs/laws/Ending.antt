@@ -1,4 +1,5 @@
--- Law. What a writer from the start of an output makes of a call: accepted with the whole, or question 7's no.
+-- Law. What a writer from the start of an output makes of a call: accepted with the whole, or the no of the question
+-- that asks for room.
 use mathlib.Core.Path.{_≡_, refl, sym, ap, _∙_}
 use mathlib.Core.Bool.{Bool, true, false}
 use mathlib.Core.List.{List, _++_, append-nil}
@@ -13,21 +14,25 @@ use Rattle.formats_write.specs.declared.Put.the-variants as put
 use Rattle.formats_write.specs.promises.Adds.{Wrote}
 use Rattle.overlay.specs.Image.{filled}
 use Rattle.panel.specs.Outcome.{accepted, need, numberOf}
-use Rattle.panel_output.specs.promises.Ending.{outcomeOf, putEnding, Cleared, Finished}
+use Rattle.panel_output.specs.promises.Ending.{outcomeOf, endingOf, putEnding, Cleared, Finished}
 use Rattle.panel_output.specs.declared.Ending.{Ending}
 use Rattle.panel_output.specs.declared.Ending.the-variants.{Refused, Written}
 
-pub written-outcome : {l m : List ℕ} {q : Put} {x : List ℕ} → Wrote l m q x
-    → outcomeOf m (putEnding q) ≡ need (leb (length x) (length l)) 7 (accepted x)
-written-outcome {l} {m} {q} {x} w = go (leb (length x) (length l)) refl
+pub written-as : (k : ℕ) {l m : List ℕ} {q : Put} {x : List ℕ} → Wrote l m q x
+    → outcomeOf m (endingOf k q) ≡ need (leb (length x) (length l)) k (accepted x)
+written-as k {l} {m} {q} {x} w = go (leb (length x) (length l)) refl
   where
-    go : (t : Bool) → leb (length x) (length l) ≡ t → outcomeOf m (putEnding q) ≡ need t 7 (accepted x)
+    go : (t : Bool) → leb (length x) (length l) ≡ t → outcomeOf m (endingOf k q) ≡ need t k (accepted x)
     go true t =
         let h = leb-true (length x) (length l) t in
         let e : take (length x) m ≡ x =
         ap (take (length x)) (w .holds h) ∙ take-at x (drop (length x) l) (length x) refl in
-        ap (λ q. outcomeOf m (putEnding q)) (w .next h) ∙ ap accepted e
-    go false t = ap (λ q. outcomeOf m (putEnding q)) (w .full (leb-false (length x) (length l) t))
+        ap (λ q. outcomeOf m (endingOf k q)) (w .next h) ∙ ap accepted e
+    go false t = ap (λ q. outcomeOf m (endingOf k q)) (w .full (leb-false (length x) (length l) t))
+
+pub written-outcome : {l m : List ℕ} {q : Put} {x : List ℕ} → Wrote l m q x
+    → outcomeOf m (putEnding q) ≡ need (leb (length x) (length l)) 7 (accepted x)
+written-outcome = written-as 7
 
 -- zeros behind what stands up to p: a part of its own, cleared
 pub cleared : (l b : List ℕ) (p : ℕ) → p < length l → b ≡ replicate (length (take (length l - p) (drop p l))) 0
@@ -57,5 +62,8 @@ pub written-so : {l m : List ℕ} {e : Ending} {p : ℕ} → e ≡ Written p →
 written-so {l} i c = record { number = ap (λ e. numberOf (outcomeOf l e)) (sym i); bytes = rw i (c .is) }
 
 -- a writer's last place
-pub put-at : {w : Put} {p : ℕ} → w ≡ put.At p → Written p ≡ putEnding w
-put-at e = ap putEnding (sym e)
+pub put-at : (k : ℕ) {w : Put} {p : ℕ} → w ≡ put.At p → Written p ≡ endingOf k w
+put-at k e = ap (endingOf k) (sym e)
+
+pub put-full : (k : ℕ) {w : Put} → w ≡ put.Full → Refused k ≡ endingOf k w
+put-full k e = ap (endingOf k) (sym e)

@@ -14,9 +14,13 @@ abbrev pub outcomeOf : List ℕ → Ending → Outcome
 outcomeOf l (Refused n) = refused n
 outcomeOf l (Written p) = accepted (take p l)
 
+-- what does not fit is question k's: of a state 7, of a card 8
+abbrev pub endingOf : ℕ → Put → Ending
+endingOf k (put.At p) = Written p
+endingOf k put.Full = Refused k
+
 abbrev pub putEnding : Put → Ending
-putEnding (put.At p) = Written p
-putEnding put.Full = Refused 7
+putEnding w = endingOf 7 w
 
 -- the output l with zeros from p on
 pub record Cleared (l : List ℕ) (p : ℕ) (m : List ℕ) : Type 0 where

@@ -1,0 +1,4 @@
+pub mod Lengths
+pub mod Given
+pub mod promises
+pub mod laws
