@@ -1,0 +1,5 @@
+pub mod Texts
+pub mod Places
+pub mod Notes
+pub mod Alerts
+pub mod Leg

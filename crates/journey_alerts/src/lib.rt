@@ -1,0 +1,285 @@
+// The alerts of the overlay b that apply to a leg of a card: whether there is one, and their labels, noted.
+use formats_write::Span;
+use overlay_seek::Found;
+ghost use mathlib.Core.Path.{_≡_};
+ghost use Prim.Native.Nat.{_≤_};
+ghost use lib.ListN.{length, getD};
+ghost use Rattle.decode.specs.Sizes.{mostOld};
+ghost use Rattle.alerts_search.specs.promises.Marks.{mostMarks};
+ghost use Rattle.overlay_places.specs.promises.Noted.{Noted};
+ghost use Rattle.journey_labels.specs.promises.Labels.{Inside, SoundLabels};
+ghost use Rattle.journey_alerts.specs.promises.Texts.{TextsIn, LegTextsAt};
+ghost use Rattle.journey_alerts.specs.promises.Places.{Lent, Prepared};
+ghost use Rattle.journey_alerts.specs.promises.Alerts.{LegApplies, LabelAdded, AlertMet, EachMet, AlertsAtMet};
+ghost use Rattle.journey_alerts.specs.promises.Alerts.{LegAlerted};
+
+// The texts of a leg that alerts are asked by.
+pub struct LegTexts {
+    pub mode: Span,
+    pub short: Span,
+    pub route: Span,
+    pub trip: Span,
+    pub from: Span,
+    pub to: Span,
+}
+
+// Whether an alert applies, and how many labels are noted.
+pub struct LegAlerts {
+    pub hit: bool,
+    pub labels: usize,
+}
+
+fn texts(s: &[u8], at: usize) -> LegTexts
+    ensures { λ r. ⌜ LegTextsAt (now (s .entry)) at r ⌝ }
+{
+    let p = journey_places::leg(s, at);
+    LegTexts {
+        mode: formats_read::text(s, at),
+        short: formats_read::text(s, p.short),
+        route: formats_read::text(s, p.route),
+        trip: formats_read::text(s, p.trip),
+        from: formats_read::text(s, p.from),
+        to: formats_read::text(s, p.to),
+    }
+}
+
+// The numbers of the leg's candidates among the alerts at p, and the places of these alerts; how many candidates there
+// are.
+fn prepare(
+    s: &[u8],
+    t: LegTexts,
+    b: &[u8],
+    p: usize,
+    candidates: &mut [u16],
+    met: &mut [u16],
+    places: &mut [u32],
+) -> usize
+    requires { ⌜ TextsIn (now s) t ⌝ }
+    requires { ⌜ (length (now candidates) ≡ 256) × (length (now met) ≡ mostMarks) × (length (now places) ≡ 256)
+        × (length (now b) ≤ mostOld) ⌝ }
+    ensures { λ r. ⌜ Prepared (now (s .entry)) t (now (b .entry)) p r (now (candidates .exit)) (now (places .exit)) ⌝ }
+{
+    let trip = t.trip;
+    let route = t.route;
+    let from = t.from;
+    let to = t.to;
+    let a = trip.from;
+    let c = trip.to;
+    let d = route.from;
+    let e = route.to;
+    let f = from.from;
+    let g = from.to;
+    let h = to.from;
+    let i = to.to;
+    alerts_search::places::note_alerts(b, p, places);
+    alerts_search::candidates::find(
+        b,
+        p,
+        &s[a..c],
+        &s[d..e],
+        &s[f..g],
+        &s[h..i],
+        candidates,
+        met,
+    )
+}
+
+// Whether the alert at p applies to the leg; `text` is what its texts are written into.
+fn applies(text: &mut [u8], s: &[u8], t: LegTexts, b: &[u8], p: usize) -> bool
+    requires { ⌜ TextsIn (now s) t ⌝ }
+    ensures { λ r. ⌜ LegApplies (now (s .entry)) t (now (b .entry)) p (length (now (text .entry))) r ⌝ }
+{
+    let mode = t.mode;
+    let short = t.short;
+    let route = t.route;
+    let trip = t.trip;
+    let from = t.from;
+    let to = t.to;
+    let a = mode.from;
+    let c = mode.to;
+    let d = short.from;
+    let e = short.to;
+    let f = route.from;
+    let g = route.to;
+    let h = trip.from;
+    let i = trip.to;
+    let j = from.from;
+    let k = from.to;
+    let l = to.from;
+    let m = to.to;
+    alerts_apply::applies::applies(
+        text,
+        b,
+        p,
+        &s[h..i],
+        &s[f..g],
+        &s[d..e],
+        &s[j..k],
+        &s[l..m],
+        &s[a..c],
+    )
+}
+
+// A label is noted unless it is empty, and as long as there is room: how many there are then.
+fn note_label(
+    b: &[u8],
+    froms: &mut [u32],
+    tos: &mut [u32],
+    n: usize,
+    from: usize,
+    to: usize,
+) -> usize
+    requires { ⌜ SoundLabels (now b) (now froms) (now tos) n ⌝ }
+    requires { ⌜ Inside (now b) (from, to) × (length (now b) ≤ mostOld) ⌝ }
+    ensures { λ r. ⌜ LabelAdded (now (b .entry)) (now (froms .entry)) (now (tos .entry)) n (from, to)
+        (now (froms .exit)) (now (tos .exit)) r ⌝ }
+{
+    if to <= from {
+        return n;
+    }
+    if 1024 < n {
+        return n;
+    }
+    journey_labels::note(b, froms, tos, n, from, to)
+}
+
+// One alert more, at p.
+fn meet_alert(
+    text: &mut [u8],
+    s: &[u8],
+    t: LegTexts,
+    b: &[u8],
+    p: usize,
+    froms: &mut [u32],
+    tos: &mut [u32],
+    h: LegAlerts,
+) -> LegAlerts
+    requires { ⌜ TextsIn (now s) t ⌝ }
+    requires { ⌜ SoundLabels (now b) (now froms) (now tos) (h .labels) × (length (now b) ≤ mostOld) ⌝ }
+    ensures { λ r. ⌜ AlertMet (now (s .entry)) t (now (b .entry)) p (length (now (text .entry)))
+        (now (froms .entry)) (now (tos .entry)) h (now (froms .exit)) (now (tos .exit)) r ⌝ }
+{
+    if applies(text, s, t, b, p) {
+        let l = alerts_apply::texts::label(b, p);
+        return LegAlerts {
+            hit: true,
+            labels: note_label(b, froms, tos, h.labels, l.from, l.to),
+        };
+    }
+    h
+}
+
+fn wide(x: u16) -> usize
+    ensures { λ r. ⌜ r ≡ x ⌝ }
+{
+    x as usize
+}
+
+// The number at k, and the place at i; past the end it is 0.
+fn number_at(a: &[u16], k: usize) -> usize
+    ensures { λ r. ⌜ r ≡ getD (now (a .entry)) k 0 ⌝ }
+{
+    if a.len() <= k {
+        return 0;
+    }
+    wide(a[k])
+}
+
+fn place_at(a: &[u32], i: usize) -> usize
+    ensures { λ r. ⌜ r ≡ getD (now (a .entry)) i 0 ⌝ }
+{
+    if a.len() <= i {
+        return 0;
+    }
+    decode_slots::word(a, i)
+}
+
+// The candidates one after another.
+fn each_candidate(
+    s: &[u8],
+    t: LegTexts,
+    b: &[u8],
+    candidates: &[u16],
+    n: usize,
+    places: &[u32],
+    text: &mut [u8],
+    froms: &mut [u32],
+    tos: &mut [u32],
+    h: LegAlerts,
+) -> LegAlerts
+    requires { ⌜ TextsIn (now s) t ⌝ }
+    requires { ⌜ SoundLabels (now b) (now froms) (now tos) (h .labels) × (length (now b) ≤ mostOld) ⌝ }
+    ensures { λ r. ⌜ EachMet (now (s .entry)) t (now (b .entry)) (now (candidates .entry)) n (now (places .entry)) n
+        (length (now (text .entry))) (now (froms .entry)) (now (tos .entry)) h
+        (now (froms .exit)) (now (tos .exit)) r ⌝ }
+{
+    let mut k = 0;
+    let mut r = h;
+    while k < n {
+        let p = place_at(places, number_at(candidates, k));
+        r = meet_alert(text, s, t, b, p, froms, tos, r);
+        k += 1;
+    }
+    r
+}
+
+// The alerts at p.
+fn alerts_at(
+    s: &[u8],
+    t: LegTexts,
+    b: &[u8],
+    p: usize,
+    candidates: &mut [u16],
+    met: &mut [u16],
+    places: &mut [u32],
+    text: &mut [u8],
+    froms: &mut [u32],
+    tos: &mut [u32],
+    n: usize,
+) -> LegAlerts
+    requires { ⌜ TextsIn (now s) t ⌝ }
+    requires { ⌜ Lent (now b) (now candidates) (now met) (now places) (now text) ⌝ }
+    requires { ⌜ SoundLabels (now b) (now froms) (now tos) n ⌝ }
+    ensures { λ r. ⌜ AlertsAtMet (now (s .entry)) t (now (b .entry)) p (length (now (text .entry)))
+        (now (froms .entry)) (now (tos .entry)) n (now (froms .exit)) (now (tos .exit)) r ⌝ }
+{
+    let c = prepare(s, t, b, p, candidates, met, places);
+    let h = LegAlerts {
+        hit: false,
+        labels: n,
+    };
+    each_candidate(s, t, b, candidates, c, places, text, froms, tos, h)
+}
+
+// The alerts of its trip's feed that apply to the leg at `at`: their labels go behind the n that are noted.
+pub fn leg(
+    s: &[u8],
+    at: usize,
+    b: &[u8],
+    noted: &[u32],
+    candidates: &mut [u16],
+    met: &mut [u16],
+    places: &mut [u32],
+    text: &mut [u8],
+    froms: &mut [u32],
+    tos: &mut [u32],
+    n: usize,
+) -> LegAlerts
+    requires { ⌜ Noted (now b) (now noted) ⌝ }
+    requires { ⌜ Lent (now b) (now candidates) (now met) (now places) (now text) ⌝ }
+    requires { ⌜ SoundLabels (now b) (now froms) (now tos) n ⌝ }
+    ensures { λ r. ⌜ LegAlerted (now (s .entry)) at (now (b .entry)) (now (froms .entry)) (now (tos .entry)) n
+        (now (froms .exit)) (now (tos .exit)) r ⌝ }
+{
+    let t = texts(s, at);
+    let id = t.trip;
+    let f = id.from;
+    let e = id.to;
+    let Found::At(p) = overlay_resolve::alerts(b, noted, &s[f..e]) else {
+        return LegAlerts {
+            hit: false,
+            labels: n,
+        };
+    };
+    alerts_at(s, t, b, p, candidates, met, places, text, froms, tos, n)
+}

@@ -1,0 +1,142 @@
+// The first pass over the legs of a card: what decides its head, and the labels of the alerts that apply.
+use journey_card::Survey;
+use journey_leg::LegRealtime;
+ghost use mathlib.Core.Path.{_≡_};
+ghost use lib.ListN.{length};
+ghost use Rattle.overlay_places.specs.promises.Noted.{Noted};
+ghost use Rattle.journey_labels.specs.promises.Labels.{labelsLength, SoundLabels};
+ghost use Rattle.journey_alerts.specs.promises.Places.{Lent};
+ghost use Rattle.journey_survey.specs.promises.Surveyed.{Surveyed};
+ghost use Rattle.journey_survey.specs.promises.Legs.{MeetsLeg, LegSurveyed, EachSurveyed};
+
+// What was gathered, and how many labels are noted.
+pub struct CardSurvey {
+    pub seen: Survey,
+    pub labels: usize,
+}
+
+// One transit leg more, at `at`, by what look-ups gave for it and whether an alert applies.
+fn one_more(s: &[u8], at: usize, seen: Survey, r: LegRealtime, hit: bool) -> Survey
+    ensures { λ x. ⌜ MeetsLeg (now (s .entry)) at seen r hit x ⌝ }
+{
+    let p = journey_places::leg(s, at).realtime;
+    let departure = formats_read::optional_signed(s, p);
+    let q = formats_skip::past_optional_number(s, p);
+    let arrival = formats_read::optional_signed(s, q);
+    journey_card::meet(seen, r, hit, departure, arrival)
+}
+
+// One leg more: a walk adds nothing.
+fn leg(
+    s: &[u8],
+    at: usize,
+    b: &[u8],
+    noted: &[u32],
+    candidates: &mut [u16],
+    met: &mut [u16],
+    places: &mut [u32],
+    text: &mut [u8],
+    froms: &mut [u32],
+    tos: &mut [u32],
+    c: CardSurvey,
+) -> CardSurvey
+    requires { ⌜ Noted (now b) (now noted) ⌝ }
+    requires { ⌜ Lent (now b) (now candidates) (now met) (now places) (now text) ⌝ }
+    requires { ⌜ SoundLabels (now b) (now froms) (now tos) (c .labels) ⌝ }
+    ensures { λ r. ⌜ LegSurveyed (now (s .entry)) at (now (b .entry)) (now (froms .entry)) (now (tos .entry)) c
+        (now (froms .exit)) (now (tos .exit)) r ⌝ }
+{
+    if s.len() <= at {
+        return c;
+    }
+    if formats::tag(s, at) == 1 {
+        let p = at + 1;
+        let r = journey_finish::look(s, p, b, noted);
+        let a = journey_alerts::leg(
+            s,
+            p,
+            b,
+            noted,
+            candidates,
+            met,
+            places,
+            text,
+            froms,
+            tos,
+            c.labels,
+        );
+        let old = c.seen;
+        return CardSurvey {
+            seen: one_more(s, p, old, r, a.hit),
+            labels: a.labels,
+        };
+    }
+    c
+}
+
+// The n legs from `at` on.
+fn each_leg(
+    s: &[u8],
+    at: usize,
+    n: u64,
+    b: &[u8],
+    noted: &[u32],
+    candidates: &mut [u16],
+    met: &mut [u16],
+    places: &mut [u32],
+    text: &mut [u8],
+    froms: &mut [u32],
+    tos: &mut [u32],
+) -> CardSurvey
+    requires { ⌜ Noted (now b) (now noted) ⌝ }
+    requires { ⌜ Lent (now b) (now candidates) (now met) (now places) (now text) ⌝ }
+    requires { ⌜ (length (now froms) ≡ labelsLength) × (length (now tos) ≡ labelsLength) ⌝ }
+    ensures { λ r. ⌜ EachSurveyed (now (s .entry)) at n (now (b .entry)) (now (froms .exit)) (now (tos .exit)) r ⌝ }
+{
+    let mut p = at;
+    let mut left = n;
+    let mut c = CardSurvey {
+        seen: journey_card::begin(),
+        labels: 0,
+    };
+    while 0 < left {
+        c = leg(s, p, b, noted, candidates, met, places, text, froms, tos, c);
+        p = journey_places::past_leg(s, p);
+        left -= 1;
+    }
+    c
+}
+
+// The list of legs at `at`.
+pub fn survey(
+    s: &[u8],
+    at: usize,
+    b: &[u8],
+    noted: &[u32],
+    candidates: &mut [u16],
+    met: &mut [u16],
+    places: &mut [u32],
+    text: &mut [u8],
+    froms: &mut [u32],
+    tos: &mut [u32],
+) -> CardSurvey
+    requires { ⌜ Noted (now b) (now noted) ⌝ }
+    requires { ⌜ Lent (now b) (now candidates) (now met) (now places) (now text) ⌝ }
+    requires { ⌜ (length (now froms) ≡ labelsLength) × (length (now tos) ≡ labelsLength) ⌝ }
+    ensures { λ r. ⌜ Surveyed (now (s .entry)) at (now (b .entry)) (now (froms .exit)) (now (tos .exit)) r ⌝ }
+{
+    let n = formats_read::number(s, at);
+    each_leg(
+        s,
+        n.next,
+        n.value,
+        b,
+        noted,
+        candidates,
+        met,
+        places,
+        text,
+        froms,
+        tos,
+    )
+}

@@ -1,0 +1,138 @@
+// A card's call: questions 2 to 8 in their order, and the finished card.
+use formats_judge::Judge;
+use formats_write::Put;
+use journey_card::Survey;
+use overlay_open::Opened;
+use panel_output::Ending;
+
+mod table;
+
+use table::CARD;
+use table::CARD_DEPTH;
+use table::CARD_TABLE;
+ghost use mathlib.Core.Path.{_≡_};
+ghost use Prim.Native.Nat.{_<_};
+ghost use lib.ListN.{length};
+ghost use Rattle.overlay_places.specs.promises.Noted.{placesLength, Noted};
+ghost use Rattle.journey_alerts.specs.promises.Places.{Lent};
+ghost use Rattle.formats_judge.specs.Judged.{judgeTo};
+ghost use Rattle.journey.specs.Card as form;
+ghost use Rattle.panel_card.specs.promises.Card.{cardNumber, askedNumber, LentLabels};
+ghost use Rattle.panel_card.specs.promises.Card.{FinishesCard, CardEnds};
+
+// The end of a card, and the first of the questions 5 to 7 that it fails.
+fn judge_card(s: &[u8]) -> Judge
+    ensures { λ r. ⌜ r ≡ judgeTo form.card (now (s .entry)) 0 ⌝ }
+{
+    formats_judge::judge_value(&CARD_TABLE, CARD_DEPTH, CARD, s, 0)
+}
+
+// The first of the questions 3 to 7 that an arriving card fails.
+fn card_number(s: &[u8]) -> u32
+    ensures { λ r. ⌜ r ≡ cardNumber (now (s .entry)) ⌝ }
+{
+    if 65536 < s.len() {
+        return 3;
+    }
+    let Judge::At(p, n) = judge_card(s) else {
+        return 4;
+    };
+    if p < s.len() {
+        return 4;
+    }
+    n
+}
+
+// The first of the questions 2 to 7 that an arriving card and the old overlay fail.
+fn asked(old: &[u8], card: &[u8]) -> u32
+    ensures { λ r. ⌜ r ≡ askedNumber (now (old .entry)) (now (card .entry)) ⌝ }
+{
+    let Opened::At(end) = overlay_open::open(old) else {
+        return 2;
+    };
+    card_number(card)
+}
+
+// The finished card, from the start of `out` on: a first pass over its legs, and then the writing.
+fn finish(
+    old: &[u8],
+    noted: &[u32],
+    card: &[u8],
+    out: &mut [u8],
+    candidates: &mut [u16],
+    met: &mut [u16],
+    text: &mut [u8],
+    froms: &mut [u32],
+    tos: &mut [u32],
+    places: &mut [u32],
+) -> Put
+    requires { ⌜ Noted (now old) (now noted) ⌝ }
+    requires { ⌜ Lent (now old) (now candidates) (now met) (now places) (now text) ⌝ }
+    requires { ⌜ LentLabels (now froms) (now tos) × (0 < length (now card)) ⌝ }
+    ensures { λ r. ⌜ FinishesCard (now (old .entry)) (now (card .entry)) (now (out .entry)) (now (out .exit)) r ⌝ }
+{
+    let legs = journey_places::card(card, 0).legs;
+    let g = journey_survey::survey(
+        card,
+        legs,
+        old,
+        noted,
+        candidates,
+        met,
+        places,
+        text,
+        froms,
+        tos,
+    );
+    let seen: Survey = g.seen;
+    journey_enrich::enrich(
+        card,
+        0,
+        old,
+        noted,
+        seen,
+        froms,
+        tos,
+        g.labels,
+        out,
+        Put::At(0),
+    )
+}
+
+// A CARD: the finished one in `out`, or the number of the first question whose answer is no. What question 7 asks of
+// the finished card holds where the arriving card and the state are within it.
+pub fn card(
+    old: &[u8],
+    card: &[u8],
+    out: &mut [u8],
+    candidates: &mut [u16],
+    met: &mut [u16],
+    text: &mut [u8],
+    froms: &mut [u32],
+    tos: &mut [u32],
+    places: &mut [u32],
+    noted: &mut [u32],
+) -> Ending
+    requires { ⌜ Lent (now old) (now candidates) (now met) (now places) (now text) ⌝ }
+    requires { ⌜ LentLabels (now froms) (now tos) × (length (now noted) ≡ placesLength) ⌝ }
+    ensures { λ r. ⌜ CardEnds (now (old .entry)) (now (card .entry)) (now (out .entry)) (now (out .exit)) r ⌝ }
+{
+    let number = asked(old, card);
+    if number != 0 {
+        return Ending::Refused(number);
+    }
+    overlay_places::note(old, noted);
+    let w = finish(
+        old,
+        noted,
+        card,
+        out,
+        candidates,
+        met,
+        text,
+        froms,
+        tos,
+        places,
+    );
+    panel_output::ended(w, 8)
+}
