@@ -105,7 +105,7 @@ fn summer(s: u64) -> bool
     (march <= day) & (day < october)
 }
 
-fn offset(s: u64) -> u64
+pub fn offset(s: u64) -> u64
     ensures { λ r. ⌜ r ≡ offsetAt s ⌝ }
 {
     if summer(s) {

@@ -1,7 +1,7 @@
--- `overlay_show::feeds` is safe and ends: what is left of the list falls.
+-- `panel_show::card::legs` is safe and ends: what is left falls.
 use borrow.Author.Needs.{needs}
-use Rattle.overlay_show.proofs.feeds.Statement.{statement}
-use Rattle.overlay_show.proofs.feeds.Tie as tie
+use Rattle.panel_show.proofs.card.legs.Statement.{statement}
+use Rattle.panel_show.proofs.card.legs.Tie as tie
 
 abbrev Inv-loop : tie.InvT-loop
 Inv-loop s at p₀ left₀ p left = Unit {0}
@@ -9,8 +9,8 @@ Inv-loop s at p₀ left₀ p left = Unit {0}
 abbrev μ-loop : tie.MeasureT-loop
 μ-loop s at p₀ left₀ p left = left
 
-pub feeds-spec : {M : Type 1} → statement M
-feeds-spec =
+pub legs-spec : {M : Type 1} → statement M
+legs-spec =
     tie.close
     (tie.spec
     Inv-loop

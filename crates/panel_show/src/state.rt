@@ -1,8 +1,17 @@
-// The records of an overlay as a person reads them: the supplier's raw records behind a train. Each function writes
-// what stands at a place and answers the place past it; they are total, and write something also where nothing stands.
+// The records of an overlay: the supplier's raw records behind a train.
+use crate::parts::flag;
+use crate::parts::named;
+use crate::parts::optional_number;
+use crate::parts::optional_signed;
+use crate::parts::optional_text;
+use crate::parts::past;
+use crate::parts::past_float;
+use crate::parts::say;
+use crate::parts::say_degrees;
+use crate::parts::say_number;
+use crate::parts::signed;
+use crate::parts::text;
 use formats_read::Numbered;
-use formats_write::Span;
-use libc::STDOUT_FILENO;
 
 // What a list holds.
 const UPDATE: u8 = 0;
@@ -10,111 +19,6 @@ const UPDATE: u8 = 0;
 const VEHICLE: u8 = 1;
 
 const ID: u8 = 2;
-
-fn say(text: &[u8]) {
-    io::write_all(STDOUT_FILENO, text);
-}
-
-fn say_number(n: u64) {
-    io::print_decimal(STDOUT_FILENO, n);
-}
-
-// A signed number, by how it is written.
-fn say_signed(code: u64) {
-    if code % 2 == 0 {
-        say_number(code / 2);
-    } else {
-        say(b"-");
-        say_number(code / 2 + 1);
-    }
-}
-
-// The bytes of a text.
-fn text(s: &[u8], at: usize) -> usize {
-    let t: Span = formats_read::text(s, at);
-    let from = t.from;
-    let to = t.to;
-    say(&s[from..to]);
-    to
-}
-
-// A text behind its name, where it is not empty.
-fn named(s: &[u8], at: usize, name: &[u8]) -> usize {
-    let t: Span = formats_read::text(s, at);
-    if t.from < t.to {
-        say(name);
-        return text(s, at);
-    }
-    t.to
-}
-
-// Whether a flag is set, or an optional value is there.
-fn set(s: &[u8], at: usize) -> bool {
-    formats_read::number(s, at).value == 1
-}
-
-// The place past the byte at `at`.
-fn past(s: &[u8], at: usize) -> usize {
-    if at < s.len() {
-        return at + 1;
-    }
-    0
-}
-
-// A signed number behind its name.
-fn signed(s: &[u8], at: usize, name: &[u8]) -> usize {
-    let n: Numbered = formats_read::number(s, at);
-    say(name);
-    say_signed(n.value);
-    n.next
-}
-
-// The same where it is there.
-fn optional_signed(s: &[u8], at: usize, name: &[u8]) -> usize {
-    let p = past(s, at);
-    if set(s, at) {
-        return signed(s, p, name);
-    }
-    p
-}
-
-fn optional_number(s: &[u8], at: usize, name: &[u8]) -> usize {
-    let p = past(s, at);
-    if set(s, at) {
-        let n: Numbered = formats_read::number(s, p);
-        say(name);
-        say_number(n.value);
-        return n.next;
-    }
-    p
-}
-
-fn optional_text(s: &[u8], at: usize, name: &[u8]) -> usize {
-    let p = past(s, at);
-    if set(s, at) {
-        say(name);
-        return text(s, p);
-    }
-    p
-}
-
-// The place past eight bytes.
-fn float(s: &[u8], at: usize) -> usize {
-    if s.len() < 8 {
-        return 0;
-    }
-    if s.len() - 8 < at {
-        return 0;
-    }
-    at + 8
-}
-
-fn flag(s: &[u8], at: usize, name: &[u8]) -> usize {
-    if set(s, at) {
-        say(name);
-    }
-    past(s, at)
-}
 
 // A stop's update: sequence, stop, both events, skipped.
 fn update(s: &[u8], at: usize) -> usize {
@@ -131,13 +35,20 @@ fn update(s: &[u8], at: usize) -> usize {
     w
 }
 
-// A vehicle: its key, its trip, when it was updated; its place is two floats and not shown.
+// The degrees at `at`, behind a name.
+fn degrees(s: &[u8], at: usize, name: &[u8]) -> usize {
+    say(name);
+    say_degrees(formats_read::float(s, at));
+    past_float(s, at)
+}
+
+// A vehicle: its key, its trip, its place, when it was updated.
 fn vehicle(s: &[u8], at: usize) -> usize {
     say(b"    vehicle ");
     let p = text(s, at);
     let q = optional_text(s, p, b", trip ");
-    let r = float(s, q);
-    let u = float(s, r);
+    let r = degrees(s, q, b", at ");
+    let u = degrees(s, r, b", ");
     let v = signed(s, u, b", updated ");
     say(b"\n");
     v

@@ -1,7 +1,7 @@
--- `overlay_show::leaves` is safe and ends: what is left of the list falls.
+-- `panel_show::state::leaves` is safe and ends: what is left falls.
 use borrow.Author.Needs.{needs}
-use Rattle.overlay_show.proofs.leaves.Statement.{statement}
-use Rattle.overlay_show.proofs.leaves.Tie as tie
+use Rattle.panel_show.proofs.state.leaves.Statement.{statement}
+use Rattle.panel_show.proofs.state.leaves.Tie as tie
 
 abbrev Inv-loop : tie.InvT-loop
 Inv-loop kind s at p₀ left₀ p left = Unit {0}

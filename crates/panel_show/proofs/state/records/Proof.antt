@@ -1,7 +1,7 @@
--- `overlay_show::records` is safe and ends: what is left of the list falls.
+-- `panel_show::state::records` is safe and ends: what is left falls.
 use borrow.Author.Needs.{needs}
-use Rattle.overlay_show.proofs.records.Statement.{statement}
-use Rattle.overlay_show.proofs.records.Tie as tie
+use Rattle.panel_show.proofs.state.records.Statement.{statement}
+use Rattle.panel_show.proofs.state.records.Tie as tie
 
 abbrev Inv-loop : tie.InvT-loop
 Inv-loop trips s at p₀ left₀ p left = Unit {0}
