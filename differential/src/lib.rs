@@ -26,5 +26,6 @@ pub mod random;
 pub mod samples;
 #[cfg(feature = "port")]
 pub mod states;
+pub mod tables;
 pub mod tree;
 pub mod wire;

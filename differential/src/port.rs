@@ -35,6 +35,12 @@ mod raw {
         pub departure: Event,
     }
 
+    #[repr(C)]
+    pub struct Label {
+        pub from: usize,
+        pub to: usize,
+    }
+
     extern "C" {
         pub fn probes_field_end(bytes: *const u8, length: usize, at: usize) -> usize;
         pub fn trips_judge(message: *const u8, length: usize) -> u32;
@@ -75,6 +81,25 @@ mod raw {
         pub fn trips_stop(update: *const u8, length: usize) -> Stop;
         pub fn trips_stop_text(update: *const u8, length: usize, stop: *const u8, stop_length: usize)
             -> bool;
+        pub fn alerts_applies(
+            text: *mut u8,
+            text_length: usize,
+            alert: *const u8,
+            alert_length: usize,
+            trip: *const u8,
+            trip_length: usize,
+            route: *const u8,
+            route_length: usize,
+            short: *const u8,
+            short_length: usize,
+            from: *const u8,
+            from_length: usize,
+            to: *const u8,
+            to_length: usize,
+            mode: *const u8,
+            mode_length: usize,
+        ) -> u32;
+        pub fn alerts_label(alert: *const u8, length: usize) -> Label;
         pub fn alerts_text_fits(
             out: *mut u8,
             out_length: usize,
@@ -232,4 +257,46 @@ pub fn text_fits(out: &mut [u8], header: &str, description: &str, short: &str) -
             short.len(),
         )
     }
+}
+
+/// The texts of a leg that the alert rules look at.
+pub struct Leg<'a> {
+    pub trip: &'a str,
+    pub route: &'a str,
+    pub short: &'a str,
+    pub from: &'a str,
+    pub to: &'a str,
+    pub mode: &'a str,
+}
+
+/// Whether the alert that the bytes hold applies to the leg, 1 or 0; 2 where they hold none within its limits, 3 where
+/// there is no room for its texts.
+pub fn applies(text: &mut [u8], alert: &[u8], leg: &Leg) -> u32 {
+    let Leg { trip, route, short, from, to, mode } = leg;
+    unsafe {
+        raw::alerts_applies(
+            text.as_mut_ptr(),
+            text.len(),
+            alert.as_ptr(),
+            alert.len(),
+            trip.as_ptr(),
+            trip.len(),
+            route.as_ptr(),
+            route.len(),
+            short.as_ptr(),
+            short.len(),
+            from.as_ptr(),
+            from.len(),
+            to.as_ptr(),
+            to.len(),
+            mode.as_ptr(),
+            mode.len(),
+        )
+    }
+}
+
+/// The label of the alert that the bytes hold, nothing where they hold none within its limits.
+pub fn label(alert: &[u8]) -> &[u8] {
+    let label = unsafe { raw::alerts_label(alert.as_ptr(), alert.len()) };
+    &alert[label.from..label.to]
 }

@@ -1,5 +1,6 @@
 //! Document 01's "Wire reader" over again, plainly: the listed fields of a message in order, as a
 //! tree in which unlisted fields leave no trace. It judges messages where prost has other limits.
+use std::ops::Range;
 
 /// The message types of document 01's list.
 #[derive(Clone, Copy, Debug, PartialEq)]
@@ -91,6 +92,19 @@ pub fn field_end(bytes: &[u8], at: usize) -> Option<usize> {
     let (number, wire_type) = key(&mut left)?;
     skip(&mut left, number, wire_type, DEEPEST_GROUP)?;
     Some(bytes.len() - left.len())
+}
+
+/// The number, the type and the place of the listed message in the field that begins at a place; none where the field
+/// is another one.
+pub fn inner(message: Type, bytes: &[u8], at: usize) -> Option<(u64, Type, Range<usize>)> {
+    let mut left = bytes.get(at..)?;
+    let (number, _) = key(&mut left)?;
+    let Some(Listed::Message(inner)) = listed(message, number) else {
+        return None;
+    };
+    let place = delimited(&mut left)?;
+    let end = bytes.len() - left.len();
+    Some((number, inner, end - place.len()..end))
 }
 
 fn varint(left: &mut &[u8]) -> Option<u64> {

@@ -126,7 +126,7 @@ fn mixed(random: &mut Random, mut parts: Vec<Vec<u8>>, unlisted_here: &[u64]) ->
 }
 
 /// A field to be skipped, groups in groups among them.
-fn unlisted(random: &mut Random, field: u64, deepest: usize) -> Vec<u8> {
+pub(super) fn unlisted(random: &mut Random, field: u64, deepest: usize) -> Vec<u8> {
     let key = |random: &mut Random, wire_type| any_number(random, field << 3 | wire_type);
     match random.below(if deepest == 0 { 4 } else { 5 }) {
         0 => {

@@ -2,11 +2,13 @@
 //! look-ups hit, keys collide and alerts apply; some values lie at a bound or past it.
 mod alert_text;
 mod call;
+mod gained;
 mod message;
 mod paper;
 
 pub use alert_text::alert_text;
 pub use call::history;
+pub use gained::gained;
 pub use message::message;
 pub use paper::{alert, card, transit};
 pub use paper::{wild_alert_sheet, wild_card, wild_vehicle_sheet};

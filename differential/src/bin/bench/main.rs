@@ -1,5 +1,7 @@
 //! The port's index of what a message leaves beside the original's `apply_trip_updates`, run in turn; the port alone on
-//! the largest messages and onto the largest feed; alert texts beside the original. Each time is the best of many runs.
+//! the largest messages and onto the largest feed; whole calls and alert texts beside the original. Each time is the
+//! best of many runs.
+mod calls;
 mod texts;
 
 use differential::form::Form;
@@ -169,6 +171,6 @@ fn main() {
     against_the_original(&mut index);
     let small = thread::Builder::new().stack_size(STACK);
     let in_time = small.spawn(move || bounded(&mut index)).expect("a thread").join();
-    let in_time = in_time.expect("no fault") & texts::texts(TEXTS);
+    let in_time = in_time.expect("no fault") & calls::calls() & texts::texts(TEXTS);
     std::process::exit(i32::from(!in_time));
 }

@@ -1,7 +1,7 @@
 //! The alert rules of the original read a second time, test by test, noting which side of each test a case
 //! takes. Rows of tables are in `rows`.
-use crate::rows::{lines, primary, secondary, MODES, PRODUCTS};
 use differential::papers::Alert;
+use differential::tables::{lines, primary, secondary, MODES, PRODUCTS};
 use std::collections::BTreeMap;
 
 /// The tests, and the sides that inputs can take: yes, no.

@@ -1,18 +1,27 @@
 //! The port's calls beside the original and the second reading, on random inputs: by a seed, and with as many overlays
-//! damaged as are asked for.
+//! damaged, lists of calls run, and alerts and legs paired as are asked for.
+mod alerts;
 mod big;
 mod damaged;
 mod fields;
 mod guards;
+mod states;
 mod trips;
 
-/// Overlays of which the gate changes each byte.
+/// Overlays of which the gate changes each byte, and lists of calls that it runs.
 const OVERLAYS: usize = 150;
+const LISTS: usize = 20_000;
+
+/// Alerts and legs that the gate pairs.
+const PAIRS: usize = 100_000;
 
 fn main() {
     let mut words = std::env::args().skip(1).map(|word| word.parse().expect("a number"));
     let seed = words.next().unwrap_or(5);
     let overlays = words.next().map_or(OVERLAYS, |overlays| overlays as usize);
-    let differ = fields::run(seed) + guards::run() + trips::run(seed) + damaged::run(seed, overlays);
+    let lists = words.next().map_or(LISTS, |lists| lists as usize);
+    let pairs = words.next().map_or(PAIRS, |pairs| pairs as usize);
+    let inputs = fields::run(seed) + guards::run() + trips::run(seed) + alerts::run(seed, pairs);
+    let differ = inputs + damaged::run(seed, overlays) + states::run(seed, lists);
     std::process::exit(i32::from(differ > 0));
 }

@@ -8,7 +8,7 @@ use Rattle.overlay.specs.State.{State}
 use Rattle.overlay_open.specs.declared.Opened.{Opened}
 use Rattle.overlay_open.specs.declared.Opened.the-variants.{No, At}
 use Rattle.overlay_open.specs.promises.Opened.{ending}
-use Rattle.overlay_probes.specs.States.{endOf}
+use Rattle.panel_probes.specs.States.{endOf}
 
 pub no-end : (o : Option State) {r : Opened} → r ≡ ending o → r ≡ No → 0 ≡ endOf o
 no-end none e h = refl

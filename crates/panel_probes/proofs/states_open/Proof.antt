@@ -1,8 +1,8 @@
--- `overlay_probes::states_open` meets its contract.
+-- `panel_probes::states_open` meets its contract.
 use borrow.Author.Needs.{needs}
-use Rattle.overlay_probes.specs.laws.States.{no-end, its-end}
-use Rattle.overlay_probes.proofs.states_open.Statement.{statement}
-use Rattle.overlay_probes.proofs.states_open.Tie as tie
+use Rattle.panel_probes.specs.laws.States.{no-end, its-end}
+use Rattle.panel_probes.proofs.states_open.Statement.{statement}
+use Rattle.panel_probes.proofs.states_open.Tie as tie
 
 pub states-open-spec : {M : Type 1} → statement M
 states-open-spec =

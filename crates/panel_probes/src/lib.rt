@@ -1,0 +1,107 @@
+// For a C host: whether a buffer is an overlay, and the calls over overlays of any length up to the published one, so
+// that tests need not run at that length.
+use overlay_open::Opened;
+ghost use mathlib.Core.Path.{_≡_};
+ghost use mathlib.Core.List.{[], _∷_};
+ghost use lib.ListN.{length};
+ghost use Rattle.overlay.specs.Image.{stateOf};
+ghost use Rattle.panel.specs.Calls as calls;
+ghost use Rattle.panel_sized.specs.Lengths.{sized};
+ghost use Rattle.panel_sized.specs.Given.{Given};
+ghost use Rattle.panel_probes.specs.States.{endOf, lengthOf};
+
+// How long an overlay may be.
+const PUBLISHED: usize = 111398044;
+
+fn length_of(n: usize) -> usize
+    ensures { λ r. ⌜ r ≡ lengthOf n ⌝ }
+{
+    if n <= PUBLISHED {
+        return n;
+    }
+    PUBLISHED
+}
+
+// Where the state of a buffer ends; 0 where it is no overlay.
+#[no_mangle]
+pub extern "C" fn states_open(s: &[u8]) -> usize
+    ensures { λ r. ⌜ r ≡ endOf (stateOf (now (s .entry))) ⌝ }
+{
+    match overlay_open::open(s) {
+        Opened::No => 0,
+        Opened::At(p) => p,
+    }
+}
+
+// A fresh overlay as long as its buffer.
+#[no_mangle]
+pub extern "C" fn states_fresh(new: &mut [u8]) -> u32
+    ensures { λ r. ⌜ Given (sized (lengthOf (length (now (new .entry))))) [] (calls.fresh (length (now (new .entry)))) r
+        (now (new .exit)) [] ⌝ }
+{
+    panel_sized::fresh(length_of(new.len()), new)
+}
+
+// The calls over an overlay as long as the old one.
+#[no_mangle]
+pub extern "C" fn states_message(
+    old: &[u8],
+    feed: &[u8],
+    s: &[u8],
+    new: &mut [u8],
+    keys: &mut [u8],
+    marks: &mut [u32],
+    order: &mut [u32],
+    updates: &mut [u32],
+) -> u32
+    ensures { λ r. ⌜ Given (sized (lengthOf (length (now (old .entry))))) (now (old .entry))
+        (calls.message (now (feed .entry)) (now (s .entry)) (length (now (new .entry)))
+        (length (now (keys .entry)) ∷ length (now (marks .entry)) ∷ length (now (order .entry))
+        ∷ length (now (updates .entry)) ∷ []))
+        r (now (new .exit))
+        (now (keys .exit) ∷ now (marks .exit) ∷ now (order .exit) ∷ now (updates .exit) ∷ []) ⌝ }
+{
+    panel_sized_message::message(
+        length_of(old.len()),
+        old,
+        feed,
+        s,
+        new,
+        keys,
+        marks,
+        order,
+        updates,
+    )
+}
+
+#[no_mangle]
+pub extern "C" fn states_alert_sheet(old: &[u8], feed: &[u8], sheet: &[u8], new: &mut [u8]) -> u32
+    ensures { λ r. ⌜ Given (sized (lengthOf (length (now (old .entry))))) (now (old .entry))
+        (calls.alertSheet (now (feed .entry)) (now (sheet .entry)) (length (now (new .entry))) []) r (now (new .exit))
+        [] ⌝ }
+{
+    panel_sized::alert_sheet(length_of(old.len()), old, feed, sheet, new)
+}
+
+#[no_mangle]
+pub extern "C" fn states_vehicle_sheet(
+    old: &[u8],
+    feed: &[u8],
+    sheet: &[u8],
+    clock: i64,
+    new: &mut [u8],
+) -> u32
+    ensures { λ r. ⌜ Given (sized (lengthOf (length (now (old .entry))))) (now (old .entry))
+        (calls.vehicleSheet (now (feed .entry)) (now (sheet .entry)) clock (length (now (new .entry))) []) r
+        (now (new .exit)) [] ⌝ }
+{
+    panel_sized::vehicle_sheet(length_of(old.len()), old, feed, sheet, clock, new)
+}
+
+#[no_mangle]
+pub extern "C" fn states_report(old: &[u8], feed: &[u8], out: &mut [u8]) -> u32
+    ensures { λ r. ⌜ Given (sized (lengthOf (length (now (old .entry))))) (now (old .entry))
+        (calls.report (now (feed .entry)) (length (now (out .entry)))) r (now (out .exit)) [] ⌝ }
+{
+    panel_sized::report(length_of(old.len()), old, feed, out)
+}
