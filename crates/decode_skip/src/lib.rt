@@ -1,14 +1,37 @@
 // Quick passes over the records of trips, as formats_skip has them over leaves.
-ghost use Rattle.formats.specs.Format.{list, _&_};
-ghost use Rattle.decode.specs.Trip.{number32, stopUpdate, trip, tripEntry};
+ghost use Prim.Native.Nat.{_+_, _≤_};
+ghost use lib.ListN.{length};
+ghost use Rattle.formats.specs.Format.{small, list, optional, _&_};
+ghost use Rattle.decode.specs.Trip.{delay, instant, number32, stopUpdate, trip, tripEntry};
 ghost use Rattle.decode.specs.Sizes.{mostTrips, mostUpdates};
 ghost use Rattle.formats_skip.specs.promises.Passes.{Passes, Leads};
+
+// Room for the longest numbers behind a stop's id: four optional ones and a flag.
+const NUMBERS: usize = 54;
+
+// A stop update from there on, where there is that room.
+fn past_numbers(s: &[u8], at: usize) -> usize
+    requires { ⌜ at + 54 ≤ length (now s) ⌝ }
+    ensures { λ r. ⌜ Passes (optional delay & optional instant & optional delay & optional instant & small 1)
+        (now (s .entry)) at r ⌝ }
+{
+    let a = formats_skip::past_optional_inside(s, at);
+    let b = formats_skip::past_optional_inside(s, a);
+    let c = formats_skip::past_optional_inside(s, b);
+    let d = formats_skip::past_optional_inside(s, c);
+    formats_skip::past_number_inside(s, d)
+}
 
 // A stop update.
 pub fn past_update(s: &[u8], at: usize) -> usize
     ensures { λ r. ⌜ Passes stopUpdate (now (s .entry)) at r ⌝ }
 {
     let a = formats_skip::past_text(s, at);
+    if a <= s.len() {
+        if NUMBERS <= s.len() - a {
+            return past_numbers(s, a);
+        }
+    }
     let b = formats_skip::past_optional_number(s, a);
     let c = formats_skip::past_optional_number(s, b);
     let d = formats_skip::past_optional_number(s, c);

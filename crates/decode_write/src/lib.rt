@@ -22,7 +22,7 @@ ghost use Rattle.basics.specs.Options.{maybe};
 ghost use Rattle.formats.specs.Number.{groupsW, numberW};
 ghost use Rattle.formats.specs.promises.Number.{top};
 ghost use Rattle.formats.specs.Readers.{manyW};
-ghost use Rattle.formats.specs.Format.{_&_, list, write};
+ghost use Rattle.formats.specs.Format.{_&_, write};
 ghost use Rattle.formats_write.specs.declared.Put.the-variants.{At};
 ghost use Rattle.formats_write.specs.promises.Adds.{Adds};
 ghost use Rattle.formats_write.specs.promises.Given.{givenNumber, givenSigned, optionalW, textW};
@@ -30,17 +30,17 @@ ghost use Rattle.realtime.specs.Schema.{feedEntity, stopTimeUpdate};
 ghost use Rattle.realtime_views.specs.promises.Views.{SpanInside, spanIn, viewDelay, viewDirection, viewEvent};
 ghost use Rattle.realtime_views.specs.promises.Views.{viewStop, viewTime, viewTrip};
 ghost use Rattle.decode.specs.Record.{bit};
-ghost use Rattle.decode.specs.Trip.{number32, stopUpdate, trip, tripEntry};
+ghost use Rattle.decode.specs.Trip.{number32, stopUpdate, trip};
 ghost use Rattle.decode.specs.Leaves.{countWithoutAt, hasByte};
-ghost use Rattle.decode.specs.Sizes.{mostMessage, mostTrips, mostUpdates, updatesLength};
-ghost use Rattle.decode_slots.specs.Index.{index, slotEntry, slotKey};
+ghost use Rattle.decode.specs.Sizes.{mostMessage, mostUpdates, updatesLength};
+ghost use Rattle.decode_slots.specs.Index.{index, slotKey};
 ghost use Rattle.decode_slots.specs.Places.{crowded, held, heldAt, recordAt, updateAt};
 ghost use Rattle.decode_slots.specs.promises.Index.{SoundIndex};
 ghost use Rattle.decode_slots.specs.promises.Places.{Readable};
 ghost use Rattle.decode_updates.specs.Line.{laid};
 ghost use Rattle.decode_updates.specs.Updates.{updatesAt};
 ghost use Rattle.decode_index.specs.promises.Message.{Fit};
-ghost use Rattle.decode_write.specs.promises.Slots.{GoodSlot, KeyLies, Writable, heldEntry, plainKeys};
+ghost use Rattle.decode_write.specs.promises.Slots.{KeyLies, plainKeys};
 ghost use Rattle.decode_write.specs.promises.Written.{TextsLie, eventW, headW, signedW, updateOf};
 
 // A number of at most k + 1 groups, where there is room for them: the next place.
@@ -56,6 +56,41 @@ fn add_groups(k: u32, out: &mut [u8], at: usize, n: u64) -> usize
     add_groups(k - 1, out, at + 1, n / 128)
 }
 
+// A number of five groups, as times have: no test stands between them.
+fn add_five(out: &mut [u8], at: usize, n: u64) -> usize
+    requires { ⌜ (268435456 ≤ n) × (n < 34359738368) × (at + 9 < length (now out)) ⌝ }
+    ensures { λ r. ⌜ Adds (now (out .entry)) (At at) (now (out .exit)) (At r) (numberW n) ⌝ }
+{
+    let a = n / 128;
+    let b = a / 128;
+    let c = b / 128;
+    let d = c / 128;
+    out[at] = (128 + n % 128) as u8;
+    out[at + 1] = (128 + a % 128) as u8;
+    out[at + 2] = (128 + b % 128) as u8;
+    out[at + 3] = (128 + c % 128) as u8;
+    out[at + 4] = d as u8;
+    at + 5
+}
+
+// The number at `at`, where there is room for ten bytes.
+fn add_number(out: &mut [u8], at: usize, n: u64) -> usize
+    requires { ⌜ at + 9 < length (now out) ⌝ }
+    ensures { λ r. ⌜ Adds (now (out .entry)) (At at) (now (out .exit)) (At r) (numberW n) ⌝ }
+{
+    if n < 128 {
+        out[at] = n as u8;
+        return at + 1;
+    }
+    if n < 268435456 {
+        return add_groups(9, out, at, n);
+    }
+    if n < 34359738368 {
+        return add_five(out, at, n);
+    }
+    add_groups(9, out, at, n)
+}
+
 // A number takes ten bytes at most: where there are so many, its groups are not tested for room one by one.
 fn put_number(out: &mut [u8], w: Put, n: u64) -> Put
     ensures { λ r. ⌜ Adds (now (out .entry)) w (now (out .exit)) r (numberW n) ⌝ }
@@ -69,7 +104,7 @@ fn put_number(out: &mut [u8], w: Put, n: u64) -> Put
     if out.len() - 10 < at {
         return formats_write::number(out, w, n);
     }
-    Put::At(add_groups(9, out, at, n))
+    Put::At(add_number(out, at, n))
 }
 
 // A text of s. An absent one is empty.

@@ -4,3 +4,4 @@ pub mod Elements
 pub mod Walks
 pub mod Rising
 pub mod Climbing
+pub mod Five

@@ -4,12 +4,12 @@ use formats::Numeral;
 use formats::Skip;
 use slices::Order;
 ghost use mathlib.Core.Path.{_≡_};
-ghost use Prim.Native.Nat.{_-_, _≤_};
+ghost use Prim.Native.Nat.{_+_, _-_, _≤_};
 ghost use lib.ListN.{length, take, drop};
 ghost use Rattle.formats.specs.Class.{any, printable};
 ghost use Rattle.formats.specs.Format.{small, text, float, list, optional};
 ghost use Rattle.formats.specs.promises.Outcome.{classOf};
-ghost use Rattle.formats_check.specs.promises.Checked.{Number, Fine};
+ghost use Rattle.formats_check.specs.promises.Checked.{Number, IfGot, Fine};
 ghost use Rattle.formats_check.specs.laws.Climbing.{Spans, known, follows};
 ghost use Rattle.formats_check.specs.laws.Walks.{Each};
 
@@ -47,6 +47,54 @@ pub fn number_at(s: &[u8], at: usize) -> Numeral
         return Numeral::Got(b, at + 1);
     }
     number_long(s, at)
+}
+
+// The number of five groups at `at`; Bad where another stands there.
+fn five(s: &[u8], at: usize) -> Numeral
+    requires { ⌜ at + 5 ≤ length (now s) ⌝ }
+    ensures { λ r. ⌜ IfGot (now (s .entry)) at r ⌝ }
+{
+    let a = formats::wide(s[at]);
+    let b = formats::wide(s[at + 1]);
+    let c = formats::wide(s[at + 2]);
+    let d = formats::wide(s[at + 3]);
+    let e = formats::wide(s[at + 4]);
+    if a < 128 {
+        return Numeral::Bad;
+    }
+    if b < 128 {
+        return Numeral::Bad;
+    }
+    if c < 128 {
+        return Numeral::Bad;
+    }
+    if d < 128 {
+        return Numeral::Bad;
+    }
+    if 128 <= e {
+        return Numeral::Bad;
+    }
+    if e == 0 {
+        return Numeral::Bad;
+    }
+    let n = a - 128 + 128 * (b - 128) + 16384 * (c - 128) + 2097152 * (d - 128) + 268435456 * e;
+    Numeral::Got(n, at + 5)
+}
+
+// A number at `at`. Most instants have five groups: that case stands in front.
+pub fn number_five(s: &[u8], at: usize) -> Numeral
+    ensures { λ r. ⌜ Number (now (s .entry)) at r ⌝ }
+{
+    if s.len() < 5 {
+        return number_at(s, at);
+    }
+    if s.len() - 5 < at {
+        return number_at(s, at);
+    }
+    let Numeral::Got(n, q) = five(s, at) else {
+        return number_at(s, at);
+    };
+    Numeral::Got(n, q)
 }
 
 // A text of any bytes, at most `limit` of them, and where they stand.

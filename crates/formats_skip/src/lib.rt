@@ -1,11 +1,20 @@
 // Quick passes over a value that is known to stand at a place: nothing is judged. They are total: where no such value
 // stands, they answer something.
 use formats_write::Span;
+ghost use mathlib.Core.Path.{_≡_};
+ghost use Prim.Native.Nat.{_+_, _≤_};
+ghost use lib.ListN.{length};
 ghost use Rattle.formats.specs.Class.{any};
 ghost use Rattle.formats.specs.Format.{number, text, float, list, optional};
-ghost use Rattle.formats_skip.specs.promises.Passes.{Passes};
+ghost use Rattle.formats_skip.specs.promises.Passes.{Passes, PassesNear};
 
-// A number of more than one group, which is a call.
+fn wide(b: u8) -> usize
+    ensures { λ r. ⌜ r ≡ b ⌝ }
+{
+    b as usize
+}
+
+// A number, group by group: near the end of the bytes.
 fn past_long(s: &[u8], at: usize) -> usize
     ensures { λ r. ⌜ Passes (number 0 0) (now (s .entry)) at r ⌝ }
 {
@@ -19,17 +28,63 @@ fn past_long(s: &[u8], at: usize) -> usize
     p
 }
 
-// A number, signed or small or neither. Most have one group: that case stands in front.
-pub fn past_number(s: &[u8], at: usize) -> usize
-    ensures { λ r. ⌜ Passes (number 0 0) (now (s .entry)) at r ⌝ }
+// A number where ten bytes are left, which is room for the longest: no bound is tested.
+pub fn past_number_inside(s: &[u8], at: usize) -> usize
+    requires { ⌜ at + 10 ≤ length (now s) ⌝ }
+    ensures { λ r. ⌜ PassesNear 10 (number 0 0) (now (s .entry)) at r ⌝ }
 {
-    if s.len() <= at {
-        return at;
-    }
     if s[at] < 128 {
         return at + 1;
     }
-    past_long(s, at)
+    if s[at + 1] < 128 {
+        return at + 2;
+    }
+    if s[at + 2] < 128 {
+        return at + 3;
+    }
+    if s[at + 3] < 128 {
+        return at + 4;
+    }
+    if s[at + 4] < 128 {
+        return at + 5;
+    }
+    if s[at + 5] < 128 {
+        return at + 6;
+    }
+    if s[at + 6] < 128 {
+        return at + 7;
+    }
+    if s[at + 7] < 128 {
+        return at + 8;
+    }
+    if s[at + 8] < 128 {
+        return at + 9;
+    }
+    at + 10
+}
+
+// A number, signed or small or neither.
+pub fn past_number(s: &[u8], at: usize) -> usize
+    ensures { λ r. ⌜ Passes (number 0 0) (now (s .entry)) at r ⌝ }
+{
+    if s.len() < 10 {
+        return past_long(s, at);
+    }
+    if s.len() - 10 < at {
+        return past_long(s, at);
+    }
+    past_number_inside(s, at)
+}
+
+// An optional number where eleven bytes are left.
+pub fn past_optional_inside(s: &[u8], at: usize) -> usize
+    requires { ⌜ at + 11 ≤ length (now s) ⌝ }
+    ensures { λ r. ⌜ PassesNear 11 (optional (number 0 0)) (now (s .entry)) at r ⌝ }
+{
+    if s[at] == 1 {
+        return past_number_inside(s, at + 1);
+    }
+    at + 1
 }
 
 // An optional number, signed or not.
@@ -45,9 +100,20 @@ pub fn past_optional_number(s: &[u8], at: usize) -> usize
     at + 1
 }
 
+// A text. Most lengths have one group: that case stands in front.
 pub fn past_text(s: &[u8], at: usize) -> usize
     ensures { λ r. ⌜ Passes (text 0 any) (now (s .entry)) at r ⌝ }
 {
+    if s.len() <= at {
+        return at;
+    }
+    let n = wide(s[at]);
+    if n < 128 {
+        if s.len() - at <= n {
+            return at;
+        }
+        return at + 1 + n;
+    }
     let t: Span = formats_read::text(s, at);
     t.to
 }

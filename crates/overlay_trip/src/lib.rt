@@ -3,6 +3,7 @@ use formats::Numeral;
 use formats::Skip;
 use formats_check::flag;
 use formats_check::number_at;
+use formats_check::number_five;
 use formats_check::number_long;
 use formats_check::printable;
 ghost use Prim.Native.Nat.{_≤_};
@@ -29,7 +30,7 @@ fn delay(s: &[u8], at: usize) -> Skip
 pub fn instant(s: &[u8], at: usize) -> Skip
     ensures { λ r. ⌜ Fine instant (now (s .entry)) at r ⌝ }
 {
-    let Numeral::Got(n, p) = number_at(s, at) else {
+    let Numeral::Got(n, p) = number_five(s, at) else {
         return Skip::Broken;
     };
     if n % 2 != 0 {

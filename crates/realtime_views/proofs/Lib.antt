@@ -5,3 +5,4 @@ mod Trips
 mod Signed
 mod Typing
 mod Walking
+mod Short

@@ -58,7 +58,7 @@ pub clash : (t f k : ℕ) → feed t f ≡ some aNumber → feed t k ≡ some aT
 clash t f k p q e = let r : some aNumber ≡ some aText = sym p ∙ ap (feed t) e ∙ q in let z : _≡_ {A = ℕ} 0 1 = cc in
     omega arith
 
-sequence-number : (f : ℕ) → feed stopTimeUpdate f ≡ some aText → f ≡ 1 → ⊥
+pub sequence-number : (f : ℕ) → feed stopTimeUpdate f ≡ some aText → f ≡ 1 → ⊥
 unfolding feed fieldRows
 sequence-number f p e = clash stopTimeUpdate 1 f refl p (sym e)
 

@@ -11,19 +11,22 @@ use realtime::fields::stop_time_event;
 use realtime::fields::stop_time_update;
 use realtime::fields::trip_update;
 use realtime::next;
+use wire::Cursor;
+use wire::GotNumber;
+use wire::GotText;
 ghost use mathlib.Core.Path.{_≡_};
 ghost use mathlib.Core.List.{[], _∷_};
 ghost use Prim.Native.Nat.{_+_, _≤_};
 ghost use lib.Dec.{eqb};
 ghost use lib.ListN.{length};
 ghost use mathlib.Core.Bool.{cond};
-ghost use Rattle.realtime.specs.Schema.{feed};
+ghost use Rattle.realtime.specs.Schema.{feed, stopTimeUpdate};
 ghost use Rattle.realtime_views.specs.promises.Reading.{Ready, Reads};
 ghost use Rattle.realtime_views.specs.promises.Scalars.{TripReads, TripReady, UpdateReads, blank, kept, own};
 ghost use Rattle.realtime_views.specs.promises.Scalars.{scalars, takesAlong};
 ghost use Rattle.realtime_views.specs.promises.Narrow.{isValue, toDelay, toDirection, toHeader, toSpan};
 ghost use Rattle.realtime_views.specs.promises.Narrow.{toTimestamp, toTrip};
-ghost use Rattle.realtime_views.specs.promises.Numbers.{EventReads, NumberReads, NumberReady, StopReads};
+ghost use Rattle.realtime_views.specs.promises.Numbers.{EventReads, NumberReads, NumberReady, StopReads, isPart};
 ghost use Rattle.realtime_views.specs.promises.Numbers.{fromDelay, fromEvent, fromStop, fromTime, noNumbers};
 ghost use Rattle.realtime_views.specs.Typed as typed;
 ghost use Rattle.realtime_views.specs.promises.Walks.{NextEntity, NextUpdate, SoundWalk, Walks, Yields, met};
@@ -37,6 +40,20 @@ const DIFFERENTIAL: u64 = 1;
 const CANCELED: u64 = 3;
 
 const SKIPPED: u64 = 1;
+
+// The keys of a stop_time_update's fields, a byte each: eight times the number, and the wire type.
+const SEQUENCE_KEY: u8 = 8;
+
+const ARRIVAL_KEY: u8 = 18;
+
+const DEPARTURE_KEY: u8 = 26;
+
+const STOP_KEY: u8 = 34;
+
+const RELATIONSHIP_KEY: u8 = 40;
+
+// And that of a trip_update's stop_time_updates.
+const UPDATE_KEY: u8 = 18;
 
 // No field has this number.
 const NO_FIELD: u64 = 0;
@@ -482,7 +499,7 @@ fn stop_from(
 }
 
 // A stop_time_update from `from` to the end: the last of each, in its arrivals and in its departures too.
-fn over_stop(s: &[u8], from: usize) -> StopUpdate
+fn any_stop(s: &[u8], from: usize) -> StopUpdate
     requires { ⌜ from ≤ length (now s) ⌝ }
     ensures { λ r. ⌜ StopReads (now (s .entry)) from r ⌝ }
 {
@@ -522,6 +539,53 @@ fn over_stop(s: &[u8], from: usize) -> StopUpdate
     }
 }
 
+// The same. Where each key is the byte of a listed field, as most are, the bytes are compared with those keys: no step
+// goes through memory. At another key, or where the bytes are broken, the reading begins anew.
+fn over_stop(s: &[u8], from: usize) -> StopUpdate
+    requires { ⌜ from ≤ length (now s) ⌝ }
+    ensures { λ r. ⌜ StopReads (now (s .entry)) from r ⌝ }
+{
+    let mut at = from;
+    let mut sequence: u64 = 0;
+    let mut stop = Span { start: 0, len: 0 };
+    let mut relationship: u64 = 0;
+    let mut arrival = no_numbers();
+    let mut departure = no_numbers();
+    while at < s.len() {
+        let b = s[at];
+        let here = Cursor { at: at + 1 };
+        if b == SEQUENCE_KEY {
+            let GotNumber::Read(value, after) = here.number(s) else {
+                return any_stop(s, from);
+            };
+            sequence = value;
+            at = after.at;
+        } else if b == RELATIONSHIP_KEY {
+            let GotNumber::Read(value, after) = here.number(s) else {
+                return any_stop(s, from);
+            };
+            relationship = value;
+            at = after.at;
+        } else {
+            let GotText::Read(start, len, after) = here.text(s) else {
+                return any_stop(s, from);
+            };
+            let end = after.at;
+            if b == ARRIVAL_KEY {
+                arrival = over_event(wire::part(s, 0, end), start, arrival);
+            } else if b == DEPARTURE_KEY {
+                departure = over_event(wire::part(s, 0, end), start, departure);
+            } else if b == STOP_KEY {
+                stop = Span { start, len };
+            } else {
+                return any_stop(s, from);
+            }
+            at = end;
+        }
+    }
+    stop_from(sequence, stop, relationship, arrival, departure)
+}
+
 // The last number at field `k` of a message from `from` to the end, 0 where there is none.
 fn last_number(s: &[u8], from: usize, message: u64, k: u64) -> u64
     requires { ⌜ NumberReady (now s) from message k ⌝ }
@@ -547,6 +611,60 @@ fn last_number(s: &[u8], from: usize, message: u64, k: u64) -> u64
             }
         }
     }
+}
+
+// Whether a byte is the key of a stop_time_update's text or of a message in it.
+fn is_part(b: u8) -> bool
+    ensures { λ r. ⌜ r ≡ isPart b ⌝ }
+{
+    if b == ARRIVAL_KEY {
+        return true;
+    }
+    if b == DEPARTURE_KEY {
+        return true;
+    }
+    b == STOP_KEY
+}
+
+// The last sequence, whatever the keys.
+fn any_sequence(s: &[u8], from: usize) -> u64
+    requires { ⌜ NumberReady (now s) from stopTimeUpdate 1 ⌝ }
+    ensures { λ r. ⌜ NumberReads (now (s .entry)) from stopTimeUpdate 1 r ⌝ }
+{
+    last_number(s, from, STOP_TIME_UPDATE, stop_time_update::STOP_SEQUENCE)
+}
+
+// The last sequence of a stop_time_update from `from` to the end, by the bytes of its keys as in `over_stop`.
+fn last_sequence(s: &[u8], from: usize) -> u64
+    requires { ⌜ NumberReady (now s) from stopTimeUpdate 1 ⌝ }
+    ensures { λ r. ⌜ NumberReads (now (s .entry)) from stopTimeUpdate 1 r ⌝ }
+{
+    let mut at = from;
+    let mut last: u64 = 0;
+    while at < s.len() {
+        let b = s[at];
+        let here = Cursor { at: at + 1 };
+        if b == SEQUENCE_KEY {
+            let GotNumber::Read(value, after) = here.number(s) else {
+                return any_sequence(s, from);
+            };
+            last = value;
+            at = after.at;
+        } else if b == RELATIONSHIP_KEY {
+            let GotNumber::Read(_, after) = here.number(s) else {
+                return any_sequence(s, from);
+            };
+            at = after.at;
+        } else if is_part(b) {
+            let GotText::Read(_, _, after) = here.text(s) else {
+                return any_sequence(s, from);
+            };
+            at = after.at;
+        } else {
+            return any_sequence(s, from);
+        }
+    }
+    last
 }
 
 // The merged header of a message, wherever it stands.
@@ -590,8 +708,7 @@ pub fn sequence_at(s: &[u8], start: usize, len: usize) -> u32
     ensures { λ r. ⌜ SequenceRead feed (now (s .entry)) start len r ⌝ }
 {
     let update = wire::part(s, 0, start + len);
-    let sequence = stop_time_update::STOP_SEQUENCE;
-    uint32(last_number(update, start, STOP_TIME_UPDATE, sequence))
+    uint32(last_sequence(update, start))
 }
 
 // A walk over the messages at a repeated field, of all the messages at another field merged: the next place outside,
@@ -710,10 +827,28 @@ pub fn updates(start: usize) -> Walk
     }
 }
 
+// The key of the next is looked at first: it stands there as a rule.
 pub fn next_update(s: &[u8], walk: Walk) -> Item
     requires { ⌜ SoundWalk (now s) (walk .outer) (walk .end) (walk .at) ⌝ }
     ensures { λ r. ⌜ NextUpdate (now (s .entry)) walk r ⌝ }
 {
+    let at = walk.at;
+    let end = walk.end;
+    if at < end {
+        if s[at] == UPDATE_KEY {
+            let here = Cursor { at: at + 1 };
+            let GotText::Read(start, len, after) = here.text(wire::part(s, 0, end)) else {
+                return Item::Done;
+            };
+            let outer = walk.outer;
+            let walk = Walk {
+                outer,
+                end,
+                at: after.at,
+            };
+            return Item::At { start, len, walk };
+        }
+    }
     next_item(
         s,
         FEED_ENTITY,

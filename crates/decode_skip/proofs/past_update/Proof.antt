@@ -9,6 +9,9 @@ past-update-spec =
     tie.close
     (tie.spec
     (λ c κs. search needs)
+    (λ c. search needs)
+    (λ c κs. search needs)
+    (λ c. search text-then)
     (λ c κs. search needs)
     (λ c κs. search needs)
     (λ c κs. search needs)

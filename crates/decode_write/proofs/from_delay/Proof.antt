@@ -6,7 +6,7 @@ use lib.IntN.{ℤ}
 use mir.Facts.{toZ-ofZ, sfits-widen}
 use mir.Syntax.{w32, w64}
 use mir.Val.{SFits, toZ, ofZ}
-use Rattle.basics.specs.Options.{Maybe, maybe}
+use Rattle.basics.specs.Options.{maybe}
 use Rattle.realtime_views.specs.promises.Views.{viewDelay}
 use Rattle.decode_write.proofs.from_delay.Statement.{statement}
 use Rattle.decode_write.proofs.from_delay.Tie as tie

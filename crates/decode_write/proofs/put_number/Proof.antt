@@ -24,9 +24,9 @@ returns-3 c =
 
 returns-4 : tie.Need-returns-4
 returns-4 c =
-    let at-add-groups = c .before .before in
-    let at-w = at-add-groups .before .before .before .before .before in
-    from-at (at-w .w .given .1) (at-add-groups .add-groups .ensures)
+    let at-add-number = c .before .before in
+    let at-w = at-add-number .before .before .before .before .before in
+    from-at (at-w .w .given .1) (at-add-number .add-number .ensures)
 
 pub put-number-spec : {M : Type 1} → statement M
 put-number-spec =

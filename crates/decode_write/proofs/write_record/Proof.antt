@@ -1,6 +1,5 @@
 -- `decode_write::write_record` meets its contract. Assumes nothing.
 use borrow.Author.Needs.{needs}
-use native.Mathlib.Omega.{arith}
 use Rattle.decode_write.specs.laws.Records.{texts-lie, few-updates, updates-readable, record-adds}
 use Rattle.decode_write.proofs.write_record.Statement.{statement}
 use Rattle.decode_write.proofs.write_record.Tie as tie

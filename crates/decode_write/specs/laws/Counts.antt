@@ -1,5 +1,5 @@
 -- Law. The keys without '@': how they are counted.
-use Prim.Native.Nat.{ℕ, zero, suc, _+_, _-_, _*_, _≤_, _<_}
+use Prim.Native.Nat.{ℕ, suc, _+_, _-_, _*_, _≤_, _<_}
 use mathlib.Core.Path.{_≡_, refl, sym, ap, _∙_}
 use mathlib.Core.Bool.{Bool, true, false, cond, _||_}
 use mathlib.Core.List.{List, [], _∷_, _++_}
@@ -12,7 +12,7 @@ use borrow.Author.Tests.{eq-eqb, ne-eqb}
 use Rattle.basics.specs.laws.Booleans.{or-assoc}
 use Rattle.decode.specs.Leaves.{hasByte, countWithoutAt}
 use Rattle.decode.specs.Sizes.{keyBytes}
-use Rattle.decode_slots.specs.Index.{Place, slotEntry, slotKey, slotted, index}
+use Rattle.decode_slots.specs.Index.{Place, slotEntry, slotKey, index}
 use Rattle.decode_slots.specs.Places.{held}
 use Rattle.decode_write.specs.promises.Slots.{plainKeys}
 use Rattle.decode_write.specs.laws.Slots.{index-more}

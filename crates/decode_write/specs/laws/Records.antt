@@ -27,11 +27,10 @@ use Rattle.realtime_views.specs.Views as views
 use Rattle.realtime_views.specs.promises.Views.{TripRead, viewTrip}
 use Rattle.decode.specs.Record.{bit, updatesIn, tripIn}
 use Rattle.decode.specs.Sizes.{mostUpdates, beyond, keyBytes}
-use Rattle.decode.specs.Trip.{StopUpdate, Trip, trip, tripEntry, updatesOf}
-use Rattle.decode_slots.specs.Index.{Place, slotEntry}
-use Rattle.decode_slots.specs.Places.{orEnd, recordAt, updateAt, heldAt, oldAt, isNew, crowded}
+use Rattle.decode.specs.Trip.{StopUpdate, Trip, trip, tripEntry}
+use Rattle.decode_slots.specs.Index.{slotEntry}
+use Rattle.decode_slots.specs.Places.{orEnd, recordAt, updateAt, heldAt, isNew, crowded}
 use Rattle.decode_slots.specs.promises.Places.{Readable}
-use Rattle.decode_old.specs.promises.Old.{OldRecord}
 use Rattle.decode_updates.specs.Line.{laid}
 use Rattle.decode_updates.specs.Updates.{updatesAt}
 use Rattle.decode_updates.specs.laws.Line.{laid-length}

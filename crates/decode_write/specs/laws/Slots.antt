@@ -1,5 +1,5 @@
 -- Law. The slots of an index, one after the other: what is written for each, and that it can be.
-use Prim.Native.Nat.{ℕ, zero, suc, _+_, _*_, _≤_, _<_}
+use Prim.Native.Nat.{ℕ, zero, suc, _+_, _≤_, _<_}
 use mathlib.Core.Path.{_≡_, refl, sym, ap, _∙_}
 use mathlib.Core.Bool.{Bool, true, false, _||_}
 use mathlib.Core.List.{List, [], _∷_, _++_}
@@ -19,7 +19,7 @@ use Rattle.formats_write.specs.promises.Adds.{Adds}
 use Rattle.maps.specs.laws.Map.{map-length}
 use Rattle.decode.specs.Sizes.{mostTrips}
 use Rattle.decode.specs.Trip.{tripEntry}
-use Rattle.decode_slots.specs.Index.{Place, slotEntry, slotPlace, slotted, index}
+use Rattle.decode_slots.specs.Index.{slotEntry, slotPlace, slotted, index}
 use Rattle.decode_slots.specs.Places.{heldAt, held, crowded, anyCrowded}
 use Rattle.decode_slots.specs.laws.Slots.{index-length}
 use Rattle.decode_slots.specs.promises.Index.{SoundIndex}

@@ -20,6 +20,10 @@ use Rattle.formats_judge.specs.Judged.{atMost, either}
 pub record Number (s : List ℕ) (at : ℕ) (o : Numeral) : Type 0 where
   pub says : o ≡ numbered s (numberR (drop at s))
 
+-- what a reader of some numbers answers, where it answers one
+pub record IfGot (s : List ℕ) (at : ℕ) (o : Numeral) : Type 0 where
+  pub says : (n q : ℕ) → o ≡ Numeral.Got n q → o ≡ numbered s (numberR (drop at s))
+
 -- CHECKED READING: r is the place past the value of f at `at`, where one stands there that P says true of, else Broken
 pub record Checked (f : Format) (P : Value f → Bool) (s : List ℕ) (at : ℕ) (r : Skip) : Type 0 where
   pub says : r ≡ skipped s (onlyR P (read f) (drop at s))

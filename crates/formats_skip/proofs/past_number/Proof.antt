@@ -1,5 +1,5 @@
 -- `past_number` meets its contract.
-use Rattle.formats_skip.specs.laws.Number.{scan-start, scan-low, number-out}
+use Rattle.formats_skip.specs.laws.Passes.{near-passes}
 use borrow.Author.Needs.{needs}
 use Rattle.formats_skip.proofs.past_number.Statement.{statement}
 use Rattle.formats_skip.proofs.past_number.Tie as tie
@@ -8,9 +8,10 @@ pub past-number-spec : {M : Type 1} → statement M
 past-number-spec =
     tie.close
     (tie.spec
-    (λ c. search number-out)
-    (λ c. search needs)
-    (λ c. search needs)
-    (λ c. search (scan-low, scan-start))
     (λ c κs. search needs)
-    (λ c. search needs))
+    (λ c. search needs)
+    (λ c. search needs)
+    (λ c κs. search needs)
+    (λ c. search needs)
+    (λ c κs. search needs)
+    (λ c. search near-passes))

@@ -12,7 +12,7 @@ use Rattle.formats.specs.Format.{number}
 use Rattle.formats.specs.Number.{groupsW}
 use Rattle.formats.specs.promises.Number.{top}
 use Rattle.formats_read.specs.promises.Here.{Here}
-use Rattle.formats_skip.specs.promises.Passes.{Passes}
+use Rattle.formats_skip.specs.promises.Passes.{Passes, PassesNear}
 
 -- every byte from a up to p has another behind it
 pub record Scanned (s : List ℕ) (a p : ℕ) : Type 0 where
@@ -120,3 +120,48 @@ module _ {s : List ℕ} {a : ℕ} where
 -- nothing stands behind the end
 pub number-out : {s : List ℕ} {a r : ℕ} → length s ≤ a → Passes (number 0 0) s a r
 number-out o = scan-out scan-start o
+
+-- a number group by group, where ten bytes are left: its first group is its last, or has another behind it
+module _ {s : List ℕ} {a : ℕ} where
+  pub near-first : getD s a 0 < 128 → PassesNear 10 (number 0 0) s a (a + 1)
+  near-first l = record { passes = scan-low scan-start l; near = omega arith }
+
+  pub high-first : 128 ≤ getD s a 0 → Scanned s a (a + 1)
+  high-first b = scan-on scan-start b
+
+-- the group behind k others likewise
+module _ (k m : ℕ) (e : k + 1 ≡ m) (o : ltb m 11 ≡ true) {s : List ℕ} {a : ℕ} (S : Scanned s a (a + k)) where
+  behind : a + k + 1 ≡ a + m
+  behind = omega arith
+
+  pub near-next : getD s (a + k) 0 < 128 → PassesNear 10 (number 0 0) s a (a + m)
+  near-next l = record { passes = rw behind at (scan-low S l); near = omega (arith, ltb-true m 11 o) }
+
+  pub high-next : 128 ≤ getD s (a + k) 0 → Scanned s a (a + m)
+  high-next b = rw behind at (scan-on S b)
+
+-- a number has ten groups at most
+groups-short : (k n : ℕ) → length (groupsW k n) ≤ k + 1
+groups-short zero n = omega arith
+groups-short (suc k) n = go (ltb n 128) refl (groups-short k (n / 128))
+  where
+    go : (t : Bool) → ltb n 128 ≡ t → length (groupsW k (n / 128)) ≤ k + 1 → length (groupsW (suc k) n) ≤ suc k + 1
+    go true x ih = rw x (omega arith)
+    go false x ih = rw x (omega arith)
+
+tenth : {s : List ℕ} {a q e : ℕ} → Last s a q e → Scanned s a (a + 9) → q ≤ a + 10 → a + 10 ≡ q
+tenth {s} {a} {q} {e} L S w = go (ltb e (a + 9)) refl
+  where
+    go : (t : Bool) → ltb e (a + 9) ≡ t → a + 10 ≡ q
+    go true x = absurd (low-high (L .low) (S .high e (L .forward) (ltb-true e (a + 9) x)))
+    go false x = omega (arith, ltb-false e (a + 9) x, L .next)
+
+number-short : {s : List ℕ} {a q n : ℕ} → Here (number 0 0) s a q n → q ≤ a + 10
+number-short {s} {a} {q} {n} h =
+    omega (arith, groups-short 9 n, sym (length-slice a q s (h .within)) ∙ ap length (h .written), h .forward)
+
+pub near-end : {s : List ℕ} {a : ℕ} → Scanned s a (a + 9) → PassesNear 10 (number 0 0) s a (a + 10)
+near-end S = record {
+  passes = record { to = λ h. tenth (number-last h .1) S (number-short h) };
+  near = omega arith;
+}

@@ -1,5 +1,5 @@
 -- Law. How passes are put together: kinds of numbers and texts, a pair, an optional value, a list.
-use mathlib.Core.Path.{_≡_, sym, ap, _∙_}
+use mathlib.Core.Path.{_≡_, refl, sym, ap, _∙_}
 use mathlib.Core.List.{List, [], _∷_}
 use mathlib.Core.Logic.{inl, inr}
 use Prim.Native.Nat.{ℕ, _+_, _-_, _≤_, _<_}
@@ -17,9 +17,13 @@ use Rattle.formats_read.specs.promises.Here.{Here}
 use Rattle.formats_read.specs.promises.Lists.{Many}
 use Rattle.formats_read.specs.promises.Reads.{ReadsNumber, ReadsText}
 use Rattle.formats_read.specs.laws.Here.{halves, choice-in, first, second, number-here, small-here, signed-here}
+use Rattle.formats_read.specs.laws.Here.{text-here}
 use Rattle.formats_read.specs.laws.Lists.{listed}
 use Rattle.formats_read.specs.laws.Walk.{Walk, begin, onward}
-use Rattle.formats_skip.specs.promises.Passes.{Passes}
+use Rattle.formats.proofs.Numbers.{front-good}
+use Rattle.formats_read.proofs.Laws as laws
+use Rattle.formats_skip.specs.promises.Passes.{Passes, PassesNear}
+use Rattle.formats_skip.specs.laws.Number.{number-out}
 
 abbrev unsigned : Maybe ℤ → Maybe ℕ
 unsigned (inl x) = inl x
@@ -91,9 +95,38 @@ module _ {s : List ℕ} {p r : ℕ} where
     to = λ {v} h. P .to (second v h (rw (lt-ltb p (length s) l) t) .stands);
   }
 
+  -- where bytes are left
+  pub near-passes : {n : ℕ} {f : Format} → PassesNear n f s p r → Passes f s p r
+  near-passes P = P .passes
+
+  pub near-some : {f : Format} → p + 11 ≤ length s → getD s p 0 ≡ 1 → PassesNear 10 f s (p + 1) r
+      → PassesNear 11 (optional f) s p r
+  near-some l t P = record {
+    passes = optional-some (omega arith) t (P .passes);
+    near = omega (arith, P .near);
+  }
+
   -- a float
   pub float-out : length s < p → Passes float s p r
   float-out o = record { to = λ h. absurd (omega (arith, h .forward, h .within)) }
+
+-- a text whose length has one group
+module _ {s : List ℕ} {p n : ℕ} (l : p < length s) (e : n ≡ getD s p 0) (u : n < 128) where
+  short-count : ReadsNumber s p n (p + 1)
+  short-count = laws.number-got (front-good s p n l e u) refl
+
+  pub short-over : length s - p ≤ n → Passes (text 0 any) s p p
+  short-over o =
+      record { to = λ h. omega (arith, laws.text-over short-count (omega arith) (omega arith) .next h, h .forward) }
+
+  pub short-text : n < length s - p → Passes (text 0 any) s p (p + 1 + n)
+  short-text o = read-text (laws.text-in short-count (omega arith) (omega arith))
+
+-- nothing stands behind the end
+pub text-out : {s : List ℕ} {p r : ℕ} → length s ≤ p → Passes (text 0 any) s p r
+text-out o = record {
+  to = λ h. let x = text-here h in absurd (omega (arith, number-out {r = x .0 + 1} o .to (x .1 .count)));
+}
 
 -- a leaf of any bounds in front: `pair` of the laws above, one for each, so that a search finds where the leaf ends
 module _ {s : List ℕ} {p m r : ℕ} {b : Format} (Q : Passes b s m r) where
@@ -132,6 +165,9 @@ module _ {s : List ℕ} {p : ℕ} where
   optional-none l t = record {
     to = λ {v} h. empty-end (first v h (λ e. t (rw (lt-ltb p (length s) l) at e)) .stands);
   }
+
+  pub near-none : {f : Format} → p + 11 ≤ length s → (getD s p 0 ≡ 1 → ⊥) → PassesNear 11 (optional f) s p (p + 1)
+  near-none l t = record { passes = optional-none (omega arith) t; near = omega arith }
 
   pub constant-byte : {c : ℕ} → Passes (constant c) s p (p + 1)
   constant-byte = record {

@@ -3,8 +3,8 @@ use borrow.Author.Needs.{needs}
 use Rattle.overlay_trip.proofs.instant.Statement.{statement}
 use Rattle.overlay_trip.proofs.instant.Tie as tie
 
-number-at-requires : tie.Need-number-at-requires
-number-at-requires c κs = search needs
+number-five-requires : tie.Need-number-five-requires
+number-five-requires c κs = search needs
 
 enum-known-n : tie.Need-enum-known-n
 enum-known-n c = search needs
@@ -27,4 +27,4 @@ returns-4 c = search instant-so
 pub instant-spec : {M : Type 1} → statement M
 instant-spec =
     tie.close
-    (tie.spec number-at-requires enum-known-n enum-told returns returns-2 returns-3 returns-4)
+    (tie.spec number-five-requires enum-known-n enum-told returns returns-2 returns-3 returns-4)

@@ -16,4 +16,4 @@ sequence-at-spec =
     (λ c κs. search needs)
     (λ c. let a = c .before .before .before .before .args in
     sequence-read (now (a .s)) (a .start) (a .len) (c .before .before .before .before .pre)
-    (c .before .before .part .ensures) (c .before .last-number .ensures) (c .uint32 .ensures)))
+    (c .before .before .part .ensures) (c .before .last-sequence .ensures) (c .uint32 .ensures)))

@@ -2,7 +2,7 @@
 use Prim.Native.Nat.{ℕ, _+_, _≤_}
 use mathlib.Core.Path.{_≡_, refl}
 use mathlib.Core.List.{List, []}
-use mathlib.Core.Bool.{cond}
+use mathlib.Core.Bool.{Bool, cond, _||_}
 use mathlib.Core.Option.{Option, none, some}
 use native.Mathlib.Omega.{arith}
 use lib.Dec.{eqb}
@@ -107,6 +107,10 @@ pub record NumberReady (s : List ℕ) (from t k : ℕ) : Type 0 where
 
 abbrev pub NumberReads : List ℕ → ℕ → ℕ → ℕ → ℕ → Type 0
 NumberReads s from t k r = Reads (plain (λ n. n)) (taking (orZeroAt k)) feed t s from 0 r
+
+-- the keys of its messages and of its text, a byte each
+abbrev pub isPart : ℕ → Bool
+isPart b = eqb b 18 || (eqb b 26 || eqb b 34)
 
 -- for a stop_time_update: its arrivals are 2, its departures 3
 pub record StopReads (s : List ℕ) (from : ℕ) (r : StopUpdate) : Type 0 where
