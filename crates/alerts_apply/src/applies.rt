@@ -1,11 +1,10 @@
-// Whether an alert applies to a leg: its ids first, then road traffic, and its texts only where the route alone hits.
+// Whether an alert whose ids hit a leg applies: road traffic first, and its texts only where the route alone hits.
 use crate::hits::Hit;
-use crate::hits::hit_by;
 use crate::texts::road_known;
 use crate::texts::text_fits;
 ghost use mathlib.Core.Path.{_≡_};
 ghost use lib.ListN.{length};
-ghost use Rattle.alerts_apply.specs.promises.Hits.{hitAny, Clear, Told, Decided, DecidedNew, Applied};
+ghost use Rattle.alerts_apply.specs.promises.Hits.{hitAny, Clear, Told, Decided, DecidedNew};
 
 fn is_hit(h: Hit) -> bool
     ensures { λ r. ⌜ r ≡ hitAny h ⌝ }
@@ -79,24 +78,4 @@ pub fn decide_new(text: &mut [u8], s: &[u8], at: usize, short: &[u8], mode: &[u8
 {
     let mut words = [0u32; 3];
     decide(text, &mut words, s, at, short, mode, h)
-}
-
-// `text` is what the alert's texts are written into.
-pub fn applies(
-    text: &mut [u8],
-    s: &[u8],
-    at: usize,
-    trip: &[u8],
-    route: &[u8],
-    short: &[u8],
-    from: &[u8],
-    to: &[u8],
-    mode: &[u8],
-) -> bool
-    ensures { λ r. ⌜ Applied (now (trip .entry)) (now (route .entry)) (now (short .entry)) (now (from .entry))
-        (now (to .entry)) (now (mode .entry)) (now (s .entry)) at r (now (text .entry)) (now (text .exit)) ⌝ }
-{
-    let name = alerts_ids::trimmed(short);
-    let h = hit_by(s, at, trip, route, name, from, to);
-    decide_new(text, s, at, name, mode, h)
 }

@@ -5,7 +5,6 @@ use crate::applies::decide;
 use crate::applies::decide_new;
 use crate::hits::Hit;
 use crate::hits::hit_by;
-ghost use mathlib.Core.Path.{_≡_};
 ghost use Prim.Native.Nat.{_+_, _*_, _≤_};
 ghost use lib.ListN.{length};
 ghost use Rattle.alerts_apply.specs.promises.Known.{Begun, DecidedKnown, AppliedKnown};
@@ -51,7 +50,7 @@ fn decide_known(
 }
 
 // `text` is what the alert's texts are written into; `known`, zeros at first, what is known of alerts. The answer is
-// that of `applies` for every k: k says where the alert's words are.
+// one for every k: k says where the alert's words are.
 pub fn applies_known(
     text: &mut [u8],
     known: &mut [u32],

@@ -231,17 +231,18 @@ fn mark_place(marks: &mut [u8], s: &[u8], i: usize, before: &[u8], afters: &[u8]
     mark_at(marks, s, j, afters);
 }
 
-// Marks the lines that stand anywhere in s behind `before`, of those whose names begin with `first`.
+// Marks the lines that stand anywhere in s behind `before`, of those whose names begin with a byte from the first of
+// `first` to its second.
 fn mark_row(marks: &mut [u8], s: &[u8], before: &[u8], first: &[u8], afters: &[u8])
     requires { ⌜ length (now marks) ≡ 32 ⌝ }
     ensures { λ r. ⌜ MarkedBy (now (first .entry)) (row (now (s .entry)) (now (before .entry)) (now (afters .entry)))
         (now (marks .entry)) (now (marks .exit)) ⌝ }
 {
-    let mut i = alerts_patterns::skip(s, 0, before, first);
+    let mut i = alerts_patterns::skip_to(s, 0, before, first);
     while i < s.len() {
         mark_place(marks, s, i, before, afters);
         let from = i + 1;
-        i = alerts_patterns::skip(s, from, before, first);
+        i = alerts_patterns::skip_to(s, from, before, first);
     }
 }
 
@@ -306,8 +307,8 @@ fn clear(l: &mut [u8], from: usize, past: usize)
     }
 }
 
-// Marks the lines of a table of families, from one on up to another; their names begin with `first`. The others count
-// as marked meanwhile, so that no place of theirs is looked at.
+// Marks the lines of a table of families, from one on up to another; their names begin with a byte from the first of
+// `first` to its second. The others count as marked meanwhile, so that no place of theirs is looked at.
 fn mark_class(marks: &mut [u8], s: &[u8], first: &[u8], table: &[u8], from: usize, past: usize)
     requires { ⌜ (length (now marks) ≡ 32) × (from ≤ past) × (past ≤ 32) × Begin (now first) from past ⌝ }
     ensures { λ r. ⌜ MarkedIn (tableOf (now (table .entry)) (now (s .entry))) from past
@@ -354,7 +355,7 @@ fn mark_bare(marks: &mut [u8], s: &[u8])
     requires { ⌜ length (now marks) ≡ 32 ⌝ }
     ensures { λ r. ⌜ MarkedIn (bareOf (now (s .entry))) 5 19 (now (marks .entry)) (now (marks .exit)) ⌝ }
 {
-    mark_class(marks, s, b"", b" # |.|,;ET #", 5, 19);
+    mark_class(marks, s, b"19", b" # |.|,;ET #", 5, 19);
     mark_last(marks, s);
 }
 
@@ -362,7 +363,7 @@ fn mark_numbers(marks: &mut [u8], s: &[u8])
     requires { ⌜ length (now marks) ≡ 32 ⌝ }
     ensures { λ r. ⌜ MarkedIn (numberOf (now (s .entry))) 5 19 (now (marks .entry)) (now (marks .exit)) ⌝ }
 {
-    mark_class(marks, s, b"", b"METRO #;METRO#;LIGNE #;LIGNES #", 5, 19);
+    mark_class(marks, s, b"19", b"METRO #;METRO#;LIGNE #;LIGNES #", 5, 19);
     if !alerts_patterns::any_in(b"LIGNE|METRO", s, s) {
         return;
     }
@@ -374,10 +375,10 @@ fn mark_trams(marks: &mut [u8], s: &[u8])
     ensures { λ r. ⌜ MarkedIn (tramOf (now (s .entry))) 19 32 (now (marks .entry)) (now (marks .exit)) ⌝ }
 {
     if alerts_patterns::any_in(b"TRAM", s, s) {
-        mark_class(marks, s, b"T", b"#", 19, 32);
+        mark_class(marks, s, b"TT", b"#", 19, 32);
         return;
     }
-    mark_class(marks, s, b"T", b" #", 19, 32);
+    mark_class(marks, s, b"TT", b" #", 19, 32);
 }
 
 // Marks the lines that s names.
@@ -385,7 +386,7 @@ pub fn mark_named(marks: &mut [u8], s: &[u8])
     requires { ⌜ length (now marks) ≡ 32 ⌝ }
     ensures { λ r. ⌜ Marked (namedOf (now (s .entry))) (now (marks .entry)) (now (marks .exit)) ⌝ }
 {
-    mark_class(marks, s, b"", b"RER #;RER#", 0, 5);
+    mark_class(marks, s, b"AE", b"RER #;RER#", 0, 5);
     mark_numbers(marks, s);
     mark_trams(marks, s);
 }

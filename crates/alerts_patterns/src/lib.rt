@@ -7,7 +7,8 @@ ghost use Prim.Native.Nat.{_+_, _≤_, _<_};
 ghost use lib.Dec.{eqb};
 ghost use lib.ListN.{length, drop};
 ghost use Rattle.alerts.specs.Text.{begins, contains, find};
-ghost use Rattle.alerts_patterns.specs.promises.Found.{foundOf, Skips, Seeks, SeeksTo, anyPair};
+ghost use Rattle.alerts_patterns.specs.promises.Found.{foundOf, Skips, SkipsName, Seeks, SeeksTo, between};
+ghost use Rattle.alerts_patterns.specs.promises.Found.{anyPair};
 ghost use Rattle.alerts_patterns.specs.promises.Tables.{upTo, nameFilled, anyIn, anyAt};
 
 // Where a text is first found.
@@ -72,6 +73,16 @@ fn apart(x: u8, a: u8) -> u8
     if x < a { a - x } else { x - a }
 }
 
+// How far x is from the bytes from lo to hi.
+fn outside(x: u8, lo: u8, hi: u8) -> u8
+    ensures { λ r. ⌜ eqb r 0 ≡ between lo hi x ⌝ }
+{
+    if x < lo {
+        return lo - x;
+    }
+    if hi < x { x - hi } else { 0 }
+}
+
 fn greater(x: u8, y: u8) -> u8
     ensures { λ r. ⌜ eqb r 0 ≡ eqb x 0 && eqb y 0 ⌝ }
 {
@@ -84,37 +95,38 @@ fn lesser(x: u8, y: u8) -> u8
     if y < x { y } else { x }
 }
 
-// How far x is from a or y from b.
-fn pair_apart(x: u8, y: u8, a: u8, b: u8) -> u8
-    ensures { λ r. ⌜ eqb r 0 ≡ eqb x a && eqb y b ⌝ }
+// How far x is from a or y from the bytes from lo to hi.
+fn pair_apart(x: u8, y: u8, a: u8, lo: u8, hi: u8) -> u8
+    ensures { λ r. ⌜ eqb r 0 ≡ eqb x a && between lo hi y ⌝ }
 {
-    greater(apart(x, a), apart(y, b))
+    greater(apart(x, a), outside(y, lo, hi))
 }
 
-// Whether x has a and y has b at one place. No branch inside: the compiler makes wide instructions of it.
-fn pair_in(x: &[u8], y: &[u8], a: u8, b: u8) -> bool
+// Whether x has a and y a byte from lo to hi at one place. No branch inside: the compiler makes wide instructions of
+// it.
+fn pair_in(x: &[u8], y: &[u8], a: u8, lo: u8, hi: u8) -> bool
     requires { ⌜ length (now x) ≡ length (now y) ⌝ }
-    ensures { λ r. ⌜ r ≡ anyPair a b (now (x .entry)) (now (y .entry)) ⌝ }
+    ensures { λ r. ⌜ r ≡ anyPair a lo hi (now (x .entry)) (now (y .entry)) ⌝ }
 {
     let mut least: u8 = 255;
     let mut k = 0;
     while k < x.len() {
-        let far = pair_apart(x[k], y[k], a, b);
+        let far = pair_apart(x[k], y[k], a, lo, hi);
         least = lesser(least, far);
         k += 1;
     }
     least == 0
 }
 
-// A place from i on before which no a stands with b at d bytes on: byte by byte, up to e.
-fn pair_from(s: &[u8], i: usize, e: usize, a: u8, d: usize, b: u8) -> usize
+// A place from i on before which no a stands with a byte from lo to hi at d bytes on: byte by byte, up to e.
+fn pair_from(s: &[u8], i: usize, e: usize, a: u8, d: usize, lo: u8, hi: u8) -> usize
     requires { ⌜ (i ≤ e) × (e + d ≤ length (now s)) ⌝ }
-    ensures { λ r. ⌜ SeeksTo a d b (now (s .entry)) i e r ⌝ }
+    ensures { λ r. ⌜ SeeksTo a d lo hi (now (s .entry)) i e r ⌝ }
 {
     let mut k = i;
     while k < e {
         let j = k + d;
-        if pair_apart(s[k], s[j], a, b) == 0 {
+        if pair_apart(s[k], s[j], a, lo, hi) == 0 {
             return k;
         }
         k += 1;
@@ -123,41 +135,41 @@ fn pair_from(s: &[u8], i: usize, e: usize, a: u8, d: usize, b: u8) -> usize
 }
 
 // The same: 64 places at a time.
-fn pair_far(s: &[u8], i: usize, e: usize, a: u8, d: usize, b: u8) -> usize
+fn pair_far(s: &[u8], i: usize, e: usize, a: u8, d: usize, lo: u8, hi: u8) -> usize
     requires { ⌜ (i ≤ e) × (e + d ≤ length (now s)) ⌝ }
-    ensures { λ r. ⌜ Seeks a d b (now (s .entry)) i r ⌝ }
+    ensures { λ r. ⌜ Seeks a d lo hi (now (s .entry)) i r ⌝ }
 {
     let mut k = i;
     while 64 <= e - k {
         let j = k + d;
         let past = k + 64;
         let end = j + 64;
-        if pair_in(&s[k..past], &s[j..end], a, b) {
-            return pair_from(s, k, e, a, d, b);
+        if pair_in(&s[k..past], &s[j..end], a, lo, hi) {
+            return pair_from(s, k, e, a, d, lo, hi);
         }
         k = past;
     }
-    pair_from(s, k, e, a, d, b)
+    pair_from(s, k, e, a, d, lo, hi)
 }
 
-// A place from i on before which no a stands with b at d bytes on.
-fn seek(s: &[u8], i: usize, a: u8, d: usize, b: u8) -> usize
+// A place from i on before which no a stands with a byte from lo to hi at d bytes on.
+fn seek(s: &[u8], i: usize, a: u8, d: usize, lo: u8, hi: u8) -> usize
     requires { ⌜ i ≤ length (now s) ⌝ }
-    ensures { λ r. ⌜ Seeks a d b (now (s .entry)) i r ⌝ }
+    ensures { λ r. ⌜ Seeks a d lo hi (now (s .entry)) i r ⌝ }
 {
     if s.len() - i <= d {
         return s.len();
     }
     let e = s.len() - d;
     if e - i <= 16 {
-        return pair_from(s, i, e, a, d, b);
+        return pair_from(s, i, e, a, d, lo, hi);
     }
     let near = i + 16;
-    let k = pair_from(s, i, near, a, d, b);
+    let k = pair_from(s, i, near, a, d, lo, hi);
     if k < near {
         return k;
     }
-    pair_far(s, k, e, a, d, b)
+    pair_far(s, k, e, a, d, lo, hi)
 }
 
 // The last place of p with another byte than its first.
@@ -184,11 +196,11 @@ fn skip_text(s: &[u8], i: usize, p: &[u8]) -> usize
         return i;
     }
     let d = telling(p);
-    seek(s, i, p[0], d, p[d])
+    seek(s, i, p[0], d, p[d], p[d])
 }
 
 // A place from i on before which the two parts don't stand, by the first byte of each.
-pub fn skip(s: &[u8], i: usize, before: &[u8], name: &[u8]) -> usize
+fn skip(s: &[u8], i: usize, before: &[u8], name: &[u8]) -> usize
     requires { ⌜ i ≤ length (now s) ⌝ }
     ensures { λ r. ⌜ Skips (now (before .entry) ++ now (name .entry)) (now (s .entry)) i r ⌝ }
 {
@@ -198,7 +210,25 @@ pub fn skip(s: &[u8], i: usize, before: &[u8], name: &[u8]) -> usize
     if name.len() == 0 {
         return skip_text(s, i, before);
     }
-    seek(s, i, before[0], before.len(), name[0])
+    seek(s, i, before[0], before.len(), name[0], name[0])
+}
+
+// A place from i on before which `before` doesn't stand with a byte behind it from the first of `first` to its second;
+// with any byte where `first` has not two.
+pub fn skip_to(s: &[u8], i: usize, before: &[u8], first: &[u8]) -> usize
+    requires { ⌜ i ≤ length (now s) ⌝ }
+    ensures { λ r. ⌜ SkipsName (now (before .entry)) (now (first .entry)) (now (s .entry)) i r ⌝ }
+{
+    if first.len() < 2 {
+        return skip_text(s, i, before);
+    }
+    if before.len() != 0 {
+        return seek(s, i, before[0], before.len(), first[0], first[1]);
+    }
+    if first[0] == first[1] {
+        return seek(s, i, first[0], 0, first[0], first[1]);
+    }
+    i
 }
 
 // A place from i on before which the three parts don't stand: by the first byte of the first and of the last, where
@@ -214,7 +244,7 @@ fn skip_around(s: &[u8], i: usize, before: &[u8], name: &[u8], after: &[u8]) -> 
         return skip(s, i, before, name);
     }
     let d = before.len() + name.len();
-    seek(s, i, before[0], d, after[0])
+    seek(s, i, before[0], d, after[0], after[0])
 }
 
 // Where the three parts first stand in s.

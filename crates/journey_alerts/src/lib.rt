@@ -6,10 +6,11 @@ ghost use Prim.Native.Nat.{_≤_};
 ghost use lib.ListN.{length, getD};
 ghost use Rattle.decode.specs.Sizes.{mostOld};
 ghost use Rattle.alerts_search.specs.promises.Marks.{mostMarks};
+ghost use Rattle.alerts_apply.specs.promises.Known.{Knows};
 ghost use Rattle.overlay_places.specs.promises.Noted.{Noted};
 ghost use Rattle.journey_labels.specs.promises.Labels.{Inside, SoundLabels};
 ghost use Rattle.journey_alerts.specs.promises.Texts.{TextsIn, LegTextsAt};
-ghost use Rattle.journey_alerts.specs.promises.Places.{Lent, Prepared};
+ghost use Rattle.journey_alerts.specs.promises.Places.{mostText, Lent, Prepared};
 ghost use Rattle.journey_alerts.specs.promises.Alerts.{LegApplies, LabelAdded, AlertMet, EachMet, AlertsAtMet};
 ghost use Rattle.journey_alerts.specs.promises.Alerts.{LegAlerted};
 
@@ -84,10 +85,21 @@ fn prepare(
     )
 }
 
-// Whether the alert at p applies to the leg; `text` is what its texts are written into.
-fn applies(text: &mut [u8], s: &[u8], t: LegTexts, b: &[u8], p: usize) -> bool
+// Whether the alert at p applies to the leg; `text` is what its texts are written into, and `slot` says where its words
+// are in `known`.
+fn applies(
+    text: &mut [u8],
+    known: &mut [u32],
+    slot: usize,
+    s: &[u8],
+    t: LegTexts,
+    b: &[u8],
+    p: usize,
+) -> bool
     requires { ⌜ TextsIn (now s) t ⌝ }
-    ensures { λ r. ⌜ LegApplies (now (s .entry)) t (now (b .entry)) p (length (now (text .entry))) r ⌝ }
+    requires { ⌜ Knows (length (now text)) (now b) (now known) ⌝ }
+    ensures { λ r. ⌜ LegApplies (now (s .entry)) t (now (b .entry)) p (length (now (text .entry))) r
+        (now (known .exit)) ⌝ }
 {
     let mode = t.mode;
     let short = t.short;
@@ -107,8 +119,10 @@ fn applies(text: &mut [u8], s: &[u8], t: LegTexts, b: &[u8], p: usize) -> bool
     let k = from.to;
     let l = to.from;
     let m = to.to;
-    alerts_apply::applies::applies(
+    alerts_apply::known::applies_known(
         text,
+        known,
+        slot,
         b,
         p,
         &s[h..i],
@@ -146,6 +160,8 @@ fn note_label(
 // One alert more, at p.
 fn meet_alert(
     text: &mut [u8],
+    known: &mut [u32],
+    slot: usize,
     s: &[u8],
     t: LegTexts,
     b: &[u8],
@@ -156,10 +172,11 @@ fn meet_alert(
 ) -> LegAlerts
     requires { ⌜ TextsIn (now s) t ⌝ }
     requires { ⌜ SoundLabels (now b) (now froms) (now tos) (h .labels) × (length (now b) ≤ mostOld) ⌝ }
+    requires { ⌜ Knows (length (now text)) (now b) (now known) ⌝ }
     ensures { λ r. ⌜ AlertMet (now (s .entry)) t (now (b .entry)) p (length (now (text .entry)))
-        (now (froms .entry)) (now (tos .entry)) h (now (froms .exit)) (now (tos .exit)) r ⌝ }
+        (now (froms .entry)) (now (tos .entry)) h (now (froms .exit)) (now (tos .exit)) r (now (known .exit)) ⌝ }
 {
-    if applies(text, s, t, b, p) {
+    if applies(text, known, slot, s, t, b, p) {
         let l = alerts_apply::texts::label(b, p);
         return LegAlerts {
             hit: true,
@@ -194,30 +211,39 @@ fn place_at(a: &[u32], i: usize) -> usize
     decode_slots::word(a, i)
 }
 
-// The candidates one after another.
+// Where the words of an alert are, by the place of its feed's alerts and its number: those of one feed share none.
+fn slot_of(p: usize, number: usize) -> usize {
+    (p % 1024 + number % 1024) % 1024
+}
+
+// The candidates one after another, among the alerts at `from`.
 fn each_candidate(
     s: &[u8],
     t: LegTexts,
     b: &[u8],
+    from: usize,
     candidates: &[u16],
     n: usize,
     places: &[u32],
     text: &mut [u8],
+    known: &mut [u32],
     froms: &mut [u32],
     tos: &mut [u32],
     h: LegAlerts,
 ) -> LegAlerts
     requires { ⌜ TextsIn (now s) t ⌝ }
     requires { ⌜ SoundLabels (now b) (now froms) (now tos) (h .labels) × (length (now b) ≤ mostOld) ⌝ }
+    requires { ⌜ Knows (length (now text)) (now b) (now known) ⌝ }
     ensures { λ r. ⌜ EachMet (now (s .entry)) t (now (b .entry)) (now (candidates .entry)) n (now (places .entry)) n
         (length (now (text .entry))) (now (froms .entry)) (now (tos .entry)) h
-        (now (froms .exit)) (now (tos .exit)) r ⌝ }
+        (now (froms .exit)) (now (tos .exit)) r (now (known .exit)) ⌝ }
 {
     let mut k = 0;
     let mut r = h;
     while k < n {
-        let p = place_at(places, number_at(candidates, k));
-        r = meet_alert(text, s, t, b, p, froms, tos, r);
+        let i = number_at(candidates, k);
+        let p = place_at(places, i);
+        r = meet_alert(text, known, slot_of(from, i), s, t, b, p, froms, tos, r);
         k += 1;
     }
     r
@@ -233,25 +259,40 @@ fn alerts_at(
     met: &mut [u16],
     places: &mut [u32],
     text: &mut [u8],
+    known: &mut [u32],
     froms: &mut [u32],
     tos: &mut [u32],
     n: usize,
 ) -> LegAlerts
     requires { ⌜ TextsIn (now s) t ⌝ }
     requires { ⌜ Lent (now b) (now candidates) (now met) (now places) (now text) ⌝ }
-    requires { ⌜ SoundLabels (now b) (now froms) (now tos) n ⌝ }
+    requires { ⌜ SoundLabels (now b) (now froms) (now tos) n × Knows (length (now text)) (now b) (now known) ⌝ }
     ensures { λ r. ⌜ AlertsAtMet (now (s .entry)) t (now (b .entry)) p (length (now (text .entry)))
-        (now (froms .entry)) (now (tos .entry)) n (now (froms .exit)) (now (tos .exit)) r ⌝ }
+        (now (froms .entry)) (now (tos .entry)) n (now (froms .exit)) (now (tos .exit)) r (now (known .exit)) ⌝ }
 {
     let c = prepare(s, t, b, p, candidates, met, places);
     let h = LegAlerts {
         hit: false,
         labels: n,
     };
-    each_candidate(s, t, b, candidates, c, places, text, froms, tos, h)
+    each_candidate(
+        s,
+        t,
+        b,
+        p,
+        candidates,
+        c,
+        places,
+        text,
+        known,
+        froms,
+        tos,
+        h,
+    )
 }
 
-// The alerts of its trip's feed that apply to the leg at `at`: their labels go behind the n that are noted.
+// The alerts of its trip's feed that apply to the leg at `at`: their labels go behind the n that are noted. `known` is
+// what is known of alerts, of whatever feed.
 pub fn leg(
     s: &[u8],
     at: usize,
@@ -261,15 +302,16 @@ pub fn leg(
     met: &mut [u16],
     places: &mut [u32],
     text: &mut [u8],
+    known: &mut [u32],
     froms: &mut [u32],
     tos: &mut [u32],
     n: usize,
 ) -> LegAlerts
     requires { ⌜ Noted (now b) (now noted) ⌝ }
     requires { ⌜ Lent (now b) (now candidates) (now met) (now places) (now text) ⌝ }
-    requires { ⌜ SoundLabels (now b) (now froms) (now tos) n ⌝ }
+    requires { ⌜ SoundLabels (now b) (now froms) (now tos) n × Knows mostText (now b) (now known) ⌝ }
     ensures { λ r. ⌜ LegAlerted (now (s .entry)) at (now (b .entry)) (now (froms .entry)) (now (tos .entry)) n
-        (now (froms .exit)) (now (tos .exit)) r ⌝ }
+        (now (froms .exit)) (now (tos .exit)) r (now (known .exit)) ⌝ }
 {
     let t = texts(s, at);
     let id = t.trip;
@@ -281,5 +323,18 @@ pub fn leg(
             labels: n,
         };
     };
-    alerts_at(s, t, b, p, candidates, met, places, text, froms, tos, n)
+    alerts_at(
+        s,
+        t,
+        b,
+        p,
+        candidates,
+        met,
+        places,
+        text,
+        known,
+        froms,
+        tos,
+        n,
+    )
 }

@@ -5,7 +5,8 @@ ghost use mathlib.Core.Path.{_≡_};
 ghost use lib.ListN.{length};
 ghost use Rattle.overlay_places.specs.promises.Noted.{Noted};
 ghost use Rattle.journey_labels.specs.promises.Labels.{labelsLength, SoundLabels};
-ghost use Rattle.journey_alerts.specs.promises.Places.{Lent};
+ghost use Rattle.alerts_apply.specs.promises.Known.{Knows};
+ghost use Rattle.journey_alerts.specs.promises.Places.{mostText, Lent};
 ghost use Rattle.journey_survey.specs.promises.Surveyed.{Surveyed};
 ghost use Rattle.journey_survey.specs.promises.Legs.{MeetsLeg, LegSurveyed, EachSurveyed};
 
@@ -36,15 +37,16 @@ fn leg(
     met: &mut [u16],
     places: &mut [u32],
     text: &mut [u8],
+    known: &mut [u32],
     froms: &mut [u32],
     tos: &mut [u32],
     c: CardSurvey,
 ) -> CardSurvey
     requires { ⌜ Noted (now b) (now noted) ⌝ }
     requires { ⌜ Lent (now b) (now candidates) (now met) (now places) (now text) ⌝ }
-    requires { ⌜ SoundLabels (now b) (now froms) (now tos) (c .labels) ⌝ }
+    requires { ⌜ SoundLabels (now b) (now froms) (now tos) (c .labels) × Knows mostText (now b) (now known) ⌝ }
     ensures { λ r. ⌜ LegSurveyed (now (s .entry)) at (now (b .entry)) (now (froms .entry)) (now (tos .entry)) c
-        (now (froms .exit)) (now (tos .exit)) r ⌝ }
+        (now (froms .exit)) (now (tos .exit)) r (now (known .exit)) ⌝ }
 {
     if s.len() <= at {
         return c;
@@ -61,6 +63,7 @@ fn leg(
             met,
             places,
             text,
+            known,
             froms,
             tos,
             c.labels,
@@ -85,12 +88,14 @@ fn each_leg(
     met: &mut [u16],
     places: &mut [u32],
     text: &mut [u8],
+    known: &mut [u32],
     froms: &mut [u32],
     tos: &mut [u32],
 ) -> CardSurvey
     requires { ⌜ Noted (now b) (now noted) ⌝ }
     requires { ⌜ Lent (now b) (now candidates) (now met) (now places) (now text) ⌝ }
-    requires { ⌜ (length (now froms) ≡ labelsLength) × (length (now tos) ≡ labelsLength) ⌝ }
+    requires { ⌜ (length (now froms) ≡ labelsLength) × (length (now tos) ≡ labelsLength)
+        × Knows mostText (now b) (now known) ⌝ }
     ensures { λ r. ⌜ EachSurveyed (now (s .entry)) at n (now (b .entry)) (now (froms .exit)) (now (tos .exit)) r ⌝ }
 {
     let mut p = at;
@@ -100,7 +105,20 @@ fn each_leg(
         labels: 0,
     };
     while 0 < left {
-        c = leg(s, p, b, noted, candidates, met, places, text, froms, tos, c);
+        c = leg(
+            s,
+            p,
+            b,
+            noted,
+            candidates,
+            met,
+            places,
+            text,
+            known,
+            froms,
+            tos,
+            c,
+        );
         p = journey_places::past_leg(s, p);
         left -= 1;
     }
@@ -117,12 +135,14 @@ pub fn survey(
     met: &mut [u16],
     places: &mut [u32],
     text: &mut [u8],
+    known: &mut [u32],
     froms: &mut [u32],
     tos: &mut [u32],
 ) -> CardSurvey
     requires { ⌜ Noted (now b) (now noted) ⌝ }
     requires { ⌜ Lent (now b) (now candidates) (now met) (now places) (now text) ⌝ }
-    requires { ⌜ (length (now froms) ≡ labelsLength) × (length (now tos) ≡ labelsLength) ⌝ }
+    requires { ⌜ (length (now froms) ≡ labelsLength) × (length (now tos) ≡ labelsLength)
+        × Knows mostText (now b) (now known) ⌝ }
     ensures { λ r. ⌜ Surveyed (now (s .entry)) at (now (b .entry)) (now (froms .exit)) (now (tos .exit)) r ⌝ }
 {
     let n = formats_read::number(s, at);
@@ -136,6 +156,7 @@ pub fn survey(
         met,
         places,
         text,
+        known,
         froms,
         tos,
     )

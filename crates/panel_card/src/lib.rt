@@ -14,7 +14,8 @@ ghost use mathlib.Core.Path.{_≡_};
 ghost use Prim.Native.Nat.{_<_};
 ghost use lib.ListN.{length};
 ghost use Rattle.overlay_places.specs.promises.Noted.{placesLength, Noted};
-ghost use Rattle.journey_alerts.specs.promises.Places.{Lent};
+ghost use Rattle.alerts_apply.specs.promises.Known.{Knows};
+ghost use Rattle.journey_alerts.specs.promises.Places.{mostText, Lent};
 ghost use Rattle.formats_judge.specs.Judged.{judgeTo};
 ghost use Rattle.journey.specs.Card as form;
 ghost use Rattle.panel_card.specs.promises.Card.{cardNumber, askedNumber, LentLabels};
@@ -65,10 +66,11 @@ fn finish(
     froms: &mut [u32],
     tos: &mut [u32],
     places: &mut [u32],
+    known: &mut [u32],
 ) -> Put
     requires { ⌜ Noted (now old) (now noted) ⌝ }
     requires { ⌜ Lent (now old) (now candidates) (now met) (now places) (now text) ⌝ }
-    requires { ⌜ LentLabels (now froms) (now tos) × (0 < length (now card)) ⌝ }
+    requires { ⌜ LentLabels (now froms) (now tos) × (0 < length (now card)) × Knows mostText (now old) (now known) ⌝ }
     ensures { λ r. ⌜ FinishesCard (now (old .entry)) (now (card .entry)) (now (out .entry)) (now (out .exit)) r ⌝ }
 {
     let legs = journey_places::card(card, 0).legs;
@@ -81,6 +83,7 @@ fn finish(
         met,
         places,
         text,
+        known,
         froms,
         tos,
     );
@@ -112,6 +115,7 @@ pub fn card(
     tos: &mut [u32],
     places: &mut [u32],
     noted: &mut [u32],
+    known: &mut [u32],
 ) -> Ending
     requires { ⌜ Lent (now old) (now candidates) (now met) (now places) (now text) ⌝ }
     requires { ⌜ LentLabels (now froms) (now tos) × (length (now noted) ≡ placesLength) ⌝ }
@@ -121,6 +125,8 @@ pub fn card(
     if number != 0 {
         return Ending::Refused(number);
     }
+    // Whatever a caller left there, nothing is known of alerts yet.
+    panel_output::clear32(known);
     overlay_places::note(old, noted);
     let w = finish(
         old,
@@ -133,6 +139,7 @@ pub fn card(
         froms,
         tos,
         places,
+        known,
     );
     panel_output::ended(w, 8)
 }

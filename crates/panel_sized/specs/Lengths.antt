@@ -4,9 +4,10 @@ use mathlib.Core.List.{List, [], _∷_}
 use Rattle.overlay.specs.Buffer.{published}
 use Rattle.panel.specs.Questions.{Lengths}
 
--- a card call's working buffers: candidates and marks, text, where labels begin and end, alerts, trips
+-- a card call's working buffers: candidates and marks, text, where labels begin and end, places of alerts and of
+-- trips, what is known of alerts
 abbrev pub cardWork : List ℕ
-cardWork = 256 ∷ 256 ∷ 2626 ∷ 1025 ∷ 1025 ∷ 256 ∷ 8208 ∷ []
+cardWork = 256 ∷ 256 ∷ 2626 ∷ 1025 ∷ 1025 ∷ 256 ∷ 8208 ∷ 4096 ∷ []
 
 -- those of the calls over an overlay of n bytes
 abbrev pub sized : ℕ → Lengths

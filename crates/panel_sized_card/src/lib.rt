@@ -21,10 +21,12 @@ fn work_sized(
     tos: usize,
     places: usize,
     noted: usize,
+    known: usize,
 ) -> bool
-    ensures { λ r. ⌜ r ≡ workSized candidates met text froms tos places noted ⌝ }
+    ensures { λ r. ⌜ r ≡ workSized candidates met text froms tos places noted known ⌝ }
 {
-    let labels = (froms == 1025) & ((tos == 1025) & ((places == 256) & (noted == 8208)));
+    let alerts = (places == 256) & ((noted == 8208) & (known == 4096));
+    let labels = (froms == 1025) & ((tos == 1025) & alerts);
     (candidates == 256) & ((met == 256) & ((text == 2626) & labels))
 }
 
@@ -48,13 +50,14 @@ fn ending(
     tos: &mut [u32],
     places: &mut [u32],
     noted: &mut [u32],
+    known: &mut [u32],
 ) -> Ending
     requires { ⌜ n ≤ mostOld ⌝ }
     ensures { λ r. ⌜ Ends (sized n) (now (old .entry))
         (calls.card (now (card .entry)) (length (now (out .entry)))
         (length (now (candidates .entry)) ∷ length (now (met .entry)) ∷ length (now (text .entry))
         ∷ length (now (froms .entry)) ∷ length (now (tos .entry)) ∷ length (now (places .entry))
-        ∷ length (now (noted .entry)) ∷ []))
+        ∷ length (now (noted .entry)) ∷ length (now (known .entry)) ∷ []))
         (now (out .exit)) r ⌝ }
 {
     let fits = work_sized(
@@ -65,6 +68,7 @@ fn ending(
         tos.len(),
         places.len(),
         noted.len(),
+        known.len(),
     );
     if is_sized(n, old.len(), out.len(), fits) {
         return panel_card::card(
@@ -78,6 +82,7 @@ fn ending(
             tos,
             places,
             noted,
+            known,
         );
     }
     Ending::Refused(1)
@@ -94,14 +99,15 @@ fn clear_marks(candidates: &mut [u16], met: &mut [u16], text: &mut [u8], froms: 
     panel_output::clear32(froms);
 }
 
-fn clear_places(tos: &mut [u32], places: &mut [u32], noted: &mut [u32])
+fn clear_places(tos: &mut [u32], places: &mut [u32], noted: &mut [u32], known: &mut [u32])
     ensures { λ _. ⌜ Zeros
-        (now (tos .entry) ∷ now (places .entry) ∷ now (noted .entry) ∷ [])
-        (now (tos .exit) ∷ now (places .exit) ∷ now (noted .exit) ∷ []) ⌝ }
+        (now (tos .entry) ∷ now (places .entry) ∷ now (noted .entry) ∷ now (known .entry) ∷ [])
+        (now (tos .exit) ∷ now (places .exit) ∷ now (noted .exit) ∷ now (known .exit) ∷ []) ⌝ }
 {
     panel_output::clear32(tos);
     panel_output::clear32(places);
     panel_output::clear32(noted);
+    panel_output::clear32(known);
 }
 
 fn clear_work(
@@ -112,15 +118,16 @@ fn clear_work(
     tos: &mut [u32],
     places: &mut [u32],
     noted: &mut [u32],
+    known: &mut [u32],
 )
     ensures { λ _. ⌜ Zeros
         (now (candidates .entry) ∷ now (met .entry) ∷ now (text .entry) ∷ now (froms .entry)
-        ∷ now (tos .entry) ∷ now (places .entry) ∷ now (noted .entry) ∷ [])
+        ∷ now (tos .entry) ∷ now (places .entry) ∷ now (noted .entry) ∷ now (known .entry) ∷ [])
         (now (candidates .exit) ∷ now (met .exit) ∷ now (text .exit) ∷ now (froms .exit)
-        ∷ now (tos .exit) ∷ now (places .exit) ∷ now (noted .exit) ∷ []) ⌝ }
+        ∷ now (tos .exit) ∷ now (places .exit) ∷ now (noted .exit) ∷ now (known .exit) ∷ []) ⌝ }
 {
     clear_marks(candidates, met, text, froms);
-    clear_places(tos, places, noted);
+    clear_places(tos, places, noted, known);
 }
 
 // A CARD over an overlay of n bytes.
@@ -136,16 +143,17 @@ pub fn card(
     tos: &mut [u32],
     places: &mut [u32],
     noted: &mut [u32],
+    known: &mut [u32],
 ) -> u32
     requires { ⌜ n ≤ mostOld ⌝ }
     ensures { λ r. ⌜ Given (sized n) (now (old .entry))
         (calls.card (now (card .entry)) (length (now (out .entry)))
         (length (now (candidates .entry)) ∷ length (now (met .entry)) ∷ length (now (text .entry))
         ∷ length (now (froms .entry)) ∷ length (now (tos .entry)) ∷ length (now (places .entry))
-        ∷ length (now (noted .entry)) ∷ []))
+        ∷ length (now (noted .entry)) ∷ length (now (known .entry)) ∷ []))
         r (now (out .exit))
         (now (candidates .exit) ∷ now (met .exit) ∷ now (text .exit) ∷ now (froms .exit)
-        ∷ now (tos .exit) ∷ now (places .exit) ∷ now (noted .exit) ∷ []) ⌝ }
+        ∷ now (tos .exit) ∷ now (places .exit) ∷ now (noted .exit) ∷ now (known .exit) ∷ []) ⌝ }
 {
     let e = ending(
         n,
@@ -159,7 +167,8 @@ pub fn card(
         tos,
         places,
         noted,
+        known,
     );
-    clear_work(candidates, met, text, froms, tos, places, noted);
+    clear_work(candidates, met, text, froms, tos, places, noted, known);
     panel_output::finish(out, e)
 }

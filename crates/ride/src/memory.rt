@@ -53,3 +53,7 @@ pub fn alerts() -> [u32; 256] {
 pub fn trips() -> [u32; 8208] {
     [0; 8208]
 }
+
+pub fn known() -> [u32; 4096] {
+    [0; 4096]
+}

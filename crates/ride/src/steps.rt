@@ -146,6 +146,7 @@ fn card_call(old: &[u8], s: &[u8], out: &mut [u8]) -> u32 {
     let mut tos = memory::labels();
     let mut places = memory::alerts();
     let mut trips = memory::trips();
+    let mut known = memory::known();
     panel_sized_card::card(
         ROOM,
         old,
@@ -158,6 +159,7 @@ fn card_call(old: &[u8], s: &[u8], out: &mut [u8]) -> u32 {
         &mut tos,
         &mut places,
         &mut trips,
+        &mut known,
     )
 }
 

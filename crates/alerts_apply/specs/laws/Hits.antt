@@ -29,7 +29,7 @@ use Rattle.alerts_search.specs.laws.Candidates.{in-trips, in-routes, in-stops}
 use Rattle.alerts_apply.specs.declared.hits.Hit.{Hit}
 use Rattle.alerts_apply.specs.promises.Words.{Says, WordsSay, Fits, RoadKnown}
 use Rattle.alerts_apply.specs.promises.Hits.{unless, HitBy, hitAny, toldOf, decidedOf, Clear, Told, Decided}
-use Rattle.alerts_apply.specs.promises.Hits.{DecidedNew, Applied}
+use Rattle.alerts_apply.specs.promises.Hits.{DecidedNew}
 
 -- ---- a list of ids
 
@@ -260,7 +260,3 @@ module _ {trip route from to name s : List ℕ} {p : ℕ} {h : Hit} (short mode 
       joined : (t u v t′ u′ v′ n f f′ : Bool) → t ≡ t′ → u ≡ u′ → v ≡ v′ → f ≡ f′
           → n && (t || u || v && f) ≡ n && (t′ || u′ || v′ && f′)
       joined t u v t′ u′ v′ n f f′ a b c d = rw (a, b, c, d) refl
-
-  pub applied : {r : Bool} {old new : List ℕ} → DecidedNew s p name mode h r old new
-      → Applied trip route short from to mode s p r old new
-  applied D = record { kept = D .kept; is = λ {a} x l. D .is x (rw e l) ∙ decided-is x }

@@ -8,8 +8,6 @@ use lib.Dec.{ltb}
 use lib.ListN.{length, getD, take, drop, set, replicate, length-set, length-append, length-drop, List·getD-append}
 use lib.Seq.{getD-set-same, getD-set-other, getD-append-add, getD-drop, getD-take, length-take-le}
 use borrow.Author.Tests.{ltb-true, ltb-false}
-use Rattle.formats_read.specs.promises.Here.{Here}
-use Rattle.alerts.specs.Alert.{alert}
 use Rattle.alerts.specs.Text.{trim}
 use Rattle.alerts_apply.specs.declared.hits.Hit.{Hit}
 use Rattle.alerts_apply.specs.promises.Words.{Says, WordsSay}

@@ -1,32 +1,30 @@
 -- Law. What is known of an alert's texts stays so, and the tests by it give what they give without.
 use mathlib.Core.Path.{_≡_, refl, sym, ap, _∙_}
 use mathlib.Core.List.{List, [], _∷_}
-use mathlib.Core.Bool.{Bool, true, false, cond, not}
-use Prim.Native.Nat.{ℕ, _+_, _-_, _≤_, _<_}
+use mathlib.Core.Bool.{Bool, true, false, not}
+use Prim.Native.Nat.{ℕ, _+_, _-_}
 use native.Mathlib.Omega.{arith}
 use lib.Dec.{ltb}
 use lib.ListN.{length, getD, take, drop, set, replicate, length-set}
 use lib.Seq.{getD-set-same, getD-set-other}
 use borrow.Author.Tests.{ltb-false, not-true}
-use Rattle.basics.specs.Lists.{isEmpty}
 use Rattle.formats.specs.Class as Class
 use Rattle.formats.specs.Format.{text, optional}
 use Rattle.formats_write.specs.laws.Slices.{slice-is}
 use Rattle.formats_read.specs.promises.Here.{Here}
 use Rattle.formats_skip.specs.promises.Passes.{Passes}
-use Rattle.alerts.specs.Alert.{alert, Alert, header, description, orEmptyText}
+use Rattle.alerts.specs.Alert.{alert, Alert, header, orEmptyText}
 use Rattle.alerts.specs.Text.{upper}
 use Rattle.alerts.specs.Applies.{legBlob}
 use Rattle.alerts.specs.promises.Reduced.{textFits}
 use Rattle.alerts_lines.specs.promises.Lines.{namedOf}
-use Rattle.alerts_lines.specs.promises.Marks.{Lines}
 use Rattle.alerts_text.specs.promises.Word.{bitsOf, wordOf}
 use Rattle.alerts_text.specs.promises.Marked.{okFor, blobOf, NamedFits, FirstFits, SettlesName}
 use Rattle.alerts_text.specs.declared.lines.Settled.{Settled}
-use Rattle.alerts_text.specs.declared.lines.Settled.the-variants.{Right, Wrong, Open}
+use Rattle.alerts_text.specs.declared.lines.Settled.the-variants.{Right, Wrong}
 use Rattle.alerts_text.specs.laws.Word.{kept-lines}
 use Rattle.alerts_apply.specs.promises.Texts.{Shown, Road}
-use Rattle.alerts_apply.specs.promises.Words.{Says, WordsSay, roadWord, RoadKnown, Fits, FitsAgain}
+use Rattle.alerts_apply.specs.promises.Words.{WordsSay, roadWord, RoadKnown, Fits, FitsAgain}
 use Rattle.alerts_apply.specs.promises.Words.{FitsKnown, LinesIn}
 use Rattle.alerts_apply.specs.laws.Texts.{of-header, of-description, part-is}
 

@@ -1,6 +1,6 @@
 -- `alerts_lines::mark_bare` meets its contract.
 use borrow.Author.Needs.{needs}
-use Rattle.alerts_lines.specs.laws.Rows.{bare-marked, begin-all}
+use Rattle.alerts_lines.specs.laws.Rows.{bare-marked, begin-numbers}
 use Rattle.alerts_lines.proofs.mark_bare.Statement.{statement}
 use Rattle.alerts_lines.proofs.mark_bare.Tie as tie
 
@@ -10,7 +10,7 @@ mark-bare-spec =
     (tie.spec
     (λ c. search needs)
     (λ c. search needs)
-    (λ c κs. search (needs, begin-all))
+    (λ c κs. search (needs, begin-numbers))
     (λ c κs. search needs)
     (λ c. search needs)
     (λ c. search (bare-marked)))

@@ -1,6 +1,6 @@
 -- `alerts_lines::mark_named` meets its contract.
 use borrow.Author.Needs.{needs}
-use Rattle.alerts_lines.specs.laws.Rows.{named-marked, begin-all}
+use Rattle.alerts_lines.specs.laws.Rows.{named-marked, begin-letters}
 use Rattle.alerts_lines.proofs.mark_named.Statement.{statement}
 use Rattle.alerts_lines.proofs.mark_named.Tie as tie
 
@@ -10,7 +10,7 @@ mark-named-spec =
     (tie.spec
     (λ c. search needs)
     (λ c. search needs)
-    (λ c κs. search (needs, begin-all))
+    (λ c κs. search (needs, begin-letters))
     (λ c κs. search needs)
     (λ c κs. search needs)
     (λ c. search needs)

@@ -1,6 +1,6 @@
 -- `alerts_lines::mark_numbers` meets its contract.
 use borrow.Author.Needs.{needs}
-use Rattle.alerts_lines.specs.laws.Rows.{number-heads, number-all, begin-all}
+use Rattle.alerts_lines.specs.laws.Rows.{number-heads, number-all, begin-numbers}
 use Rattle.alerts_lines.proofs.mark_numbers.Statement.{statement}
 use Rattle.alerts_lines.proofs.mark_numbers.Tie as tie
 
@@ -10,7 +10,7 @@ mark-numbers-spec =
     (tie.spec
     (λ c. search needs)
     (λ c. search needs)
-    (λ c κs. search (needs, begin-all))
+    (λ c κs. search (needs, begin-numbers))
     (λ c. search needs)
     (λ c κs. search needs)
     (λ c. search needs)

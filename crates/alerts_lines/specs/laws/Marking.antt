@@ -9,20 +9,21 @@ use native.Mathlib.Nat.{add-zero}
 use native.Mathlib.Omega.{arith}
 use lib.Dec.{leb, ltb, eqb}
 use lib.ListN.{length, getD, take, drop, set, length-set, drop-of-length-le}
-use lib.Seq.{drop-cons, drop-drop, getD-drop, getD-set-same, getD-set-other, length-take-le}
+use lib.Seq.{drop-cons, getD-drop, getD-set-same, getD-set-other, length-take-le}
 use borrow.Author.Tests.{ltb-true, ltb-false, lt-ltb, le-ltb, le-leb, lt-leb, eqb-true, eqb-false, eq-eqb}
 use borrow.Author.Tests.{not-true, not-false}
 use Rattle.basics.specs.Lists.{any}
-use Rattle.basics.specs.laws.Booleans.{and-true, or-assoc, or-false, or-comm, and-no, false-true, implied-false}
+use Rattle.basics.specs.laws.Booleans.{and-true, or-assoc, or-false, or-comm, and-no, false-true}
 use Rattle.basics.specs.laws.Lists.{any-none, any-or, any-same}
 use Rattle.alerts.specs.Text.{begins, contains}
 use Rattle.alerts_patterns.specs.promises.Tables.{upTo, patterns, anyAt}
-use Rattle.alerts_patterns.specs.promises.Found.{Skips}
-use Rattle.alerts_patterns.specs.laws.Searching.{parts, room, begins-joined}
+use Rattle.alerts_patterns.specs.promises.Found.{SkipsName}
+use Rattle.alerts_patterns.specs.laws.Searching.{parts, room}
 use Rattle.alerts_patterns.specs.laws.Patterns.{tail-whole, Piece, piece-at, piece-then, piece-last}
 use Rattle.alerts_lines.specs.promises.Lines.{widthOf, lineAt, shortOf, longOf, standsAt, rowAt, row, familyOf}
 use Rattle.alerts_lines.specs.promises.Lines.{tableOf}
-use Rattle.alerts_lines.specs.promises.Marks.{on, Marked, MarkedBy, MarkedOne, MarkedIn, Cleared}
+use Rattle.alerts_lines.specs.promises.Marks.{on, Marked, Front, MarkedBy, MarkedOne, MarkedIn}
+use Rattle.alerts_lines.specs.promises.Marks.{Cleared}
 use Rattle.alerts_lines.specs.laws.Kinds.{kind, line-first, line-length, either-line, short-line}
 
 -- a mark, or one more
@@ -218,18 +219,18 @@ module _ (s afters : List ℕ) (j : ℕ) where
       → getD (lineAt k) i 0 ≡ getD s (j + i) 0
   byte k x i h = begun-byte (lineAt k) (drop j s) i h (and-true x .0) ∙ getD-drop j s i 0
 
-  first : (k : ℕ) → k < 32 → standsAt s j afters k ≡ true → getD (lineAt k) 0 0 ≡ getD s j 0
-  first k h x = byte k x 0 (line-first k h) ∙ ap (λ n. getD s n 0) (add-zero j)
+  first-stood : (k : ℕ) → k < 32 → standsAt s j afters k ≡ true → getD (lineAt k) 0 0 ≡ getD s j 0
+  first-stood k h x = byte k x 0 (line-first k h) ∙ ap (λ n. getD s n 0) (add-zero j)
 
-  pub nothing-stands : (m : List ℕ) → length s ≤ j → Marked (standsAt s j afters) m m
-  nothing-stands m h = nothing-new (standsAt s j afters) m none
+  past-end : length s ≤ j → (k : ℕ) → k < 32 → standsAt s j afters k ≡ false
+  past-end h k g = rw (drop-of-length-le s h, empty (lineAt k) (line-first k g)) refl
     where
       empty : (p : List ℕ) → 0 < getD p 0 0 → begins p [] ≡ false
       empty [] x = absurd (omega arith)
       empty (a ∷ p) x = refl
 
-      none : (k : ℕ) → k < 32 → standsAt s j afters k ≡ false
-      none k g = rw (drop-of-length-le s h, empty (lineAt k) (line-first k g)) refl
+  pub nothing-stands : (m : List ℕ) → length s ≤ j → Marked (standsAt s j afters) m m
+  nothing-stands m h = nothing-new (standsAt s j afters) m (past-end h)
 
   pub none-stood : (c a : ℕ) (m : List ℕ) → c ≡ getD s (j + 1) 0 → a ≡ shortOf (getD s j 0) c → a ≡ 32
       → Marked (standsAt s j afters) m m
@@ -240,7 +241,7 @@ module _ (s afters : List ℕ) (j : ℕ) where
       none k g true x =
           absurd (let w =
           short-line k (getD (lineAt k) 0 0) (getD (lineAt k) 1 0) (getD (lineAt k) 2 0) (getD s j 0)
-          (getD s (j + 1) 0) (kind k g) (first k g x) (byte k x 1) in
+          (getD s (j + 1) 0) (kind k g) (first-stood k g x) (byte k x 1) in
           let v : 32 ≡ shortOf (getD s j 0) (getD s (j + 1) 0) = sym h ∙ ea ∙ ap (λ x. shortOf (getD s j 0) x) e in
           omega (arith, w, v))
 
@@ -257,7 +258,7 @@ module _ (s afters : List ℕ) (j : ℕ) where
       which k h x =
           rw (ea, el, e)
           (either-line k (getD (lineAt k) 0 0) (getD (lineAt k) 1 0) (getD (lineAt k) 2 0) (getD s j 0)
-          (getD s (j + 1) 0) (getD s (j + 2) 0) (kind k h) (first k h x) (byte k x 1) (byte k x 2))
+          (getD s (j + 1) 0) (getD s (j + 2) 0) (kind k h) (first-stood k h x) (byte k x 1) (byte k x 2))
 
       go : (o : Bool) (k : ℕ) → k < 32 → (t : Bool) → standsAt s j afters k ≡ t
           → o || eqb k a && t || eqb k l && t ≡ o || t
@@ -301,41 +302,38 @@ row-here s before afters i k h =
     x : Bool
     x = begins before (drop i s) && begins (lineAt k) (drop j s)
 
--- what begins with a text that begins with another begins with the other
-begins-trans : (p q t : List ℕ) → begins p q ≡ true → begins q t ≡ true → begins p t ≡ true
-begins-trans [] q t h g = refl
-begins-trans (a ∷ p) [] t h g = false-true h
-begins-trans (a ∷ p) (b ∷ q) [] h g = false-true g
-begins-trans (a ∷ p) (b ∷ q) (c ∷ t) h g =
-    let x = and-true {x = eqb a b} h in
-    let y = and-true {x = eqb b c} g in
-    rw (eq-eqb a c (eqb-true a b (x .0) ∙ eqb-true b c (y .0))) (begins-trans p q t (x .1) (y .1))
+-- no line stands behind `before` at i where no byte does that its name may begin with
+abbrev NoName : List ℕ → List ℕ → List ℕ → ℕ → Type 0
+NoName before first s i = begins before (drop i s) ≡ true → i + length before < length s
+    → getD first 0 0 ≤ getD s (i + length before) 0 → getD s (i + length before) 0 ≤ getD first 1 255 → ⊥
 
-row-none : (s before first afters : List ℕ) (i k : ℕ) → begins (before ++ first) (drop i s) ≡ false
-    → begins first (lineAt k) ≡ true → rowAt s before afters i k ≡ false
-row-none s before first afters i k e h = go (begins before (drop i s)) refl
+row-none : (s before first afters : List ℕ) (i k : ℕ) → k < 32 → NoName before first s i → Front first k
+    → rowAt s before afters i k ≡ false
+row-none s before first afters i k l e F = go (begins before (drop i s)) refl
   where
     j : ℕ
     j = i + length before
 
-    parted : begins (before ++ first) (drop i s) ≡ begins before (drop i s) && begins first (drop j s)
-    parted =
-        begins-joined before first (drop i s)
-        ∙ ap (λ l. begins before (drop i s) && begins first l) (drop-drop (length before) i s)
+    inside : standsAt s j afters k ≡ true → (t : Bool) → ltb j (length s) ≡ t → j < length s
+    inside x true y = ltb-true j (length s) y
+    inside x false y =
+        false-true (sym (past-end s afters j (ltb-false j (length s) y) k l) ∙ x)
+
+    none : begins before (drop i s) ≡ true → (t : Bool) → standsAt s j afters k ≡ t → t ≡ false
+    none b false x = refl
+    none b true x =
+        let f = first-stood s afters j k l x in
+        absurd (e b (inside x (ltb j (length s)) refl) (omega (arith, f, F .low)) (omega (arith, f, F .high)))
 
     go : (x : Bool) → begins before (drop i s) ≡ x → x && standsAt s j afters k ≡ false
     go false y = refl
-    go true y =
-        let off : begins first (drop j s) ≡ false =
-        ap (λ x. x && begins first (drop j s)) (sym y) ∙ sym parted ∙ e in
-        rw (implied-false (begins (lineAt k) (drop j s)) (begins first (drop j s))
-        (begins-trans first (lineAt k) (drop j s) h) off) refl
+    go true y = none y (standsAt s j afters k) refl
 
 -- the lines of a row that stands before i are marked, those whose names begin with a text
 pub record Scanned (s before first afters old m : List ℕ) (i : ℕ) : Type 0 where
   pub kept : length m ≡ length old
   pub within : i ≤ length s
-  pub each : (k : ℕ) → k < 32 → begins first (lineAt k) ≡ true
+  pub each : (k : ℕ) → k < 32 → Front first k
       → on old k || row s before afters k ≡ on m k || row (drop i s) before afters k
 
 scanned-start : (s before first afters old : List ℕ) → Scanned s before first afters old old 0
@@ -366,14 +364,14 @@ module _ (s before first afters old m : List ℕ) (i : ℕ) (S : Scanned s befor
         ∙ ap (λ x. x || row (drop (i + 1) s) before afters k) (sym (M .each k g));
   }
 
-  scanned-on : i < length s → begins (before ++ first) (drop i s) ≡ false → Scanned s before first afters old m (i + 1)
+  scanned-on : i < length s → NoName before first s i → Scanned s before first afters old m (i + 1)
   scanned-on h e = record {
     kept = S .kept;
     within = omega arith;
     each = λ k g p.
         S .each k g p ∙ ap (λ x. on m k || x)
         (row-step s before afters i k h g
-        ∙ ap (λ x. x || row (drop (i + 1) s) before afters k) (row-none s before first afters i k e p));
+        ∙ ap (λ x. x || row (drop (i + 1) s) before afters k) (row-none s before first afters i k g e p));
   }
 
   pub scanned-end : length s ≤ i → MarkedBy first (row s before afters) old m
@@ -393,7 +391,7 @@ module _ (s before first afters old m : List ℕ) (i : ℕ) (S : Scanned s befor
 
 -- a row stands nowhere where what stands before the name, and the name's front, don't
 module _ (s before first afters old m : List ℕ) where
-  over : (i r : ℕ) → Skips (before ++ first) s i r → Scanned s before first afters old m i → (n : ℕ) → i + n ≤ r
+  over : (i r : ℕ) → SkipsName before first s i r → Scanned s before first afters old m i → (n : ℕ) → i + n ≤ r
       → Scanned s before first afters old m (i + n)
   over i r K S zero h = let e : i + 0 ≡ i = omega arith in rw e S
   over i r K S (suc n) h =
@@ -402,20 +400,20 @@ module _ (s before first afters old m : List ℕ) where
       (scanned-on s before first afters old m (i + n) (over i r K S n (omega arith)) (omega (arith, K .within))
       (K .none-here (i + n) (omega arith) (omega arith)))
 
-  scanned-over : (i r : ℕ) → Skips (before ++ first) s i r → Scanned s before first afters old m i
+  scanned-over : (i r : ℕ) → SkipsName before first s i r → Scanned s before first afters old m i
       → Scanned s before first afters old m r
   scanned-over i r K S =
       let e : i + (r - i) ≡ r = omega (arith, K .forward) in
       rw e at (over i r K S (r - i) (omega (arith, K .forward)))
 
-pub scanned-first : (s before first afters old : List ℕ) (r : ℕ) → Skips (before ++ first) s 0 r
+pub scanned-first : (s before first afters old : List ℕ) (r : ℕ) → SkipsName before first s 0 r
     → Scanned s before first afters old old r
 scanned-first s before first afters old r K =
     scanned-over s before first afters old old 0 r K (scanned-start s before first afters old)
 
 pub scanned-next : (s before first afters old m : List ℕ) (i : ℕ) → Scanned s before first afters old m i
     → (new : List ℕ) → i < length s → length new ≡ length m → Marked (rowAt s before afters i) m new → (r : ℕ)
-    → Skips (before ++ first) s (i + 1) r → Scanned s before first afters old new r
+    → SkipsName before first s (i + 1) r → Scanned s before first afters old new r
 scanned-next s before first afters old m i S new h l M r K =
     scanned-over s before first afters old new (i + 1) r K (scanned-more s before first afters old m i S new h l M)
 
@@ -447,7 +445,7 @@ family-row s first f old new h e g M = record { each = λ k l p. M .each k l p �
 pub record Tabled (table first s old m : List ℕ) (at e : ℕ) : Type 0 where
   pub kept : length m ≡ length old
   pub piece : Piece 0x3b table at e
-  pub each : (k : ℕ) → k < 32 → begins first (lineAt k) ≡ true
+  pub each : (k : ℕ) → k < 32 → Front first k
       → on old k || tableOf table s k ≡ on m k || tableOf (drop at table) s k
 
 pub tabled-start : (table first s old : List ℕ) (e : ℕ) → e ≡ 0 + upTo 0x3b (drop 0 table)

@@ -21,7 +21,8 @@ use Rattle.alerts_patterns.specs.promises.Tables.{anyIn}
 use Rattle.alerts_patterns.specs.laws.Searching.{ends-long, ends-begins}
 use Rattle.alerts_lines.specs.promises.Lines.{widthOf, lineAt, lastOf, bareOf, numberOf, tramOf, namedOf}
 use Rattle.alerts_lines.specs.promises.Lines.{subjectOf, rowAt, tableOf, IsLine, shortOf, longOf}
-use Rattle.alerts_lines.specs.promises.Marks.{on, Marked, MarkedBy, MarkedIn, Begin, Cleared}
+use Rattle.alerts_lines.specs.promises.Marks.{on, Marked, Front, MarkedBy, MarkedIn, Begin}
+use Rattle.alerts_lines.specs.promises.Marks.{Cleared}
 use Rattle.alerts_lines.specs.laws.Kinds.{Kind, letter, one, ten, digit, tram, tower, second, kind}
 use Rattle.alerts_lines.specs.laws.Marking.{row-here}
 use Rattle.alerts_lines.specs.laws.Kinds.{either-line, short-line, line-once, line-length, line-first}
@@ -160,25 +161,66 @@ added first f from past clear l old new w B C F M =
         let h = ltb-true k past e in
         F .each k (omega arith) (B .each k g h) ∙ ap (λ x. x || f k) (C .each k g h)
 
--- what all names begin with, and those of trams
-pub begin-all : (from past : ℕ) → Begin [] from past
-begin-all from past = record { each = λ k h g. refl }
+-- what names begin with: all, letters, numbers, trams
+front-of : (first : List ℕ) (k : ℕ) → getD first 0 0 ≤ getD (lineAt k) 0 0 → getD (lineAt k) 0 0 ≤ getD first 1 255
+    → Front first k
+front-of first k a b = record { low = a; high = b }
 
-pub begin-trams : Begin (text "T") 19 32
-begin-trams = record { each = λ k h g. go (lineAt k) (tram-first k h (kind k g)) }
+front-any : (k : ℕ) → k < 32 → Front [] k
+front-any k h = front-of [] k (omega arith) (small (kind k h))
   where
-    tram-first : (k : ℕ) → 19 ≤ k → {x y z : ℕ} → Kind k x y z → x ≡ 84
-    tram-first k h (letter x y z) = absurd (omega arith)
-    tram-first k h (one x y) = absurd (omega arith)
-    tram-first k h (ten x y z w) = absurd (omega arith)
-    tram-first k h (digit x y z) = absurd (omega arith)
-    tram-first k h (tram x y z) = x
-    tram-first k h (tower x y z w v) = x
-    tram-first k h (second x y z w) = x
+    small : {x y z : ℕ} → Kind k x y z → x ≤ 255
+    small (letter x y z) = omega arith
+    small (one x y) = omega arith
+    small (ten x y z w) = omega arith
+    small (digit x y z) = omega arith
+    small (tram x y z) = omega arith
+    small (tower x y z w v) = omega arith
+    small (second x y z w) = omega arith
 
-    go : (l : List ℕ) → getD l 0 0 ≡ 84 → begins (84 ∷ []) l ≡ true
-    go [] e = absurd (omega (arith, e))
-    go (b ∷ l) e = rw e refl
+between-of : (lo hi from past : ℕ) → past ≤ 32
+    → ((k x y z : ℕ) → from ≤ k → k < past → Kind k x y z → (lo ≤ x) × (x ≤ hi)) → Begin (lo ∷ hi ∷ []) from past
+between-of lo hi from past w f = record {
+  each = λ k h g.
+      let b = f k (getD (lineAt k) 0 0) (getD (lineAt k) 1 0) (getD (lineAt k) 2 0) h g (kind k (omega arith)) in
+      front-of (lo ∷ hi ∷ []) k (b .0) (b .1);
+}
+
+pub begin-letters : Begin (text "AE") 0 5
+begin-letters = between-of 65 69 0 5 (omega arith) go
+  where
+    go : (k x y z : ℕ) → 0 ≤ k → k < 5 → Kind k x y z → (65 ≤ x) × (x ≤ 69)
+    go k x y z h g (letter p q r) = (p, omega arith)
+    go k x y z h g (one p q) = absurd (omega arith)
+    go k x y z h g (ten p q r s) = absurd (omega arith)
+    go k x y z h g (digit p q r) = absurd (omega arith)
+    go k x y z h g (tram p q r) = absurd (omega arith)
+    go k x y z h g (tower p q r s t) = absurd (omega arith)
+    go k x y z h g (second p q r s) = absurd (omega arith)
+
+pub begin-numbers : Begin (text "19") 5 19
+begin-numbers = between-of 49 57 5 19 (omega arith) go
+  where
+    go : (k x y z : ℕ) → 5 ≤ k → k < 19 → Kind k x y z → (49 ≤ x) × (x ≤ 57)
+    go k x y z h g (letter p q r) = absurd (omega arith)
+    go k x y z h g (one p q) = (omega arith, omega arith)
+    go k x y z h g (ten p q r s) = (omega arith, omega arith)
+    go k x y z h g (digit p q r) = (omega arith, omega arith)
+    go k x y z h g (tram p q r) = absurd (omega arith)
+    go k x y z h g (tower p q r s t) = absurd (omega arith)
+    go k x y z h g (second p q r s) = absurd (omega arith)
+
+pub begin-trams : Begin (text "TT") 19 32
+begin-trams = between-of 84 84 19 32 (omega arith) go
+  where
+    go : (k x y z : ℕ) → 19 ≤ k → k < 32 → Kind k x y z → (84 ≤ x) × (x ≤ 84)
+    go k x y z h g (letter p q r) = absurd (omega arith)
+    go k x y z h g (one p q) = absurd (omega arith)
+    go k x y z h g (ten p q r s) = absurd (omega arith)
+    go k x y z h g (digit p q r) = absurd (omega arith)
+    go k x y z h g (tram p q r) = (omega arith, omega arith)
+    go k x y z h g (tower p q r s t) = (omega arith, omega arith)
+    go k x y z h g (second p q r s) = (omega arith, omega arith)
 
 -- numbers
 pub bare-marked : (s m₀ m₁ m₂ : List ℕ) → MarkedIn (tableOf (text " # |.|,;ET #") s) 5 19 m₀ m₁
@@ -321,7 +363,7 @@ pub subjects-marked : (s m₀ m₁ m₂ : List ℕ)
     → MarkedBy [] (tableOf (text "RER #;RER#;METRO #;INCIDENT LIGNE #;LIGNE # :| -| INTERRUPT| TRAFIC") s) m₀ m₁
     → Marked (rowAt s (text "LIGNE ") [] 0) m₁ m₂ → Marked (subjectOf s) m₀ m₂
 subjects-marked s m₀ m₁ m₂ A B =
-    turned (subjectOf s) (λ k h. subject-rows s k h) (joins (record { each = λ k h. A .each k h refl }) B)
+    turned (subjectOf s) (λ k h. subject-rows s k h) (joins (record { each = λ k h. A .each k h (front-any k h) }) B)
 
 -- which line a name is
 none-named : (name : List ℕ) → ((k : ℕ) → k < 32 → lineAt k ≡ name → ⊥) → IsLine name 32

@@ -1,11 +1,10 @@
 -- Promise. A byte for each of the 32 lines: which are marked, and what is asked of the marks.
 use mathlib.Core.Path.{_≡_}
 use mathlib.Core.List.{List}
-use mathlib.Core.Bool.{Bool, true, false, not, _&&_, _||_}
+use mathlib.Core.Bool.{Bool, false, not, _&&_, _||_}
 use Prim.Native.Nat.{ℕ, zero, suc, _≤_, _<_}
 use lib.Dec.{ltb, leb, eqb}
 use lib.ListN.{getD}
-use Rattle.alerts.specs.Text.{begins}
 use Rattle.alerts_lines.specs.promises.Lines.{lineAt}
 use Rattle.alerts_lines.specs.declared.Pick.{Pick}
 use Rattle.alerts_lines.specs.declared.Pick.the-variants.{Named, Own, Another, Subject}
@@ -22,13 +21,18 @@ pub record Lines (f : ℕ → Bool) (m : List ℕ) : Type 0 where
 pub record Marked (f : ℕ → Bool) (old new : List ℕ) : Type 0 where
   pub each : (k : ℕ) → k < 32 → on new k ≡ on old k || f k
 
--- of the lines whose names begin with a text, those of which f says yes are
-pub record MarkedBy (first : List ℕ) (f : ℕ → Bool) (old new : List ℕ) : Type 0 where
-  pub each : (k : ℕ) → k < 32 → begins first (lineAt k) ≡ true → on new k ≡ on old k || f k
+-- the name of line k begins with a byte from the first of `first` to its second; with any where there are not two
+pub record Front (first : List ℕ) (k : ℕ) : Type 0 where
+  pub low : getD first 0 0 ≤ getD (lineAt k) 0 0
+  pub high : getD (lineAt k) 0 0 ≤ getD first 1 255
 
--- the names of the lines from one on up to another begin with a text
+-- of the lines whose names begin so, those of which f says yes are
+pub record MarkedBy (first : List ℕ) (f : ℕ → Bool) (old new : List ℕ) : Type 0 where
+  pub each : (k : ℕ) → k < 32 → Front first k → on new k ≡ on old k || f k
+
+-- the names of the lines from one on up to another begin so
 pub record Begin (first : List ℕ) (from past : ℕ) : Type 0 where
-  pub each : (k : ℕ) → from ≤ k → k < past → begins first (lineAt k) ≡ true
+  pub each : (k : ℕ) → from ≤ k → k < past → Front first k
 
 -- line j is, where f says yes of it
 pub record MarkedOne (f : ℕ → Bool) (j : ℕ) (old new : List ℕ) : Type 0 where

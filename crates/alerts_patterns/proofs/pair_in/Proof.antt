@@ -7,10 +7,10 @@ use Rattle.alerts_patterns.proofs.pair_in.Statement.{statement}
 use Rattle.alerts_patterns.proofs.pair_in.Tie as tie
 
 abbrev Inv-loop : tie.InvT-loop
-Inv-loop x y a b least₀ k₀ least k = Pairing a b x y least k
+Inv-loop x y a lo hi least₀ k₀ least k = Pairing a lo hi x y least k
 
 abbrev μ-loop : tie.MeasureT-loop
-μ-loop x y a b least₀ k₀ least k = length x - k
+μ-loop x y a lo hi least₀ k₀ least k = length x - k
 
 pub pair-in-spec : {M : Type 1} → statement M
 pair-in-spec =
@@ -18,7 +18,7 @@ pair-in-spec =
     (tie.spec
     Inv-loop
     μ-loop
-    (λ c. pairing-start _ _ _ _)
+    (λ c. pairing-start _ _ _ _ _)
     (λ c. search needs)
     (λ c. search needs)
     (λ c κs. search needs)

@@ -14,5 +14,6 @@ skip-spec =
     (λ c. search (skips-before))
     (λ c. search needs)
     (λ c. search needs)
+    (λ c. search needs)
     (λ c κs. search needs)
     (λ c. search (skips-both)))

@@ -15,5 +15,6 @@ skip-around-spec =
     (λ c. search needs)
     (λ c. search needs)
     (λ c. search needs)
+    (λ c. search needs)
     (λ c κs. search needs)
     (λ c. search (skips-ends)))

@@ -8,11 +8,12 @@ use native.Mathlib.Omega.{arith}
 use lib.Dec.{leb, eqb}
 use lib.ListN.{length, getD, take, drop, length-append, length-drop, drop-of-length-le}
 use lib.Seq.{drop-cons, getD-drop, getD-take, length-take-le}
-use borrow.Author.Tests.{eq-eqb, ne-eqb, eqb-true, eqb-false, leb-true, leb-false}
+use borrow.Author.Tests.{eq-eqb, ne-eqb, eqb-true, eqb-false, leb-true, leb-false, le-leb, lt-leb}
 use Rattle.basics.specs.laws.Booleans.{and-true, or-assoc, or-false, false-true}
 use Rattle.alerts.specs.Text.{begins}
 use Rattle.alerts.specs.laws.Text.{begins-true}
-use Rattle.alerts_patterns.specs.promises.Found.{Skips, Seeks, SeeksTo, anyPair}
+use Rattle.alerts_patterns.specs.promises.Found.{Skips, SkipsName, Seeks, SeeksTo, between}
+use Rattle.alerts_patterns.specs.promises.Found.{anyPair}
 use Rattle.alerts_patterns.specs.laws.Searching.{Unfound, unfound-start, unfound-more, begins-joined}
 
 -- bytes told apart without a branch
@@ -46,118 +47,129 @@ module _ (x a : ℕ) where
       go true e = let z : x ≡ 0 = omega (arith, eqb-true a 0 e) in rw (eq-eqb x 0 z) refl
       go false e = sym (or-false (eqb x 0))
 
-pub pair-is : (p q a b u v r : ℕ) → eqb u 0 ≡ eqb p a → eqb v 0 ≡ eqb q b → eqb r 0 ≡ eqb u 0 && eqb v 0
-    → eqb r 0 ≡ eqb p a && eqb q b
-pair-is p q a b u v r eu ev er = er ∙ rw (eu, ev) refl
+module _ (x lo hi : ℕ) where
+  pub outside-below : x < lo → eqb (lo - x) 0 ≡ between lo hi x
+  outside-below h = ne-eqb (lo - x) 0 (λ e. omega (arith, e)) ∙ sym (rw (lt-leb lo x h) refl)
+
+  pub outside-above : lo ≤ x → hi < x → eqb (x - hi) 0 ≡ between lo hi x
+  outside-above l h = ne-eqb (x - hi) 0 (λ e. omega (arith, e)) ∙ sym (rw (le-leb lo x l, lt-leb x hi h) refl)
+
+  pub outside-not : lo ≤ x → x ≤ hi → eqb 0 0 ≡ between lo hi x
+  outside-not l h = sym (rw (le-leb lo x l, le-leb x hi h) refl)
+
+pub pair-is : (p q a lo hi u v r : ℕ) → eqb u 0 ≡ eqb p a → eqb v 0 ≡ between lo hi q
+    → eqb r 0 ≡ eqb u 0 && eqb v 0 → eqb r 0 ≡ eqb p a && between lo hi q
+pair-is p q a lo hi u v r eu ev er = er ∙ rw (eu, ev) refl
 
 -- the places from k on are still to be looked at
-pub record Pairing (a b : ℕ) (x y : List ℕ) (least k : ℕ) : Type 0 where
+pub record Pairing (a lo hi : ℕ) (x y : List ℕ) (least k : ℕ) : Type 0 where
   pub within : k ≤ length x
-  pub whole : anyPair a b x y ≡ eqb least 0 || anyPair a b (drop k x) (drop k y)
+  pub whole : anyPair a lo hi x y ≡ eqb least 0 || anyPair a lo hi (drop k x) (drop k y)
 
-pub pairing-start : (a b : ℕ) (x y : List ℕ) → Pairing a b x y 255 0
-pairing-start a b x y = record { within = omega arith; whole = refl }
+pub pairing-start : (a lo hi : ℕ) (x y : List ℕ) → Pairing a lo hi x y 255 0
+pairing-start a lo hi x y = record { within = omega arith; whole = refl }
 
-module _ (a b : ℕ) (x y : List ℕ) (least k : ℕ) (P : Pairing a b x y least k) where
+module _ (a lo hi : ℕ) (x y : List ℕ) (least k : ℕ) (P : Pairing a lo hi x y least k) where
   pub pairing-more : (w r : ℕ) → k < length x → length x ≡ length y
-      → eqb w 0 ≡ eqb (getD x k 0) a && eqb (getD y k 0) b → eqb r 0 ≡ eqb least 0 || eqb w 0
-      → Pairing a b x y r (k + 1)
+      → eqb w 0 ≡ eqb (getD x k 0) a && between lo hi (getD y k 0) → eqb r 0 ≡ eqb least 0 || eqb w 0
+      → Pairing a lo hi x y r (k + 1)
   pairing-more w r h l ew er = record {
     within = omega arith;
     whole =
         P .whole ∙ ap (λ t. eqb least 0 || t) one
-        ∙ sym (or-assoc (eqb least 0) (eqb (getD x k 0) a && eqb (getD y k 0) b)
-        (anyPair a b (drop (k + 1) x) (drop (k + 1) y)))
-        ∙ ap (λ t. eqb least 0 || t || anyPair a b (drop (k + 1) x) (drop (k + 1) y))
+        ∙ sym (or-assoc (eqb least 0) (eqb (getD x k 0) a && between lo hi (getD y k 0))
+        (anyPair a lo hi (drop (k + 1) x) (drop (k + 1) y)))
+        ∙ ap (λ t. eqb least 0 || t || anyPair a lo hi (drop (k + 1) x) (drop (k + 1) y))
         (sym ew)
-        ∙ ap (λ t. t || anyPair a b (drop (k + 1) x) (drop (k + 1) y)) (sym er);
+        ∙ ap (λ t. t || anyPair a lo hi (drop (k + 1) x) (drop (k + 1) y)) (sym er);
   }
     where
-      one : anyPair a b (drop k x) (drop k y)
-          ≡ eqb (getD x k 0) a && eqb (getD y k 0) b || anyPair a b (drop (k + 1) x) (drop (k + 1) y)
+      one : anyPair a lo hi (drop k x) (drop k y)
+          ≡ eqb (getD x k 0) a && between lo hi (getD y k 0) || anyPair a lo hi (drop (k + 1) x) (drop (k + 1) y)
       one = let g : k < length y = omega (arith, l) in rw (add-one k, drop-cons x k 0 h, drop-cons y k 0 g) refl
 
-  pub pairing-end : length x ≤ k → eqb least 0 ≡ anyPair a b x y
+  pub pairing-end : length x ≤ k → eqb least 0 ≡ anyPair a lo hi x y
   pairing-end h =
       sym
-      (P .whole ∙ ap (λ l. eqb least 0 || anyPair a b l (drop k y)) (drop-of-length-le x h) ∙ or-false (eqb least 0))
+      (P .whole ∙ ap (λ l. eqb least 0 || anyPair a lo hi l (drop k y)) (drop-of-length-le x h)
+      ∙ or-false (eqb least 0))
 
 -- seeking, place by place
-module _ (a d b : ℕ) (s : List ℕ) (i : ℕ) where
-  pub seeks-none : i ≤ length s → Seeks a d b s i i
+module _ (a d lo hi : ℕ) (s : List ℕ) (i : ℕ) where
+  pub seeks-none : i ≤ length s → Seeks a d lo hi s i i
   seeks-none h = record { forward = omega arith; within = h; none-here = λ k g l. absurd (omega arith) }
 
-  module _ (k : ℕ) (S : Seeks a d b s i k) where
-    seeks-more : (w : ℕ) → k + d < length s → eqb w 0 ≡ eqb (getD s k 0) a && eqb (getD s (k + d) 0) b → (w ≡ 0 → ⊥)
-        → Seeks a d b s i (k + 1)
+  module _ (k : ℕ) (S : Seeks a d lo hi s i k) where
+    seeks-more : (w : ℕ) → k + d < length s → eqb w 0 ≡ eqb (getD s k 0) a && between lo hi (getD s (k + d) 0)
+        → (w ≡ 0 → ⊥) → Seeks a d lo hi s i (k + 1)
     seeks-more w h ew g = record {
       forward = omega (arith, S .forward);
       within = omega arith;
-      none-here = λ j m l z x y. go j m l z x y (eqb j k) refl;
+      none-here = λ j m l z x y u. go j m l z x y u (eqb j k) refl;
     }
       where
-        differs : getD s k 0 ≡ a → getD s (k + d) 0 ≡ b → ⊥
-        differs x y =
+        differs : getD s k 0 ≡ a → lo ≤ getD s (k + d) 0 → getD s (k + d) 0 ≤ hi → ⊥
+        differs x y u =
             g (eqb-true w 0 (ew
-            ∙ rw (eq-eqb (getD s k 0) a x, eq-eqb (getD s (k + d) 0) b y) refl))
+            ∙ rw (eq-eqb (getD s k 0) a x, le-leb lo (getD s (k + d) 0) y, le-leb (getD s (k + d) 0) hi u) refl))
 
-        go : (j : ℕ) → i ≤ j → j < k + 1 → j + d < length s → getD s j 0 ≡ a → getD s (j + d) 0 ≡ b → (u : Bool)
-            → eqb j k ≡ u → ⊥
-        go j m l z x y true e =
+        go : (j : ℕ) → i ≤ j → j < k + 1 → j + d < length s → getD s j 0 ≡ a → lo ≤ getD s (j + d) 0
+            → getD s (j + d) 0 ≤ hi → (t : Bool) → eqb j k ≡ t → ⊥
+        go j m l z x y u true e =
             let n : j ≡ k = eqb-true j k e in
-            differs (ap (λ n. getD s n 0) (sym n) ∙ x) (ap (λ n. getD s (n + d) 0) (sym n) ∙ y)
-        go j m l z x y false e = S .none-here j m (omega (arith, eqb-false j k e)) z x y
+            differs (ap (λ n. getD s n 0) (sym n) ∙ x) (rw n at y) (rw n at u)
+        go j m l z x y u false e = S .none-here j m (omega (arith, eqb-false j k e)) z x y u
 
-    pub seeks-then : (r : ℕ) → Seeks a d b s k r → Seeks a d b s i r
+    pub seeks-then : (r : ℕ) → Seeks a d lo hi s k r → Seeks a d lo hi s i r
     seeks-then r T = record {
       forward = omega (arith, S .forward, T .forward);
       within = T .within;
-      none-here = λ j m l z x y. go j m l z x y (leb k j) refl;
+      none-here = λ j m l z x y u. go j m l z x y u (leb k j) refl;
     }
       where
-        go : (j : ℕ) → i ≤ j → j < r → j + d < length s → getD s j 0 ≡ a → getD s (j + d) 0 ≡ b → (u : Bool)
-            → leb k j ≡ u → ⊥
-        go j m l z x y true e = T .none-here j (leb-true k j e) l z x y
-        go j m l z x y false e = S .none-here j m (let w = leb-false k j e in omega arith) z x y
+        go : (j : ℕ) → i ≤ j → j < r → j + d < length s → getD s j 0 ≡ a → lo ≤ getD s (j + d) 0
+            → getD s (j + d) 0 ≤ hi → (t : Bool) → leb k j ≡ t → ⊥
+        go j m l z x y u true e = T .none-here j (leb-true k j e) l z x y u
+        go j m l z x y u false e = S .none-here j m (let w = leb-false k j e in omega arith) z x y u
 
 -- up to e
-module _ (a d b : ℕ) (s : List ℕ) (i e : ℕ) where
-  pub to-start : i ≤ e → e + d ≤ length s → SeeksTo a d b s i e i
-  to-start h g = record { seeks = seeks-none a d b s i (omega arith); up = h }
+module _ (a d lo hi : ℕ) (s : List ℕ) (i e : ℕ) where
+  pub to-start : i ≤ e → e + d ≤ length s → SeeksTo a d lo hi s i e i
+  to-start h g = record { seeks = seeks-none a d lo hi s i (omega arith); up = h }
 
-  pub to-more : (k w : ℕ) → SeeksTo a d b s i e k → k < e → e + d ≤ length s
-      → eqb w 0 ≡ eqb (getD s k 0) a && eqb (getD s (k + d) 0) b → (w ≡ 0 → ⊥) → SeeksTo a d b s i e (k + 1)
+  pub to-more : (k w : ℕ) → SeeksTo a d lo hi s i e k → k < e → e + d ≤ length s
+      → eqb w 0 ≡ eqb (getD s k 0) a && between lo hi (getD s (k + d) 0) → (w ≡ 0 → ⊥) → SeeksTo a d lo hi s i e (k + 1)
   to-more k w S l g ew n =
-      record { seeks = seeks-more a d b s i k (S .seeks) w (omega arith) ew n; up = omega arith }
+      record { seeks = seeks-more a d lo hi s i k (S .seeks) w (omega arith) ew n; up = omega arith }
 
-  pub far-then : (k r : ℕ) → SeeksTo a d b s i e k → SeeksTo a d b s k e r → Seeks a d b s i r
-  far-then k r S T = seeks-then a d b s i k (S .seeks) r (T .seeks)
+  pub far-then : (k r : ℕ) → SeeksTo a d lo hi s i e k → SeeksTo a d lo hi s k e r → Seeks a d lo hi s i r
+  far-then k r S T = seeks-then a d lo hi s i k (S .seeks) r (T .seeks)
 
-  pub near-then : (k r : ℕ) → SeeksTo a d b s i e k → Seeks a d b s k r → Seeks a d b s i r
-  near-then k r S T = seeks-then a d b s i k (S .seeks) r T
+  pub near-then : (k r : ℕ) → SeeksTo a d lo hi s i e k → Seeks a d lo hi s k r → Seeks a d lo hi s i r
+  near-then k r S T = seeks-then a d lo hi s i k (S .seeks) r T
 
 -- 64 places at a time
-no-pair : (a b : ℕ) (x y : List ℕ) (m : ℕ) → anyPair a b x y ≡ false → m < length x → m < length y
-    → getD x m 0 ≡ a → getD y m 0 ≡ b → ⊥
-no-pair a b [] y m e h g u v = omega arith
-no-pair a b (p ∷ x) [] m e h g u v = omega arith
-no-pair a b (p ∷ x) (q ∷ y) zero e h g u v =
-    false-true (sym e ∙ rw (eq-eqb p a u, eq-eqb q b v) refl)
-no-pair a b (p ∷ x) (q ∷ y) (suc m) e h g u v =
-    no-pair a b x y m (rest (eqb p a && eqb q b) (anyPair a b x y) e) (omega arith) (omega arith) u v
+no-pair : (a lo hi : ℕ) (x y : List ℕ) (m : ℕ) → anyPair a lo hi x y ≡ false → m < length x → m < length y
+    → getD x m 0 ≡ a → lo ≤ getD y m 0 → getD y m 0 ≤ hi → ⊥
+no-pair a lo hi [] y m e h g u v w = omega arith
+no-pair a lo hi (p ∷ x) [] m e h g u v w = omega arith
+no-pair a lo hi (p ∷ x) (q ∷ y) zero e h g u v w =
+    false-true (sym e ∙ rw (eq-eqb p a u, le-leb lo q v, le-leb q hi w) refl)
+no-pair a lo hi (p ∷ x) (q ∷ y) (suc m) e h g u v w =
+    no-pair a lo hi x y m (rest (eqb p a && between lo hi q) (anyPair a lo hi x y) e) (omega arith) (omega arith) u v w
   where
     rest : (t r : Bool) → t || r ≡ false → r ≡ false
     rest true r e = false-true (sym e)
     rest false r e = e
 
-pub far-more : (a d b : ℕ) (s : List ℕ) (i k e : ℕ) (t : Bool) → SeeksTo a d b s i e k → 64 ≤ e - k
+pub far-more : (a d lo hi : ℕ) (s : List ℕ) (i k e : ℕ) (t : Bool) → SeeksTo a d lo hi s i e k → 64 ≤ e - k
     → e + d ≤ length s
-    → t ≡ anyPair a b (take (k + 64 - k) (drop k s)) (take (k + d + 64 - (k + d)) (drop (k + d) s)) → t ≡ false
-    → SeeksTo a d b s i e (k + 64)
-far-more a d b s i k e t S h g x y =
-    record { seeks = seeks-then a d b s i k (S .seeks) (k + 64) block; up = omega arith }
+    → t ≡ anyPair a lo hi (take (k + 64 - k) (drop k s)) (take (k + d + 64 - (k + d)) (drop (k + d) s)) → t ≡ false
+    → SeeksTo a d lo hi s i e (k + 64)
+far-more a d lo hi s i k e t S h g x y =
+    record { seeks = seeks-then a d lo hi s i k (S .seeks) (k + 64) block; up = omega arith }
   where
-    clear : anyPair a b (take 64 (drop k s)) (take 64 (drop (k + d) s)) ≡ false
+    clear : anyPair a lo hi (take 64 (drop k s)) (take 64 (drop (k + d) s)) ≡ false
     clear =
         let n : k + 64 - k ≡ 64 = omega arith in
         let m : k + d + 64 - (k + d) ≡ 64 = omega arith in
@@ -169,17 +181,18 @@ far-more a d b s i k e t S h g x y =
     at : (n m : ℕ) → m < 64 → getD (take 64 (drop n s)) m 0 ≡ getD s (n + m) 0
     at n m l = rw (getD-take, getD-drop)
 
-    block : Seeks a d b s k (k + 64)
+    block : Seeks a d lo hi s k (k + 64)
     block = record {
       forward = omega arith;
       within = omega arith;
-      none-here = λ j m l z u v.
+      none-here = λ j m l z u v w.
           let o : k + (j - k) ≡ j = omega arith in
           let p : k + d + (j - k) ≡ j + d = omega arith in
-          no-pair a b (take 64 (drop k s)) (take 64 (drop (k + d) s)) (j - k) clear
+          no-pair a lo hi (take 64 (drop k s)) (take 64 (drop (k + d) s)) (j - k) clear
           (omega (arith, long k (omega arith))) (omega (arith, long (k + d) (omega arith)))
           (at k (j - k) (omega arith) ∙ ap (λ n. getD s n 0) o ∙ u)
-          (at (k + d) (j - k) (omega arith) ∙ ap (λ n. getD s n 0) p ∙ v);
+          (omega (arith, at (k + d) (j - k) (omega arith) ∙ ap (λ n. getD s n 0) p))
+          (omega (arith, at (k + d) (j - k) (omega arith) ∙ ap (λ n. getD s n 0) p));
     }
 
 pub far-alike : (s : List ℕ) (d k e : ℕ) → 64 ≤ e - k → e + d ≤ length s
@@ -199,7 +212,12 @@ begun (a ∷ p) [] i h e = false-true e
 begun (a ∷ p) (b ∷ t) zero h e = sym (eqb-true a b (and-true e .0))
 begun (a ∷ p) (b ∷ t) (suc i) h e = begun p t i (omega arith) (and-true {x = eqb a b} e .1)
 
-pub seeks-skips : (a d b : ℕ) (p s : List ℕ) (i r : ℕ) → Seeks a d b s i r → d < length p → getD p 0 0 ≡ a
+first-byte : (p s : List ℕ) (k : ℕ) → 0 < length p → begins p (drop k s) ≡ true → getD s k 0 ≡ getD p 0 0
+first-byte p s k h x =
+    let e : k + 0 ≡ k = omega arith in
+    ap (λ n. getD s n 0) (sym e) ∙ sym (getD-drop k s 0 0) ∙ begun p (drop k s) 0 h x
+
+pub seeks-skips : (a d b : ℕ) (p s : List ℕ) (i r : ℕ) → Seeks a d b b s i r → d < length p → getD p 0 0 ≡ a
     → getD p d 0 ≡ b → Skips p s i r
 seeks-skips a d b p s i r S h ea eb = record {
   forward = S .forward;
@@ -210,12 +228,11 @@ seeks-skips a d b p s i r S h ea eb = record {
     go : (k : ℕ) → i ≤ k → k < r → (t : Bool) → begins p (drop k s) ≡ t → t ≡ false
     go k m l false x = refl
     go k m l true x =
-        absurd (S .none-here k m l room
-        (ap (λ n. getD s n 0) (sym zero-on) ∙ sym (getD-drop k s 0 0) ∙ begun p (drop k s) 0 (omega arith) x ∙ ea)
-        (sym (getD-drop k s d 0) ∙ begun p (drop k s) d h x ∙ eb))
+        absurd (S .none-here k m l room (first-byte p s k (omega arith) x ∙ ea) (omega (arith, other))
+        (omega (arith, other)))
       where
-        zero-on : k + 0 ≡ k
-        zero-on = omega arith
+        other : getD s (k + d) 0 ≡ b
+        other = sym (getD-drop k s d 0) ∙ begun p (drop k s) d h x ∙ eb
 
         room : k + d < length s
         room =
@@ -230,7 +247,7 @@ module _ (p s : List ℕ) (i : ℕ) where
   pub skips-none : i ≤ length s → Skips p s i i
   skips-none h = record { forward = omega arith; within = h; none-here = λ k g l. absurd (omega arith) }
 
-  pub skips-text : (d r : ℕ) → d < length p → Seeks (getD p 0 0) d (getD p d 0) s i r → Skips p s i r
+  pub skips-text : (d r : ℕ) → d < length p → Seeks (getD p 0 0) d (getD p d 0) (getD p d 0) s i r → Skips p s i r
   skips-text d r h S = seeks-skips (getD p 0 0) d (getD p d 0) p s i r S h refl refl
 
 -- by the first bytes of two parts
@@ -254,8 +271,8 @@ module _ (b n s : List ℕ) (i : ℕ) where
   pub skips-before : (r : ℕ) → length n ≡ 0 → Skips b s i r → Skips (b ++ n) s i r
   skips-before r h S = rw (nothing n h, append-nil b) S
 
-  pub skips-both : (r : ℕ) → (length b ≡ 0 → ⊥) → (length n ≡ 0 → ⊥) → Seeks (getD b 0 0) (length b) (getD n 0 0) s i r
-      → Skips (b ++ n) s i r
+  pub skips-both : (r : ℕ) → (length b ≡ 0 → ⊥) → (length n ≡ 0 → ⊥)
+      → Seeks (getD b 0 0) (length b) (getD n 0 0) (getD n 0 0) s i r → Skips (b ++ n) s i r
   skips-both r h g S =
       seeks-skips (getD b 0 0) (length b) (getD n 0 0) (b ++ n) s i r S (omega (arith, length-append b n))
       (first-of n b h) (second-of n b)
@@ -270,13 +287,58 @@ module _ (b n a s : List ℕ) (i r : ℕ) where
   }
 
   pub skips-ends : (length b ≡ 0 → ⊥) → (length a ≡ 0 → ⊥)
-      → Seeks (getD b 0 0) (length b + length n) (getD a 0 0) s i r → Skips (b ++ n ++ a) s i r
+      → Seeks (getD b 0 0) (length b + length n) (getD a 0 0) (getD a 0 0) s i r → Skips (b ++ n ++ a) s i r
   skips-ends h g S =
       let l : length (b ++ n) ≡ length b + length n = length-append b n in
       seeks-skips (getD b 0 0) (length b + length n) (getD a 0 0) (b ++ n ++ a) s i r S
       (omega (arith, l, length-append (b ++ n) a))
       (first-of a (b ++ n) (λ z. h (omega (arith, l))) ∙ first-of n b h)
       (ap (λ k. getD (b ++ n ++ a) k 0) (sym l) ∙ second-of a (b ++ n))
+
+-- by the first byte of a part and a range for the one behind it
+default : (l : List ℕ) (i : ℕ) → i < length l → getD l i 0 ≡ getD l i 255
+default [] i h = absurd (omega arith)
+default (a ∷ l) zero h = refl
+default (a ∷ l) (suc i) h = default l i (omega arith)
+
+module _ (b f s : List ℕ) (i : ℕ) where
+  pub name-any : (r : ℕ) → Skips b s i r → SkipsName b f s i r
+  name-any r S = record {
+    forward = S .forward;
+    within = S .within;
+    none-here = λ k m l t w x y. false-true (sym (S .none-here k m l) ∙ t);
+  }
+
+  pub name-nothing : i ≤ length s → SkipsName b f s i i
+  name-nothing h = record { forward = omega arith; within = h; none-here = λ k m l. absurd (omega arith) }
+
+  pub name-alone : (r : ℕ) → 2 ≤ length f → length b ≡ 0 → getD f 0 0 ≡ getD f 1 0
+      → Seeks (getD f 0 0) 0 (getD f 0 0) (getD f 1 0) s i r → SkipsName b f s i r
+  name-alone r n z e S = record {
+    forward = S .forward;
+    within = S .within;
+    none-here = λ k m l t w x y.
+        let o : k + length b ≡ k = omega arith in
+        let p : k + 0 ≡ k = omega arith in
+        let u = ap (λ n. getD s n 0) o in
+        let v = ap (λ n. getD s n 0) p in
+        let d = default f 1 n in
+        S .none-here k m l (omega arith) (omega (arith, u, d)) (omega (arith, u, v)) (omega (arith, u, v, d));
+  }
+
+  pub name-ranged : (r : ℕ) → 2 ≤ length f → (length b ≡ 0 → ⊥)
+      → Seeks (getD b 0 0) (length b) (getD f 0 0) (getD f 1 0) s i r → SkipsName b f s i r
+  name-ranged r n z S = record {
+    forward = S .forward;
+    within = S .within;
+    none-here = λ k m l t w x y.
+        let h : 0 < length b = some (length b) z in
+        S .none-here k m l w (first-byte b s k h t) x (omega (arith, default f 1 n));
+  }
+    where
+      some : (n : ℕ) → (n ≡ 0 → ⊥) → 0 < n
+      some zero g = absurd (g refl)
+      some (suc n) g = omega arith
 
 -- a first place is none of those skipped
 module _ (p s : List ℕ) where

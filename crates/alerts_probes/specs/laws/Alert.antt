@@ -3,7 +3,7 @@ use mathlib.Core.Path.{_≡_, refl, sym, ap, _∙_}
 use mathlib.Core.List.{List, []}
 use mathlib.Core.Logic.{inl, inr}
 use mathlib.Core.Option.{Option, none, some}
-use mathlib.Core.Bool.{Bool, true, false, cond, not, _&&_}
+use mathlib.Core.Bool.{Bool, true, false, cond, not}
 use Prim.Native.Nat.{ℕ, _-_, _≤_, _<_}
 use native.Mathlib.Omega.{arith}
 use lib.Dec.{leb, eqb}
@@ -17,9 +17,8 @@ use Rattle.formats.specs.Format.{read, text, optional}
 use Rattle.formats_judge.specs.declared.Judge.{Judge}
 use Rattle.formats_judge.specs.declared.Judge.the-variants.{At, Broken}
 use Rattle.formats_judge.specs.Judged.{ok, firstFailing, verdict, judged, judgeTo}
-use Rattle.formats_read.specs.promises.Here.{Here, here}
+use Rattle.formats_read.specs.promises.Here.{here}
 use Rattle.alerts.specs.Alert.{alert, Alert, header, description, cause, orEmptyText}
-use Rattle.alerts.specs.Applies.{alert-applies-to-leg-with-mode}
 use Rattle.alerts.specs.Text.{trim}
 use Rattle.alerts_apply.specs.promises.Texts.{Labelled}
 use Rattle.alerts_apply.specs.promises.Hits.{Room, Applied}

@@ -5,25 +5,30 @@ use Rattle.journey_alerts.proofs.leg.Statement.{statement}
 use Rattle.journey_alerts.proofs.leg.Tie as tie
 
 -- back from the call to the texts, and to the entry
-abbrev asked : tie.After-alerts-at-arg6 → tie.After-texts
-asked c = c .before .before .before .before .before .before .before .before .before .before .before .before
+abbrev asked : tie.After-alerts-at-arg7 → tie.After-texts
+asked c = c .before .before .before .before .before .before .before .before .before .before .before .before .before
 
 abbrev begun : tie.After-texts → tie.Start
-begun c = c .before .before .before .before .before .before .before .before .before .before
+begun c = c .before .before .before .before .before .before .before .before .before .before .before
 
 alerts-at-requires : tie.Need-alerts-at-requires
-alerts-at-requires c κs = let t = asked c in (t .texts .ensures .inside, (begun t .pre .1 .0, begun t .pre .1 .1))
+alerts-at-requires c κs =
+    let t = asked c in
+    let h = begun t .pre .1 in
+    (t .texts .ensures .inside, (h .0, (h .1 .0, rw (← h .0 .texts) at (h .1 .1))))
 
 returns : tie.Need-returns
 returns c =
     let a = c .before .before in
     let t = a .before .before .before in
-    leg-none (t .texts .ensures) (a .alerts .ensures) (c .enum-told .given .1) (begun t .pre .1 .1)
+    let h = begun t .pre .1 .1 in
+    leg-none (t .texts .ensures) (a .alerts .ensures) (c .enum-told .given .1) (h .0) (h .1)
 
 returns-2 : tie.Need-returns-2
 returns-2 c =
-    let a = c .before .before .before .before .before .before .before .before .before .before .before .before in
-    let p = a .before .before .before .before .before .before .before .before in
+    let a = c .before .before .before .before .before .before .before
+    .before .before .before .before .before .before .before in
+    let p = a .before .before .before .before .before .before .before .before .before in
     let t = asked (a .before) in
     leg-some (t .texts .ensures) (p .before .before .alerts .ensures) (p .p .given .1) (begun t .pre .1 .0 .texts)
     (a .alerts-at .ensures)
@@ -41,6 +46,7 @@ leg-spec =
     (λ c. search needs)
     returns
     alerts-at-requires
+    (λ c. search needs)
     (λ c. search needs)
     (λ c. search needs)
     (λ c. search needs)

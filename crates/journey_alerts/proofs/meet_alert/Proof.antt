@@ -14,6 +14,8 @@ meet-alert-spec =
     (λ c. search needs)
     (λ c. search needs)
     (λ c. search needs)
+    (λ c. search needs)
     (λ c. search alert-does)
+    (λ c. search needs)
     (λ c. search needs)
     (λ c. search alert-not))

@@ -16,6 +16,7 @@ use Rattle.alerts.specs.Label.{label}
 use Rattle.alerts.specs.laws.Numbers.{numbered}
 use Rattle.alerts_search.specs.laws.Found.{behind}
 use Rattle.alerts_apply.specs.promises.Hits.{Room}
+use Rattle.alerts_apply.specs.promises.Known.{Knows}
 use Rattle.alerts_apply.specs.promises.Texts.{Labelled}
 use Rattle.journey.specs.Card.{Transit}
 use Rattle.journey.specs.laws.ByIndex.{passes}
@@ -85,11 +86,12 @@ module _ {t : Transit} {b f g : List ℕ} {h : LegAlerts} where
   }
 
 -- one alert more
-module _ {s : List ℕ} {T : LegTexts} {b : List ℕ} {p n : ℕ} {x : Bool} (L : LegApplies s T b p n x) {f g : List ℕ}
-    {h : LegAlerts} where
-  pub alert-not : x ≡ false → SoundLabels b f g (h .labels) → AlertMet s T b p n f g h f g h
+module _ {s : List ℕ} {T : LegTexts} {b : List ℕ} {p n : ℕ} {x : Bool} {w : List ℕ} (L : LegApplies s T b p n x w)
+    {f g : List ℕ} {h : LegAlerts} where
+  pub alert-not : x ≡ false → SoundLabels b f g (h .labels) → AlertMet s T b p n f g h f g h w
   alert-not e S = record {
     sound = S;
+    knows = L .knows;
     met = λ {t} X {a} H R.
         let z : passes t a ≡ false = sym (L .is X H R) ∙ e in
         record { hit = rw z (sym (or-false (h .hit))); notes = rw z notes-none };
@@ -97,13 +99,14 @@ module _ {s : List ℕ} {T : LegTexts} {b : List ℕ} {p n : ℕ} {x : Bool} (L 
 
   pub alert-does : {i j : ℕ} {f′ g′ : List ℕ} {r : ℕ} → x ≡ true → Labelled b p i j
       → LabelAdded b f g (h .labels) (i, j) f′ g′ r
-      → AlertMet s T b p n f g h f′ g′ (record { hit = true; labels = r })
+      → AlertMet s T b p n f g h f′ g′ (record { hit = true; labels = r }) w
   alert-does {i} {j} e M A = record {
     sound = A .sound;
+    knows = L .knows;
     met = λ {t} X {a} H R.
         let z : passes t a ≡ true = sym (L .is X H R) ∙ e in
-        let w : bytesIn b (i, j) ≡ label a = slice-is i j b (M .forward) (M .within) ∙ M .is H in
-        record { hit = rw z (sym (or-true (h .hit))); notes = rw (z, ← w) (A .notes) };
+        let y : bytesIn b (i, j) ≡ label a = slice-is i j b (M .forward) (M .within) ∙ M .is H in
+        record { hit = rw z (sym (or-true (h .hit))); notes = rw (z, ← y) (A .notes) };
   }
     where
       or-true : (y : Bool) → y || true ≡ true
@@ -114,31 +117,36 @@ module _ {s : List ℕ} {T : LegTexts} {b : List ℕ} {p n : ℕ} {x : Bool} (L 
 
 module _ {s : List ℕ} {T : LegTexts} {b c : List ℕ} {m : ℕ} {places : List ℕ} {n : ℕ} {f g : List ℕ}
     {h : LegAlerts} where
-  pub each-start : SoundLabels b f g (h .labels) → EachMet s T b c m places 0 n f g h f g h
-  each-start S = record { within = omega arith; sound = S; met = λ X R J. met-none }
+  pub each-start : {w : List ℕ} → SoundLabels b f g (h .labels) → Knows n b w
+      → EachMet s T b c m places 0 n f g h f g h w
+  each-start S K = record { within = omega arith; sound = S; knows = K; met = λ X R J. met-none }
 
-  module _ {k : ℕ} {f′ g′ : List ℕ} {r : LegAlerts} (E : EachMet s T b c m places k n f g h f′ g′ r) where
-    pub each-step : {i p n′ : ℕ} {f″ g″ : List ℕ} {r′ : LegAlerts} → k < m → i ≡ getD c k 0 → p ≡ getD places i 0
-        → n′ ≡ n → AlertMet s T b p n′ f′ g′ r f″ g″ r′ → EachMet s T b c m places (k + 1) n f g h f″ g″ r′
+  module _ {k : ℕ} {f′ g′ : List ℕ} {r : LegAlerts} {w : List ℕ}
+      (E : EachMet s T b c m places k n f g h f′ g′ r w) where
+    pub each-step : {i p n′ : ℕ} {f″ g″ : List ℕ} {r′ : LegAlerts} {w′ : List ℕ} → k < m → i ≡ getD c k 0
+        → p ≡ getD places i 0 → n′ ≡ n → AlertMet s T b p n′ f′ g′ r f″ g″ r′ w′
+        → EachMet s T b c m places (k + 1) n f g h f″ g″ r′ w′
     each-step {i} {p} j d e q A = record {
       within = omega arith;
       sound = A .sound;
+      knows = rw q at (A .knows);
       met = λ {t} X {l} R J.
           let Z = J k j in
-          let w : getD places (getD c k 0) 0 ≡ p = sym (e ∙ ap (λ y. getD places y 0) d) in
+          let x : getD places (getD c k 0) 0 ≡ p = sym (e ∙ ap (λ y. getD places y 0) d) in
           let room = each-last (λ a. Room a (trim (t .short)) n) (behind l c k) (Z .alert)
           (rw (Z .more) at (each-behind (λ a. Room a (trim (t .short)) n) l R (take (k + 1) c))) in
-          rw (Z .more) (met-then (E .met X R J) (A .met X (rw w at (Z .stands .1)) (rw q room)));
+          rw (Z .more) (met-then (E .met X R J) (A .met X (rw x at (Z .stands .1)) (rw q room)));
     }
 
-    pub each-stop : m ≤ k → EachMet s T b c m places m n f g h f′ g′ r
+    pub each-stop : m ≤ k → EachMet s T b c m places m n f g h f′ g′ r w
     each-stop i = let e : k ≡ m = omega (arith, E .within) in rw e at E
 
 -- the candidates among the alerts at p
 pub at-met : {s : List ℕ} {T : LegTexts} {b : List ℕ} {p m : ℕ} {c places : List ℕ} {n : ℕ} {f g : List ℕ} {k : ℕ}
-    {f′ g′ : List ℕ} {r : LegAlerts} → Prepared s T b p m c places
-    → EachMet s T b c m places m n f g (unmet k) f′ g′ r → AlertsAtMet s T b p n f g k f′ g′ r
+    {f′ g′ : List ℕ} {r : LegAlerts} {w : List ℕ} → Prepared s T b p m c places
+    → EachMet s T b c m places m n f g (unmet k) f′ g′ r w → AlertsAtMet s T b p n f g k f′ g′ r w
 at-met P E = record {
   sound = E .sound;
+  knows = E .knows;
   met = λ X H w R. rw (P .every X H w) at (E .met X R (P .step X H w));
 }

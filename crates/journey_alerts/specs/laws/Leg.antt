@@ -24,6 +24,7 @@ use Rattle.alerts.specs.Alert.{Alert, alert, header, description, cause, orEmpt
 use Rattle.alerts.specs.Text.{trim}
 use Rattle.alerts.specs.Label.{label}
 use Rattle.alerts_apply.specs.promises.Hits.{Room}
+use Rattle.alerts_apply.specs.promises.Known.{Knows}
 use Rattle.alerts_apply.specs.laws.Room.{room}
 use Rattle.overlay.specs.State.{State, Feed, overlay, timestamp, vehicleEntry, feedEntry, feedsOf}
 use Rattle.overlay.specs.State.{timestampOf, tripsOf, vehiclesOf, alertsOf}
@@ -121,18 +122,21 @@ alerts-few st h f = go (get texts f (feedsOf st)) refl
 -- THE ALERTS OF A LEG
 module _ {s : List ℕ} {p : ℕ} {T : LegTexts} (X : LegTextsAt s p T) {b : List ℕ} {x : Found}
     (A : ShowsAlerts b (bytesOf s (T .trip)) x) {f g : List ℕ} {n : ℕ} where
-  pub leg-none : x ≡ Missing → SoundLabels b f g n → LegAlerted s p b f g n f g (unmet n)
-  leg-none e S = record {
+  pub leg-none : {w : List ℕ} → x ≡ Missing → SoundLabels b f g n → Knows mostText b w
+      → LegAlerted s p b f g n f g (unmet n) w
+  leg-none e S K = record {
     sound = S;
+    knows = K;
     met = λ {q} {v} H J {st} W seven.
         let z = rw (X .of H .trip) at (A .to (W .here) .missing e) in
         leg-met (shown st) (transitOf v) {l = []} (sym (ap alertsIn z)) met-none;
   }
 
-  pub leg-some : {i m : ℕ} {f′ g′ : List ℕ} {r : LegAlerts} → x ≡ At i → m ≡ mostText
-      → AlertsAtMet s T b i m f g n f′ g′ r → LegAlerted s p b f g n f′ g′ r
+  pub leg-some : {i m : ℕ} {f′ g′ : List ℕ} {r : LegAlerts} {w : List ℕ} → x ≡ At i → m ≡ mostText
+      → AlertsAtMet s T b i m f g n f′ g′ r w → LegAlerted s p b f g n f′ g′ r w
   leg-some {i} e k M = record {
     sound = M .sound;
+    knows = rw k at (M .knows);
     met = λ {q} {v} H J {st} W seven.
         let Y = X .of H in
         let t = transitOf v in

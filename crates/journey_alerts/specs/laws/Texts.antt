@@ -12,7 +12,7 @@ use Rattle.formats_read.specs.promises.Here.{Here}
 use Rattle.formats_read.specs.promises.Reads.{ReadsText}
 use Rattle.formats_read.specs.laws.Here.{halves}
 use Rattle.formats_skip.specs.laws.Leads.{lead-field}
-use Rattle.alerts_apply.specs.promises.Hits.{Applied}
+use Rattle.alerts_apply.specs.promises.Known.{Knows, AppliedKnown}
 use Rattle.journey_places.specs.declared.LegPlaces.{LegPlaces}
 use Rattle.journey_places.specs.promises.Places.{LegAt}
 use Rattle.journey_alerts.specs.declared.LegTexts.{LegTexts}
@@ -51,10 +51,12 @@ module _ {s : List ℕ} {p : ℕ} {P : LegPlaces} (L : LegAt s p P) {T : LegText
   }
 
 -- whether an alert applies
-pub applies-by : {s : List ℕ} {T : LegTexts} {b : List ℕ} {p : ℕ} {r : Bool} {old new : List ℕ}
-    → Applied (bytesOf s (T .trip)) (bytesOf s (T .route)) (bytesOf s (T .short)) (bytesOf s (T .from))
-    (bytesOf s (T .to)) (bytesOf s (T .mode)) b p r old new
-    → LegApplies s T b p (length old) r
-applies-by A = record {
-  is = λ X H R. rw (X .mode, X .short, X .route, X .trip, X .from, X .to) at (A .is H (rw (X .short) R));
+pub applies-by : {s : List ℕ} {T : LegTexts} {b : List ℕ} {p : ℕ} {r : Bool} {old new w w′ : List ℕ}
+    → Knows (length old) b w
+    → AppliedKnown (bytesOf s (T .trip)) (bytesOf s (T .route)) (bytesOf s (T .short)) (bytesOf s (T .from))
+    (bytesOf s (T .to)) (bytesOf s (T .mode)) b p r old new w w′
+    → LegApplies s T b p (length old) r w′
+applies-by K A = record {
+  knows = A .knows K;
+  is = λ X H R. rw (X .mode, X .short, X .route, X .trip, X .from, X .to) at (A .is K H (rw (X .short) R));
 }

@@ -17,6 +17,7 @@ use Rattle.alerts.specs.Text.{trim}
 use Rattle.alerts.specs.Label.{label}
 use Rattle.alerts_search.specs.laws.Found.{Step, behind}
 use Rattle.alerts_apply.specs.promises.Hits.{Room}
+use Rattle.alerts_apply.specs.promises.Known.{Knows}
 use Rattle.overlay.specs.State.{State, overlay}
 use Rattle.overlay.specs.Records.{Feeds, shown}
 use Rattle.overlay.specs.laws.Within.{Judged56}
@@ -29,10 +30,11 @@ use Rattle.journey_labels.specs.promises.Labels.{mostLabels, labels, SoundLabel
 use Rattle.journey_alerts.specs.declared.LegTexts.{LegTexts}
 use Rattle.journey_alerts.specs.declared.LegAlerts.{LegAlerts}
 use Rattle.journey_alerts.specs.promises.Texts.{TextsOf}
-use Rattle.journey_alerts.specs.promises.Places.{isCandidate}
+use Rattle.journey_alerts.specs.promises.Places.{mostText, isCandidate}
 
--- a leg within reach of the alert at p; n is the room for its texts
-pub record LegApplies (s : List ℕ) (T : LegTexts) (b : List ℕ) (p n : ℕ) (r : Bool) : Type 0 where
+-- a leg within reach of the alert at p; n is the room for its texts, w what is known of alerts then
+pub record LegApplies (s : List ℕ) (T : LegTexts) (b : List ℕ) (p n : ℕ) (r : Bool) (w : List ℕ) : Type 0 where
+  pub knows : Knows n b w
   pub is : {t : Transit} → TextsOf s T t → {a : Alert} {q : ℕ} → Here alert b p q a → Room a (trim (t .short)) n
       → r ≡ passes t a
 
@@ -65,16 +67,18 @@ pub record AlertsMet (t : Transit) (l : List Alert) (b f g : List ℕ) (h : LegA
 
 -- the alert at p
 pub record AlertMet (s : List ℕ) (T : LegTexts) (b : List ℕ) (p n : ℕ) (f g : List ℕ) (h : LegAlerts)
-    (f′ g′ : List ℕ) (r : LegAlerts) : Type 0 where
+    (f′ g′ : List ℕ) (r : LegAlerts) (w : List ℕ) : Type 0 where
   pub sound : SoundLabels b f′ g′ (r .labels)
+  pub knows : Knows n b w
   pub met : {t : Transit} → TextsOf s T t → {a : Alert} {q : ℕ} → Here alert b p q a → Room a (trim (t .short)) n
       → AlertsMet t (a ∷ []) b f g h f′ g′ r
 
 -- the first k of m candidates
 pub record EachMet (s : List ℕ) (T : LegTexts) (b c : List ℕ) (m : ℕ) (places : List ℕ) (k n : ℕ) (f g : List ℕ)
-    (h : LegAlerts) (f′ g′ : List ℕ) (r : LegAlerts) : Type 0 where
+    (h : LegAlerts) (f′ g′ : List ℕ) (r : LegAlerts) (w : List ℕ) : Type 0 where
   pub within : k ≤ m
   pub sound : SoundLabels b f′ g′ (r .labels)
+  pub knows : Knows n b w
   pub met : {t : Transit} → TextsOf s T t → {l : List Alert} → All (λ a. Room a (trim (t .short)) n) l
       → ((j : ℕ) → j < m → Step b l c places j) → AlertsMet t (behind l c k) b f g h f′ g′ r
 
@@ -84,8 +88,9 @@ unmet n = record { hit = false; labels = n }
 
 -- the candidates among the alerts at p
 pub record AlertsAtMet (s : List ℕ) (T : LegTexts) (b : List ℕ) (p m : ℕ) (f g : List ℕ) (n : ℕ)
-    (f′ g′ : List ℕ) (r : LegAlerts) : Type 0 where
+    (f′ g′ : List ℕ) (r : LegAlerts) (w : List ℕ) : Type 0 where
   pub sound : SoundLabels b f′ g′ (r .labels)
+  pub knows : Knows m b w
   pub met : {t : Transit} → TextsOf s T t → {l : List Alert} {q : ℕ} → Here (list 256 alert) b p q l → length l ≤ 256
       → All (λ a. Room a (trim (t .short)) m) l
       → AlertsMet t (filter (isCandidate t) l) b f g (unmet n) f′ g′ r
@@ -95,7 +100,9 @@ pub record LegMet (B : Feeds) (t : Transit) (b f g : List ℕ) (n : ℕ) (f′ g
   pub hit : r .hit ≡ disrupted B t
   pub notes : Notes b f g n f′ g′ (r .labels) (labels-of B (t ∷ []))
 
-pub record LegAlerted (s : List ℕ) (p : ℕ) (b f g : List ℕ) (n : ℕ) (f′ g′ : List ℕ) (r : LegAlerts) : Type 0 where
+pub record LegAlerted (s : List ℕ) (p : ℕ) (b f g : List ℕ) (n : ℕ) (f′ g′ : List ℕ) (r : LegAlerts) (w : List ℕ) :
+    Type 0 where
   pub sound : SoundLabels b f′ g′ (r .labels)
+  pub knows : Knows mostText b w
   pub met : {q : ℕ} {v : Value transit} → Here transit s p q v → Judged56 transit v → {st : State} → StateIn b st
       → ok 7 overlay st ≡ true → LegMet (shown st) (transitOf v) b f g n f′ g′ r

@@ -40,7 +40,8 @@ use Rattle.journey_card.specs.promises.Survey.{nothing, gatheredOf, look, meets
 use Rattle.journey_card.specs.laws.Survey.{look-is}
 use Rattle.journey_labels.specs.promises.Labels.{mostLabels, labelsLength, labels, SoundLabels}
 use Rattle.journey_alerts.specs.declared.LegAlerts.{LegAlerts}
-use Rattle.journey_alerts.specs.promises.Places.{Lent}
+use Rattle.alerts_apply.specs.promises.Known.{Knows}
+use Rattle.journey_alerts.specs.promises.Places.{mostText, Lent}
 use Rattle.journey_alerts.specs.promises.Alerts.{nonempty, Notes, LegAlerted}
 use Rattle.journey_alerts.specs.laws.Notes.{notes-none, notes-then}
 use Rattle.journey_alerts.specs.laws.Alerts.{nonempty-append}
@@ -109,8 +110,9 @@ seen-then {st} {us} {vs} {c = c} X Y = record {
 -- ---- one leg more
 
 module _ {s : List ℕ} {p : ℕ} {b f g : List ℕ} {c : CardSurvey} where
-  pub leg-out : length s ≤ p → SoundLabels b f g (c .labels) → LegSurveyed s p b f g c f g c
-  leg-out o S = record { sound = S; of = λ W w {v = v} H J. absurd (omega (arith, choice-in v H)) }
+  pub leg-out : {y : List ℕ} → length s ≤ p → SoundLabels b f g (c .labels) → Knows mostText b y
+      → LegSurveyed s p b f g c f g c y
+  leg-out o S K = record { sound = S; knows = K; of = λ W w {v = v} H J. absurd (omega (arith, choice-in v H)) }
 
   module _ {t : ℕ} (e : t ≡ tagAt s p) where
     walked : {st : State} {q : ℕ} (v : Value leg) → Here leg s p q v → (t ≡ 1 → ⊥) → LegsSeen st (v ∷ []) b f g c f g c
@@ -118,32 +120,35 @@ module _ {s : List ℕ} {p : ℕ} {b f g : List ℕ} {c : CardSurvey} where
     walked (inl x) H n = record { gathered = refl; notes = notes-none }
     walked (inr x) H n = absurd (n (e ∙ branch (inr x) H .0))
 
-    pub leg-walk : (t ≡ 1 → ⊥) → SoundLabels b f g (c .labels) → LegSurveyed s p b f g c f g c
-    leg-walk n S = record { sound = S; of = λ W w {v = v} H J. walked v H n }
+    pub leg-walk : {y : List ℕ} → (t ≡ 1 → ⊥) → SoundLabels b f g (c .labels) → Knows mostText b y
+        → LegSurveyed s p b f g c f g c y
+    leg-walk n S K = record { sound = S; knows = K; of = λ W w {v = v} H J. walked v H n }
 
-    module _ {R : LegRealtime} {f′ g′ : List ℕ} {a : LegAlerts} {x : code.Survey} (k : t ≡ 1) (L : Looks s (p + 1) b R)
-        (A : LegAlerted s (p + 1) b f g (c .labels) f′ g′ a) (M : MeetsLeg s (p + 1) (c .seen) R (a .hit) x) where
+    module _ {R : LegRealtime} {f′ g′ : List ℕ} {a : LegAlerts} {x : code.Survey} {y : List ℕ} (k : t ≡ 1)
+        (L : Looks s (p + 1) b R) (A : LegAlerted s (p + 1) b f g (c .labels) f′ g′ a y)
+        (M : MeetsLeg s (p + 1) (c .seen) R (a .hit) x) where
       taken : {st : State} → StateIn b st → ok 7 overlay st ≡ true → {q : ℕ} (v : Value leg) → Here leg s p q v
           → Judged56 leg v → LegsSeen st (v ∷ []) b f g c f′ g′ (record { seen = x; labels = a .labels })
-      taken W w (inl y) H J = absurd (omega (arith, branch (inl y) H .0, k, e))
-      taken {st} W w (inr y) H J =
-          let h = branch (inr y) H .1 in
-          let j : Judged56 transit y = record { formed = J .formed; five = J .five; six = J .six } in
+      taken W w (inl u) H J = absurd (omega (arith, branch (inl u) H .0, k, e))
+      taken {st} W w (inr u) H J =
+          let h = branch (inr u) H .1 in
+          let j : Judged56 transit u = record { formed = J .formed; five = J .five; six = J .six } in
           let m = A .met h j W w in
           record {
-            gathered = M .is h ∙ look-is (shown st) (gatheredOf (c .seen)) R (a .hit) y (L .departs h j W)
+            gathered = M .is h ∙ look-is (shown st) (gatheredOf (c .seen)) R (a .hit) u (L .departs h j W)
                 (L .arrives h j W) (L .cancels h j W) (m .hit);
             notes = m .notes;
           }
 
-      pub leg-taken : LegSurveyed s p b f g c f′ g′ (record { seen = x; labels = a .labels })
-      leg-taken = record { sound = A .sound; of = λ W w {v = v} H J. taken W w v H J }
+      pub leg-taken : LegSurveyed s p b f g c f′ g′ (record { seen = x; labels = a .labels }) y
+      leg-taken = record { sound = A .sound; knows = A .knows; of = λ W w {v = v} H J. taken W w v H J }
 
 -- ---- the loop over the legs
 
-pub record Walking (s : List ℕ) (a n p left : ℕ) (b f g : List ℕ) (c : CardSurvey) (f′ g′ : List ℕ) (r : CardSurvey) :
-    Type 0 where
+pub record Walking (s : List ℕ) (a n p left : ℕ) (b f g : List ℕ) (c : CardSurvey) (f′ g′ : List ℕ) (r : CardSurvey)
+    (y : List ℕ) : Type 0 where
   pub sound : SoundLabels b f′ g′ (r .labels)
+  pub knows : Knows mostText b y
   pub of : {st : State} → StateIn b st → ok 7 overlay st ≡ true
       → Walk leg s a n p left (λ us. All (Judged56 leg) us → LegsSeen st us b f g c f′ g′ r)
 
@@ -170,15 +175,17 @@ module _ {A : Type 0} (P : A → Type 0) where
   each-last [] v x = x .0
   each-last (u ∷ us) v x = each-last us v (x .1)
 
-module _ {s : List ℕ} {a n : ℕ} {b f g : List ℕ} {c : CardSurvey} where
-  pub walk-start : SoundLabels b f g (c .labels) → Walking s a n a n b f g c f g c
-  walk-start S = record { sound = S; of = λ W w. begin (λ x. seen-none) }
+module _ {s : List ℕ} {a n : ℕ} {b f g : List ℕ} {c : CardSurvey} {y : List ℕ} where
+  pub walk-start : SoundLabels b f g (c .labels) → Knows mostText b y → Walking s a n a n b f g c f g c y
+  walk-start S K = record { sound = S; knows = K; of = λ W w. begin (λ x. seen-none) }
 
-  module _ {p left : ℕ} {f′ g′ : List ℕ} {r : CardSurvey} (Z : Walking s a n p left b f g c f′ g′ r) where
-    pub walk-step : {e : ℕ} {f″ g″ : List ℕ} {r′ : CardSurvey} → 0 < left → LegSurveyed s p b f′ g′ r f″ g″ r′
-        → Passes leg s p e → Walking s a n e (left - 1) b f g c f″ g″ r′
+  module _ {p left : ℕ} {f′ g′ : List ℕ} {r : CardSurvey} (Z : Walking s a n p left b f g c f′ g′ r y) where
+    pub walk-step : {e : ℕ} {f″ g″ : List ℕ} {r′ : CardSurvey} {y′ : List ℕ} → 0 < left
+        → LegSurveyed s p b f′ g′ r f″ g″ r′ y′ → Passes leg s p e
+        → Walking s a n e (left - 1) b f g c f″ g″ r′ y′
     walk-step {e} z L Q = record {
       sound = L .sound;
+      knows = L .knows;
       of = λ W w. onward (Z .of W w) e z (λ v q h. Q .to h) (λ us v d h x.
           seen-then (d (each-front (Judged56 leg) us v x)) (L .of W w h (each-last (Judged56 leg) us v x)));
     }
@@ -214,7 +221,7 @@ gathers {st} {vs} {b} {f} {g} {c} {f′} {g′} {r} w e z S X =
     }
 
 module _ {s : List ℕ} {a n : ℕ} {b f g : List ℕ} {c : CardSurvey} {p left : ℕ} {f′ g′ : List ℕ} {r : CardSurvey}
-    (Z : Walking s a n p left b f g c f′ g′ r) where
+    {y : List ℕ} (Z : Walking s a n p left b f g c f′ g′ r y) where
   pub walk-stop : left ≤ 0 → gatheredOf (c .seen) ≡ nothing → c .labels ≡ 0 → EachSurveyed s a n b f′ g′ r
   walk-stop z e o = record {
     sound = Z .sound;

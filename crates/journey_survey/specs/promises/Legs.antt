@@ -19,6 +19,8 @@ use Rattle.journey_leg.specs.declared.LegRealtime.{LegRealtime}
 use Rattle.journey_card.specs.declared.Survey as code
 use Rattle.journey_card.specs.promises.Survey.{gatheredOf, look, meets}
 use Rattle.journey_labels.specs.promises.Labels.{SoundLabels}
+use Rattle.alerts_apply.specs.promises.Known.{Knows}
+use Rattle.journey_alerts.specs.promises.Places.{mostText}
 use Rattle.journey_alerts.specs.promises.Alerts.{Notes}
 use Rattle.journey_survey.specs.declared.CardSurvey.{CardSurvey}
 use Rattle.journey_survey.specs.promises.Surveyed.{Gathers}
@@ -34,10 +36,11 @@ pub record LegsSeen (st : State) (vs : List (Value leg)) (b f g : List ℕ) (c :
   pub gathered : gatheredOf (r .seen) ≡ foldl (look (shown st)) (gatheredOf (c .seen)) vs
   pub notes : Notes b f g (c .labels) f′ g′ (r .labels) (labels-of (shown st) (transits vs))
 
--- the leg at p, and the n legs from p on
-pub record LegSurveyed (s : List ℕ) (p : ℕ) (b f g : List ℕ) (c : CardSurvey) (f′ g′ : List ℕ) (r : CardSurvey) :
-    Type 0 where
+-- the leg at p, and the n legs from p on; w is what is known of alerts then
+pub record LegSurveyed (s : List ℕ) (p : ℕ) (b f g : List ℕ) (c : CardSurvey) (f′ g′ : List ℕ) (r : CardSurvey)
+    (w : List ℕ) : Type 0 where
   pub sound : SoundLabels b f′ g′ (r .labels)
+  pub knows : Knows mostText b w
   pub of : {st : State} → StateIn b st → ok 7 overlay st ≡ true → {q : ℕ} {v : Value leg} → Here leg s p q v
       → Judged56 leg v → LegsSeen st (v ∷ []) b f g c f′ g′ r
 

@@ -6,7 +6,7 @@ use mathlib.Core.Option.{Option, none, some}
 use Prim.Native.Nat.{ℕ, _<_}
 use native.Mathlib.Omega.{arith}
 use lib.Dec.{leb}
-use lib.ListN.{length}
+use lib.ListN.{length, replicate}
 use Rattle.basics.specs.Options.{isSome}
 use Rattle.formats.specs.Format.{write}
 use Rattle.formats_judge.specs.Judged.{ok}
@@ -27,6 +27,8 @@ use Rattle.overlay_open.specs.declared.Opened.the-variants.{No, At}
 use Rattle.overlay_open.specs.promises.Opened.{ending}
 use Rattle.overlay_open.specs.laws.Held.{opened-here, opened-valid, open-at, open-no, feeds-up}
 use Rattle.overlay_places.specs.promises.Noted.{HoldsState}
+use Rattle.alerts_apply.specs.promises.Known.{Knows}
+use Rattle.alerts_apply.specs.laws.Known.{knows-nothing}
 use Rattle.journey.specs.Card.{card}
 use Rattle.journey.specs.Enrich.{keys, headers-of}
 use Rattle.journey.specs.laws.Counts.{finished-seven}
@@ -34,6 +36,7 @@ use Rattle.journey.specs.laws.Found.{shown-judged}
 use Rattle.journey_places.specs.declared.CardPlaces.{CardPlaces}
 use Rattle.journey_places.specs.promises.Places.{CardAt}
 use Rattle.journey_finish.specs.promises.Finish.{StateIn}
+use Rattle.journey_alerts.specs.promises.Places.{mostText}
 use Rattle.journey_survey.specs.declared.CardSurvey.{CardSurvey}
 use Rattle.journey_survey.specs.promises.Surveyed.{Surveyed}
 use Rattle.journey_enrich.specs.promises.Enrich.{Enriches}
@@ -85,6 +88,10 @@ card-written {o} C S E = record {
       (right (right (right (right (right (right j)))))) in
       wrote (E .adds h j (state-in o e) (G .gathered) (G .sound) (ap keys (G .noted)));
 }
+
+-- a cleared slice knows nothing of alerts, whatever it had
+pub nothing-known : (k : List ℕ) {o m : List ℕ} → m ≡ replicate (length k) 0 → Knows mostText o m
+nothing-known k {o} e = rw e (knows-nothing mostText o (length k))
 
 -- ---- the number of the first no
 

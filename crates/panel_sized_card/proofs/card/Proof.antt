@@ -4,22 +4,23 @@ use Rattle.panel_sized_card.specs.laws.Card.{card-given}
 use Rattle.panel_sized_card.proofs.card.Statement.{statement}
 use Rattle.panel_sized_card.proofs.card.Tie as tie
 
-abbrev finished : tie.After-slice-known24 → tie.After-finish
+abbrev finished : tie.After-slice-known27 → tie.After-finish
 finished c = c .before .before
 
 abbrev cleared : tie.After-finish → tie.After-clear-work
 cleared c = c .before .before .before .before .before .before .before .before
-    .before .before .before .before .before .before .before .before
+    .before .before .before .before .before .before .before .before .before .before
 
 -- the slices as the call that ends has left them
-abbrev left : tie.After-clear-work → tie.After-noted
-left c = c .before .before .before .before .before .before .before .before .before
+abbrev left : tie.After-clear-work → tie.After-known
+left c = c .before .before .before .before .before .before .before .before .before .before
 
 returns : tie.Need-returns
 returns c =
     let f = finished c in
     let w = cleared f in
-    let noted = left w in
+    let known = left w in
+    let noted = known .before .before in
     let places = noted .before .before in
     let tos = places .before .before in
     let froms = tos .before .before in
@@ -29,7 +30,7 @@ returns c =
     let out = candidates .before .before in
     card-given (out .before .ending .ensures) (w .clear-work .ensures) (candidates .candidates .given)
     (met .met .given) (text .text .given) (froms .froms .given) (tos .tos .given) (places .places .given)
-    (noted .noted .given) (out .out .given) (f .finish .ensures)
+    (noted .noted .given) (known .known .given) (out .out .given) (f .finish .ensures)
 
 pub card-spec : {M : Type 1} → statement M
 card-spec =
@@ -38,6 +39,7 @@ card-spec =
     (λ c κs. search needs)
     (λ c κs. search needs)
     (λ c κs. search needs)
+    (λ c. search needs)
     (λ c. search needs)
     (λ c. search needs)
     (λ c. search needs)

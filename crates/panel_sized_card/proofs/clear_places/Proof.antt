@@ -1,6 +1,6 @@
 -- `clear_places` meets its contract.
 use borrow.Author.Needs.{needs}
-use Rattle.panel_sized_card.specs.laws.Card.{zeros-three}
+use Rattle.panel_sized_card.specs.laws.Card.{zeros-four}
 use Rattle.panel_sized_card.proofs.clear_places.Statement.{statement}
 use Rattle.panel_sized_card.proofs.clear_places.Tie as tie
 
@@ -11,7 +11,9 @@ clear-places-spec =
     (λ c κs. search needs)
     (λ c κs. search needs)
     (λ c κs. search needs)
+    (λ c κs. search needs)
     (λ c. search needs)
     (λ c. search needs)
     (λ c. search needs)
-    (λ c. search zeros-three))
+    (λ c. search needs)
+    (λ c. search zeros-four))

@@ -1,6 +1,6 @@
 -- `clear_work` meets its contract.
 use borrow.Author.Needs.{needs}
-use Rattle.panel_sized_card.specs.laws.Card.{zeros-seven}
+use Rattle.panel_sized_card.specs.laws.Card.{zeros-eight}
 use Rattle.panel_sized_card.proofs.clear_work.Statement.{statement}
 use Rattle.panel_sized_card.proofs.clear_work.Tie as tie
 
@@ -17,4 +17,5 @@ clear-work-spec =
     (λ c. search needs)
     (λ c. search needs)
     (λ c. search needs)
-    (λ c. search zeros-seven))
+    (λ c. search needs)
+    (λ c. search zeros-eight))
