@@ -1,0 +1,43 @@
+-- Law. DEMAND 3, of the exported calls: for every list of them.
+use mathlib.Core.Path.{_≡_, refl, sym, ap, ap₂, _∙_}
+use mathlib.Core.List.{List, [], _∷_}
+use Prim.Native.Nat.{ℕ}
+use Rattle.panel.specs.Calls.{Call, Gave, gives, overlayAfter, freshOverlay, run, numbersGiven}
+use Rattle.panel.specs.Book.{noBook, History}
+use Rattle.panel.specs.Gained.{AlikeAll}
+use Rattle.panel.specs.Demand3.{Demand3}
+use Rattle.panel.specs.laws.Gained.{history-gains}
+use Rattle.panel.specs.laws.History.{history}
+use Rattle.panel_sized.specs.Lengths.{lengths}
+use Rattle.panel_sized.specs.laws.Lengths.{demand-3-compiled}
+use Rattle.panel_calls.specs.History.{Made, Holds}
+
+-- calls that meet their promises give what a run of the definitions gives
+pub made-run : (old : List ℕ) (cs : List Call) (gs : List Gave) → Made old cs gs → gs ≡ run lengths old cs
+unfolding run
+made-run old [] [] h = refl
+made-run old [] (g ∷ gs) h = absurd h
+made-run old (c ∷ cs) [] h = absurd h
+made-run old (c ∷ cs) (g ∷ gs) h =
+    let e : g ≡ gives lengths old c = h .0 .is in
+    ap₂ _∷_ e
+    (made-run (overlayAfter old c g) cs gs (h .1) ∙ ap (λ g. run lengths (overlayAfter old c g) cs) e)
+
+-- the two halves at the published lengths
+pub history-published : (cs : List Call) → History lengths (freshOverlay lengths) noBook cs
+history-published cs = history lengths cs
+
+pub history-gains-published : (cs ds : List Call)
+    → AlikeAll cs (numbersGiven (run lengths (freshOverlay lengths) cs)) ds
+    → run lengths (freshOverlay lengths) cs ≡ run lengths (freshOverlay lengths) ds
+history-gains-published cs ds = history-gains lengths (freshOverlay lengths) cs ds
+
+-- DEMAND 3
+pub demand-3-made : (cs : List Call) (gs : List Gave) → Made (freshOverlay lengths) cs gs → Holds cs gs
+demand-3-made cs gs h =
+    let e = made-run (freshOverlay lengths) cs gs h in
+    let D : Demand3 lengths (freshOverlay lengths) noBook cs = demand-3-compiled cs in
+    record {
+      history = rw e (D .history);
+      gains = λ ds hs a m. e ∙ D .gains ds (rw e at a) ∙ sym (made-run (freshOverlay lengths) ds hs m);
+    }
