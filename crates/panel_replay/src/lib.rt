@@ -1,181 +1,52 @@
-// A script of calls, run on the calls themselves: two overlays take turns, and of each call its number is told, and of
-// a report its output. (A script with a card call is none here: no working buffers of cards are lent.)
+// A script of calls, replayed on the calls themselves: from a fresh overlay on, one call after the other.
 use formats_write::Put;
-use panel_script::Asked;
-use panel_writing::Ran;
+use panel_output::Ending;
+use panel_script::Standing;
 ghost use mathlib.Core.Path.{_≡_};
-ghost use mathlib.Core.Bool.{cond};
-ghost use mathlib.Core.List.{[], _∷_};
-ghost use Prim.Native.Nat.{_≤_, _<_};
+ghost use mathlib.Core.Bool.{true};
+ghost use Prim.Native.Nat.{_≤_, min};
 ghost use lib.ListN.{length, take};
 ghost use Rattle.decode.specs.Sizes.{mostOld};
+ghost use Rattle.panel.specs.Calls.{freshOverlay};
 ghost use Rattle.panel_sized.specs.Lengths.{sized};
-ghost use Rattle.panel_writing.specs.promises.Ran.{Sound};
-ghost use Rattle.panel_replay.specs.promises.Turns.{lentTo, current, acceptedOf, TellsNumber, ToldWriting};
-ghost use Rattle.panel_replay.specs.promises.Turns.{ToldReport, Turned};
+ghost use Rattle.panel_turn.specs.Lent.{lentTo};
+ghost use Rattle.panel_replay.specs.Replay.{ReplayHolds};
+ghost use Rattle.panel_replay.specs.promises.Turns.{Overlays, TurnsEnd, ScriptEnds};
 
-// After a call: the next place of the output; whether the new overlay is the one to go on with; the call's end.
-struct Step {
-    place: Put,
-    moved: bool,
-    next: usize,
-}
-
-// The same, with whether the first of the two overlays is the one to go on with.
-pub struct Turn {
-    pub place: Put,
-    pub first: bool,
-    pub next: usize,
-}
-
-fn octet(k: u32) -> u8
-    ensures { λ r. ⌜ (k < 256 → r ≡ k) ⌝ }
-{
-    (k % 256) as u8
-}
-
-fn is_accepted(r: Ran) -> bool
-    ensures { λ b. ⌜ b ≡ acceptedOf r ⌝ }
-{
-    match r {
-        Ran::Unlent => false,
-        Ran::Number(k) => k == 0,
-    }
-}
-
-// The number of a writing call, at p.
-fn tell(out: &mut [u8], p: usize, r: Ran) -> Put
-    ensures { λ w. ⌜ TellsNumber (now (out .entry)) p (now (out .exit)) r w ⌝ }
-{
-    match r {
-        Ran::Unlent => Put::Full,
-        Ran::Number(k) => formats_write::byte(out, Put::At(p), octet(k)),
-    }
-}
-
-fn step_writing(
-    n: usize,
-    lent: usize,
-    q: Asked,
-    s: &[u8],
-    old: &[u8],
-    new: &mut [u8],
-    out: &mut [u8],
-    p: usize,
-    keys: &mut [u8],
-    marks: &mut [u32],
-    order: &mut [u32],
-    updates: &mut [u32],
-) -> Step
-    requires { ⌜ lent ≤ length (now new) ⌝ }
-    requires { ⌜ Sound n (now s) q ⌝ }
-    ensures { λ r. ⌜
-        ToldWriting (sized n) lent (length (now (keys .entry)) ∷ length (now (marks .entry))
-        ∷ length (now (order .entry)) ∷ length (now (updates .entry)) ∷ []) (now (s .entry)) q (now (old .entry))
-        (now (new .exit)) (now (out .entry)) p (now (out .exit)) (r .place) (r .moved) (r .next) ⌝ }
-{
-    let r = panel_writing::write(n, lent, q, s, old, new, keys, marks, order, updates);
-    Step {
-        place: tell(out, p, r),
-        moved: is_accepted(r),
-        next: q.next,
-    }
-}
-
-// A report's number at p, and its output behind it.
-fn report(n: usize, q: Asked, s: &[u8], old: &[u8], out: &mut [u8], p: usize) -> Put
-    requires { ⌜ Sound n (now s) q ⌝ }
-    ensures { λ w. ⌜ ToldReport (sized n) (now (s .entry)) q (now (old .entry)) (now (out .entry)) p (now (out .exit))
-        w ⌝ }
-{
-    if out.len() <= p {
-        return Put::Full;
-    }
-    let size = q.out;
-    let from = p + 1;
-    if out.len() - from < size {
-        return Put::Full;
-    }
-    let to = from + size;
-    let feed = q.feed;
-    let feed_from = feed.from;
-    let feed_to = feed.to;
-    let k = panel_sized::report(n, old, &s[feed_from..feed_to], &mut out[from..to]);
-    out[p] = octet(k);
-    Put::At(to)
-}
-
-// A call of a script, on the overlay `old` and into `new`.
-fn run_one(
+// The turns of `count` calls, of which the first stands at `start`: the place behind what they told.
+fn take_turns(
     n: usize,
     lent: usize,
     s: &[u8],
-    at: usize,
-    old: &[u8],
-    new: &mut [u8],
-    out: &mut [u8],
-    p: usize,
-    keys: &mut [u8],
-    marks: &mut [u32],
-    order: &mut [u32],
-    updates: &mut [u32],
-) -> Step
-    requires { ⌜ (lent ≤ length (now new)) × (n ≤ mostOld) ⌝ }
-    ensures { λ r. ⌜
-        Turned (sized n) (lentTo lent (length (now (out .entry))) (length (now (keys .entry)))
-        (length (now (marks .entry))) (length (now (order .entry))) (length (now (updates .entry)))) (now (s .entry)) at
-        (now (old .entry)) (now (out .entry)) p (cond (r .moved) (take n (now (new .exit))) (now (old .entry)))
-        (now (out .exit)) (r .place) (r .next) ⌝ }
-{
-    let q = panel_script::read(s, at);
-    let kind = q.kind;
-    if kind < 4 {
-        return step_writing(n, lent, q, s, old, new, out, p, keys, marks, order, updates);
-    }
-    if kind == 4 {
-        return Step {
-            place: Put::Full,
-            moved: false,
-            next: q.next,
-        };
-    }
-    Step {
-        place: report(n, q, s, old, out, p),
-        moved: false,
-        next: q.next,
-    }
-}
-
-// A TURN of a replay: the call that stands at `at`, on the overlay of the two that is current.
-pub fn take_turn(
-    n: usize,
-    lent: usize,
-    s: &[u8],
-    at: usize,
-    first: bool,
+    count: u64,
+    start: usize,
     a: &mut [u8],
     b: &mut [u8],
     out: &mut [u8],
-    p: usize,
     keys: &mut [u8],
     marks: &mut [u32],
     order: &mut [u32],
     updates: &mut [u32],
-) -> Turn
-    requires { ⌜ (lent ≤ length (now a)) × (lent ≤ length (now b)) × (n ≤ lent) × (n ≤ mostOld) ⌝ }
+) -> Put
+    requires { ⌜ Overlays n lent (now a) (now b) ⌝ }
+    requires { ⌜ take n (now a) ≡ freshOverlay (sized n) ⌝ }
     ensures { λ r. ⌜
-        Turned (sized n) (lentTo lent (length (now (out .entry))) (length (now (keys .entry)))
-        (length (now (marks .entry))) (length (now (order .entry))) (length (now (updates .entry)))) (now (s .entry)) at
-        (current n first (now (a .entry)) (now (b .entry))) (now (out .entry)) p
-        (current n (r .first) (now (a .exit)) (now (b .exit))) (now (out .exit)) (r .place) (r .next) ⌝ }
+        TurnsEnd (sized n) (lentTo lent (length (now (out .entry))) (length (now (keys .entry)))
+        (length (now (marks .entry))) (length (now (order .entry))) (length (now (updates .entry)))) (now (s .entry))
+        count start (now (out .exit)) r ⌝ }
 {
-    if first {
-        let r = run_one(
+    let mut left = count;
+    let mut at = start;
+    let mut p: usize = 0;
+    let mut first = true;
+    while 0 < left {
+        let r = panel_turn::take_turn(
             n,
             lent,
             s,
             at,
-            &a[..n],
+            first,
+            a,
             b,
             out,
             p,
@@ -185,30 +56,96 @@ pub fn take_turn(
             updates,
         );
         let place = r.place;
-        return Turn {
-            place,
-            first: !r.moved,
-            next: r.next,
+        let Put::At(q) = place else {
+            return Put::Full;
         };
+        p = q;
+        at = r.next;
+        first = r.first;
+        left -= 1;
     }
-    let r = run_one(
+    Put::At(p)
+}
+
+// A fresh overlay in the first n bytes.
+fn begin(n: usize, a: &mut [u8])
+    requires { ⌜ n ≤ length (now a) ⌝ }
+    ensures { λ _. ⌜ take n (now (a .exit)) ≡ freshOverlay (sized n) ⌝ }
+{
+    panel_sized::fresh(n, &mut a[..n]);
+}
+
+// The calls of a script, one after the other.
+fn run_script(
+    n: usize,
+    lent: usize,
+    s: &[u8],
+    a: &mut [u8],
+    b: &mut [u8],
+    out: &mut [u8],
+    keys: &mut [u8],
+    marks: &mut [u32],
+    order: &mut [u32],
+    updates: &mut [u32],
+) -> Ending
+    requires { ⌜ (lent ≤ length (now a)) × (lent ≤ length (now b)) × (n ≤ mostOld) ⌝ }
+    ensures { λ r. ⌜
+        ScriptEnds (sized n) (lentTo lent (length (now (out .entry))) (length (now (keys .entry)))
+        (length (now (marks .entry))) (length (now (order .entry))) (length (now (updates .entry)))) (now (s .entry))
+        (now (out .exit)) r ⌝ }
+{
+    if lent < n {
+        return Ending::Refused(1);
+    }
+    let Standing::Many(count, start) = panel_script::calls(s) else {
+        return Ending::Refused(1);
+    };
+    begin(n, a);
+    let w = take_turns(
         n,
         lent,
         s,
-        at,
-        &b[..n],
+        count,
+        start,
         a,
+        b,
         out,
-        p,
         keys,
         marks,
         order,
         updates,
     );
-    let place = r.place;
-    Turn {
-        place,
-        first: r.moved,
-        next: r.next,
+    panel_output::ended(w, 1)
+}
+
+fn smaller(x: usize, y: usize) -> usize
+    ensures { λ r. ⌜ r ≡ min x y ⌝ }
+{
+    if x <= y {
+        return x;
     }
+    y
+}
+
+// A REPLAY of a script over overlays of n bytes.
+pub fn replay(
+    n: usize,
+    s: &[u8],
+    a: &mut [u8],
+    b: &mut [u8],
+    out: &mut [u8],
+    keys: &mut [u8],
+    marks: &mut [u32],
+    order: &mut [u32],
+    updates: &mut [u32],
+) -> u32
+    requires { ⌜ n ≤ mostOld ⌝ }
+    ensures { λ r. ⌜
+        ReplayHolds (sized n) (lentTo (min (length (now (a .entry))) (length (now (b .entry))))
+        (length (now (out .entry))) (length (now (keys .entry))) (length (now (marks .entry)))
+        (length (now (order .entry))) (length (now (updates .entry)))) (now (s .entry)) r (now (out .exit)) ⌝ }
+{
+    let lent = smaller(a.len(), b.len());
+    let e = run_script(n, lent, s, a, b, out, keys, marks, order, updates);
+    panel_output::finish(out, e)
 }

@@ -12,7 +12,6 @@ use table::LENGTHS;
 use table::SCRIPT;
 ghost use mathlib.Core.Path.{_≡_};
 ghost use Prim.Native.Nat.{ℕ};
-ghost use lib.ListN.{length};
 ghost use Rattle.formats.specs.Format.{Value};
 ghost use Rattle.formats.specs.promises.Outcome.{skipTo};
 ghost use Rattle.formats_read.specs.promises.Fields.{Has};

@@ -1,30 +1,27 @@
 -- Law. A script's calls, run one after the other, tell what a replay tells; or the script is none for what is lent.
 use mathlib.Core.Path.{_≡_, refl, sym, ap, ap₂, _∙_}
-use mathlib.Core.Bool.{Bool, true, false, cond, _&&_, false≢true}
-use mathlib.Core.List.{List, [], _∷_, _++_, map, append-assoc, append-nil}
+use mathlib.Core.Bool.{Bool, true, false, cond, _&&_}
+use mathlib.Core.List.{List, [], _∷_, _++_, append-assoc, append-nil}
 use mathlib.Core.Option.{Option, none, some}
 use Prim.Native.Nat.{ℕ, suc, _+_, _-_, _≤_, _<_}
 use native.Mathlib.Omega.{arith}
 use lib.Dec.{leb}
-use lib.ListN.{length, take, length-append}
+use lib.ListN.{length, take}
 use lib.Seq.{take-at}
 use borrow.Author.Tests.{le-leb, lt-leb, leb-true, leb-false}
 use Rattle.basics.specs.Lists.{all}
 use Rattle.basics.specs.Options.{bindO}
 use Rattle.formats.specs.Format.{Value}
-use Rattle.formats_write.specs.declared.Put.{Put}
 use Rattle.formats_write.specs.declared.Put.the-variants.{At, Full}
 use Rattle.formats_write.specs.promises.Adds.{Adds}
 use Rattle.formats_write.specs.laws.Adds as adds
-use Rattle.formats_read.specs.promises.Here.{Here}
 use Rattle.formats_read.specs.promises.Lists.{Many}
 use Rattle.formats_read.specs.laws.Walk as walk
 use Rattle.panel.specs.Outcome.{refused, accepted, needSome, numberOf, bytesOf}
 use Rattle.panel.specs.Questions.{Lengths, whole}
-use Rattle.panel.specs.Calls.{Call, Gave, gives, overlayAfter, freshOverlay, run}
+use Rattle.panel.specs.Calls.{Call, gives, overlayAfter, freshOverlay, run}
 use Rattle.panel.specs.Demand3.{overlayLeft}
 use Rattle.panel_output.specs.promises.Ending.{Finished}
-use Rattle.panel_output.specs.declared.Ending.{Ending}
 use Rattle.panel_output.specs.declared.Ending.the-variants.{Refused, Written}
 use Rattle.panel_script.specs.Script.{callForm, script, callOf, callsOf, standing, sizeOf, Lent, lends, lentAll}
 use Rattle.panel_script.specs.Script.{callsIn}
@@ -32,7 +29,8 @@ use Rattle.panel_script.specs.Tells.{telling, tellAll, tells, replayOf, Replays
 use Rattle.panel_script.specs.laws.Told.{stands-long, tells-long}
 use Rattle.panel_script.specs.promises.Asked.{Stand, Counted}
 use Rattle.panel_script.specs.declared.Standing.the-variants as standing
-use Rattle.panel_replay.specs.promises.Turns.{Stepped, Turned, Done, NoScript}
+use Rattle.panel_turn.specs.promises.Turns.{Stepped, Turned}
+use Rattle.panel_replay.specs.promises.Turns.{Done, NoScript}
 
 -- ---- one call more
 

@@ -13,14 +13,14 @@ use Rattle.formats.specs.declared.Skip.the-variants.{At, Broken}
 use Rattle.formats_write.specs.declared.Span.{Span}
 use Rattle.formats_read.specs.promises.Fields.{Has}
 use Rattle.formats_read.specs.promises.Here.{Here, Field}
-use Rattle.formats_read.specs.promises.Lists.{Many, Split, Reaches}
+use Rattle.formats_read.specs.promises.Lists.{Many, Reaches}
 use Rattle.formats_read.specs.promises.Reads.{ReadsNumber, ReadsText}
 use Rattle.formats_read.specs.laws.Here.{halves, number-here, small-here, whole-here}
 use Rattle.formats_read.specs.laws.Lists.{listed}
 use Rattle.panel.specs.Questions.{endedOnly, whole}
 use Rattle.panel_script.specs.Script.{callForm, lengthForm, lengthsForm, script}
 use Rattle.panel_script.specs.declared.Standing.the-variants as standing
-use Rattle.panel_script.specs.promises.Asked.{Reads, ReadsCall, ReadsLength, Stand, Counted}
+use Rattle.panel_script.specs.promises.Asked.{ReadsCall, ReadsLength, Stand, Counted}
 
 -- ---- a call
 

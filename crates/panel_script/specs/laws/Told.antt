@@ -1,19 +1,19 @@
 -- Law. WHATEVER WRITES what a replay tells has told the history: the book's answers, and the same with added fields.
 -- For every choice of lengths.
-use Prim.Native.Nat.{ℕ, suc, _+_}
+use Prim.Native.Nat.{ℕ, _+_}
 use mathlib.Core.Path.{_≡_, refl, sym, ap, ap₂, _∙_}
 use mathlib.Core.Bool.{Bool, true, false, cond}
 use mathlib.Core.List.{List, [], _∷_, _++_}
 use mathlib.Core.Option.{some}
 use native.Mathlib.Omega.{arith}
-use lib.ListN.{length, getD, take, drop, length-append}
+use lib.ListN.{length, take, drop, length-append}
 use lib.Seq.{take-at, drop-at}
 use Rattle.overlay.specs.Image.{filled}
 use Rattle.panel.specs.Outcome.{accepted, needSome, numberOf, bytesOf}
 use Rattle.panel.specs.Questions.{Lengths}
 use Rattle.panel.specs.Calls.{Call, fresh, message, alertSheet, vehicleSheet, card, report, Gave, gives, outOf, writes}
 use Rattle.panel.specs.Calls.{overlayAfter, freshOverlay, run, numbersGiven}
-use Rattle.panel.specs.Book.{Book, noBook, fed, said, seen, saidAll, seenAll}
+use Rattle.panel.specs.Book.{Book, noBook, fed, seen, saidAll, seenAll}
 use Rattle.panel.specs.Gained.{Alike, equal, gained, AlikeAll}
 use Rattle.panel.specs.laws.Gained.{history-gains}
 use Rattle.panel.specs.laws.History.{history}

@@ -10,14 +10,13 @@ use borrow.Author.Tests.{ne-eqb}
 use Rattle.formats.specs.Format.{Value}
 use Rattle.formats_read.specs.promises.Here.{Here}
 use Rattle.panel.specs.Questions.{Lengths}
-use Rattle.panel.specs.Calls.{Call, fresh, message, alertSheet, vehicleSheet, card, report, writes}
+use Rattle.panel.specs.Calls.{Call, fresh, alertSheet, vehicleSheet, card, report, writes}
 use Rattle.panel_script.specs.Script.{clockForm, callForm, asMany, callBy, callOf, Lent, within, lends}
 use Rattle.panel_script.specs.declared.Asked.{Asked}
 use Rattle.panel_script.specs.promises.Asked.{Reads}
 use Rattle.panel_sized.specs.Lengths.{sized}
 use Rattle.panel_writing.specs.promises.Ran.{RanAs, MessageRan, WritesAs}
 use Rattle.panel_writing.specs.declared.Ran.{Ran}
-use Rattle.panel_writing.specs.declared.Ran.the-variants.{Unlent, Number}
 
 -- a call of kind k, with what was read of it
 pub call-is : (L : Lengths) {s : List ℕ} {q : Asked} {v : Value callForm} {e : ℕ} → Reads s q v e

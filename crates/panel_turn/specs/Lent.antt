@@ -1,0 +1,14 @@
+-- Believe: 01, History. What is lent to a replay by code.
+use Prim.Native.Nat.{ℕ}
+use mathlib.Core.List.{[], _∷_}
+use Rattle.panel_sized.specs.Lengths.{cardWork}
+use Rattle.panel_script.specs.Script.{Lent}
+
+-- overlays of `lent` bytes, an output, a message's four working buffers, and a card's of the published lengths
+abbrev pub lentTo : ℕ → ℕ → ℕ → ℕ → ℕ → ℕ → Lent
+lentTo lent output keys marks order updates = record {
+  overlay = lent;
+  output = output;
+  messageWork = keys ∷ marks ∷ order ∷ updates ∷ [];
+  cardWork = cardWork;
+}
