@@ -105,3 +105,42 @@ pub extern "C" fn states_report(old: &[u8], feed: &[u8], out: &mut [u8]) -> u32
 {
     panel_sized::report(length_of(old.len()), old, feed, out)
 }
+
+#[no_mangle]
+pub extern "C" fn states_card(
+    old: &[u8],
+    card: &[u8],
+    out: &mut [u8],
+    candidates: &mut [u16],
+    met: &mut [u16],
+    text: &mut [u8],
+    froms: &mut [u32],
+    tos: &mut [u32],
+    places: &mut [u32],
+    noted: &mut [u32],
+    known: &mut [u32],
+) -> u32
+    ensures { λ r. ⌜ Given (sized (lengthOf (length (now (old .entry))))) (now (old .entry))
+        (calls.card (now (card .entry)) (length (now (out .entry)))
+        (length (now (candidates .entry)) ∷ length (now (met .entry)) ∷ length (now (text .entry))
+        ∷ length (now (froms .entry)) ∷ length (now (tos .entry)) ∷ length (now (places .entry))
+        ∷ length (now (noted .entry)) ∷ length (now (known .entry)) ∷ []))
+        r (now (out .exit))
+        (now (candidates .exit) ∷ now (met .exit) ∷ now (text .exit) ∷ now (froms .exit)
+        ∷ now (tos .exit) ∷ now (places .exit) ∷ now (noted .exit) ∷ now (known .exit) ∷ []) ⌝ }
+{
+    panel_sized_card::card(
+        length_of(old.len()),
+        old,
+        card,
+        out,
+        candidates,
+        met,
+        text,
+        froms,
+        tos,
+        places,
+        noted,
+        known,
+    )
+}
