@@ -19,7 +19,7 @@ use Rattle.decode.specs.Trip.{trip}
 use Rattle.decode_slots.specs.Places.{isNew, heldAt}
 use Rattle.decode_index.specs.promises.Message.{Fit}
 use Rattle.decode_trips.specs.declared.Last.{Last}
-use Rattle.decode_trips.specs.promises.Again.{mostCopied, placeOf, Behind, Ready, IsLast, Again}
+use Rattle.decode_trips.specs.promises.Again.{placeOf, Ready, IsLast, Again}
 
 -- from a place that lies inside, to one that is known
 record Arrived (l : List ℕ) (w : Put) (m : List ℕ) (e : ℕ) (y : List ℕ) : Type 0 where

@@ -2,9 +2,9 @@
 use Prim.Native.Nat.{ℕ}
 use mathlib.Core.Path.{refl}
 use mathlib.Core.Bool.{Bool, true, false}
-use mathlib.Core.List.{List, [], _∷_, _++_}
+use mathlib.Core.List.{List, [], _∷_}
 use mathlib.Core.Logic.{inl, inr}
-use lib.IntN.{ℤ, pos, negsuc}
+use lib.IntN.{pos, negsuc}
 use lib.ListN.{replicate}
 use Rattle.basics.specs.Rows.{Row, row, Holds}
 use Rattle.basics.specs.laws.Rows.{_also_}
@@ -14,7 +14,7 @@ use Rattle.formats_judge.specs.Judged.{ok}
 use Rattle.decode.specs.Trip as trips
 use Rattle.alerts.specs.Alert as alerts
 use Rattle.overlay.specs.State as state
-use Rattle.journey.specs.Card.{scheduled, cardTime, duration, payload, middle, transit, leg, card, transitValue}
+use Rattle.journey.specs.Card.{scheduled, cardTime, duration, payload, transit, card, transitValue}
 
 -- ---- what the rows speak of
 

@@ -14,7 +14,7 @@ use Rattle.formats_write.specs.laws.Adds.{none, then, same}
 use Rattle.formats_write.specs.laws.Slices.{slice-is}
 use Rattle.formats_read.specs.laws.Progress.{one-more}
 use Rattle.journey.specs.Enrich.{keys}
-use Rattle.journey_labels.specs.promises.Labels.{Labels, labels, labelAt, SoundLabels}
+use Rattle.journey_labels.specs.promises.Labels.{Labels, labels, labelAt}
 use Rattle.journey_labels.specs.laws.Labels.{count-of, inside-at}
 use Rattle.journey_enrich.specs.promises.Enrich.{HeadersUpTo, HeadersPut}
 

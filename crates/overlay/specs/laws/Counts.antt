@@ -11,11 +11,11 @@ use lib.ListN.{length}
 use Rattle.slices.specs.declared.Order.{Order}
 use Rattle.slices.specs.declared.Order.the-variants.{Less, Same, More}
 use Rattle.basics.specs.Lists.{all}
-use Rattle.formats.specs.Format.{list, optional, _&_, Value}
+use Rattle.formats.specs.Format.{list, optional, _&_}
 use Rattle.formats_judge.specs.Judged.{ok}
 use Rattle.realtime.specs.Tree.{Tree}
 use Rattle.decode.specs.Trip.{tripEntry}
-use Rattle.basics.specs.Options.{Maybe, orOther}
+use Rattle.basics.specs.Options.{orOther}
 use Rattle.maps.specs.Map.{Ordered, byOrder, get, put, puts}
 use Rattle.maps.specs.Order.{texts}
 use Rattle.maps.specs.laws.Order.{texts-order}

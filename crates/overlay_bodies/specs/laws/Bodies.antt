@@ -3,20 +3,16 @@ use mathlib.Core.Path.{_≡_, refl, sym, ap, _∙_}
 use mathlib.Core.List.{List, [], _∷_, _++_, append-assoc}
 use Prim.Native.Nat.{ℕ, _≤_}
 use native.Mathlib.Omega.{arith}
-use lib.IntN.{ℤ, pos, _-ℤ_}
 use lib.ListN.{length}
 use lib.Seq.{slice}
-use Rattle.maps.specs.Map.{puts}
-use Rattle.maps.specs.Order.{texts}
-use Rattle.formats.specs.Number.{numberW, zag}
-use Rattle.formats.specs.Format.{Format, number, list, optional, _&_, Value, write}
+use Rattle.formats.specs.Number.{numberW}
+use Rattle.formats.specs.Format.{Format, list, optional, _&_, Value, write}
 use Rattle.formats_write.specs.declared.Put.{Put}
 use Rattle.formats_write.specs.promises.Adds.{Adds}
 use Rattle.formats_write.specs.laws.Adds.{then, same}
 use Rattle.formats_write.specs.laws.Slices.{slice-join}
 use Rattle.formats_read.specs.promises.Here.{Here}
 use Rattle.formats_read.specs.promises.Reads.{ReadsNumber}
-use Rattle.formats_read.specs.laws.Here.{number-here}
 use Rattle.formats_read.specs.laws.Lists.{listed}
 use Rattle.formats_read.specs.laws.Rewriting.{kept}
 use Rattle.decode.specs.Sizes.{mostTrips}
@@ -24,7 +20,6 @@ use Rattle.decode.specs.Trip.{tripEntry}
 use Rattle.alerts.specs.Alert.{Alert, alert}
 use Rattle.overlay.specs.State.{Feed, Vehicles, timestamp, vehicleEntry, feed, noFeed}
 use Rattle.overlay.specs.State.{timestampOf, countOf, tripsOf, vehiclesOf, alertsOf}
-use Rattle.overlay.specs.Change.{withoutStale}
 use Rattle.overlay_feeds.specs.declared.Parts.{Parts}
 use Rattle.overlay_feeds.specs.promises.Parts.{PartsOf}
 use Rattle.overlay_vehicles.specs.promises.Merge.{Both, Counts}

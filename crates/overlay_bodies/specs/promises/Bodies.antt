@@ -1,8 +1,7 @@
 -- Promise. A feed's body as a sheet leaves it: where its parts stand, and what is written.
 use mathlib.Core.Path.{_≡_}
 use mathlib.Core.Bool.{true}
-use mathlib.Core.List.{List, [], _∷_, _++_}
-use mathlib.Core.Logic.{inl}
+use mathlib.Core.List.{List, _++_}
 use Prim.Native.Nat.{ℕ}
 use lib.IntN.{ℤ, pos, _-ℤ_}
 use lib.ListN.{length}
@@ -16,7 +15,7 @@ use Rattle.formats_read.specs.promises.Here.{Here}
 use Rattle.decode.specs.Sizes.{mostTrips}
 use Rattle.decode.specs.Trip.{tripEntry}
 use Rattle.alerts.specs.Alert.{Alert, alert}
-use Rattle.overlay.specs.State.{Feed, Vehicles, timestamp, vehicleEntry, feed, feedWith}
+use Rattle.overlay.specs.State.{Feed, Vehicles, timestamp, vehicleEntry, feedWith}
 use Rattle.overlay.specs.State.{timestampOf, countOf, tripsOf, vehiclesOf, alertsOf}
 use Rattle.overlay.specs.Change.{withoutStale}
 use Rattle.overlay_vehicles.specs.promises.Merge.{Counted}

@@ -14,7 +14,7 @@ use Rattle.formats_skip.specs.laws.Passes.{any-optional-signed}
 use Rattle.decode.specs.Sizes.{mostTrips}
 use Rattle.decode.specs.Trip.{tripEntry}
 use Rattle.alerts.specs.Alert.{alert}
-use Rattle.overlay.specs.State.{feed, vehicleEntry}
+use Rattle.overlay.specs.State.{vehicleEntry}
 use Rattle.overlay_feeds.specs.promises.Parts.{ReadsParts}
 use Rattle.overlay_feeds.specs.laws.Head.{begins, ends}
 

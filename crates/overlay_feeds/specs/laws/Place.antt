@@ -23,7 +23,7 @@ use Rattle.formats_read.specs.laws.Here.{halves}
 use Rattle.formats_read.specs.laws.Lists.{run}
 use Rattle.formats_skip.specs.promises.Passes.{Passes}
 use Rattle.formats_skip.specs.laws.Passes.{any-text}
-use Rattle.overlay.specs.State.{Feed, State, overlay, feed, feedEntry, feedsOf}
+use Rattle.overlay.specs.State.{Feed, State, overlay, feedEntry, feedsOf}
 use Rattle.overlay_feeds.specs.declared.FeedPlace.the-variants.{At, Missing}
 use Rattle.overlay_feeds.specs.promises.Head.{ReadsHead}
 use Rattle.overlay_feeds.specs.promises.Place.{Compares, FeedAt, FeedMissing, Placed, FindsFeed}

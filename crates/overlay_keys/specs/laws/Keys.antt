@@ -17,7 +17,7 @@ use Rattle.basics.specs.Lists.{all, isEmpty}
 use Rattle.formats.specs.laws.Law.{found}
 use Rattle.basics.specs.laws.Booleans.{and-no}
 use Rattle.basics.specs.laws.Options.{none-some}
-use Rattle.formats.specs.Format.{Format, small, text, optional, list, _&_, Value, read}
+use Rattle.formats.specs.Format.{Format, small, optional, list, _&_, Value, read}
 use Rattle.formats.specs.declared.Numeral.{Numeral}
 use Rattle.formats.specs.declared.Numeral.the-variants.{Got, Bad}
 use Rattle.formats.specs.declared.Skip.{Skip}

@@ -1,16 +1,16 @@
 -- Law. The state after a message, by what the index says of its trips and where its feed stands.
 use Prim.Native.Nat.{ℕ, suc, _+_, _≤_, _<_}
 use mathlib.Core.Path.{_≡_, refl, sym, ap, ap₂, subst, _∙_}
-use mathlib.Core.Bool.{Bool, true, false, _&&_}
-use mathlib.Core.List.{List, [], _∷_, _++_}
-use mathlib.Core.Option.{Option, none, some}
+use mathlib.Core.Bool.{true, false, _&&_}
+use mathlib.Core.List.{List, [], _∷_}
+use mathlib.Core.Option.{none, some}
 use native.Mathlib.Omega.{arith}
 use lib.Dec.{leb}
 use lib.ListN.{length, length-append}
 use borrow.Author.Tests.{le-leb, lt-leb, le-ltb}
 use Rattle.basics.specs.Lists.{All, all}
 use Rattle.basics.specs.laws.Booleans.{both-true, false-true}
-use Rattle.maps.specs.Map.{ascending, get, put, puts}
+use Rattle.maps.specs.Map.{ascending, get, puts}
 use Rattle.maps.specs.Order.{texts}
 use Rattle.maps.specs.laws.Map.{puts-itself}
 use Rattle.maps.specs.laws.Order.{texts-order}
@@ -18,8 +18,7 @@ use Rattle.formats.specs.Format.{write}
 use Rattle.formats_judge.specs.Judged.{ok}
 use Rattle.formats_write.specs.declared.Put.{Put}
 use Rattle.formats_write.specs.declared.Put.the-variants.{At, Full}
-use Rattle.formats_write.specs.laws.Adds.{wrote}
-use Rattle.formats_write.specs.promises.Adds.{Adds, Wrote}
+use Rattle.formats_write.specs.promises.Adds.{Wrote}
 use Rattle.formats_read.specs.laws.Here.{whole-here}
 use Rattle.formats_read.specs.promises.Here.{Here}
 use Rattle.realtime.specs.Tree.{Tree, tree}
@@ -27,17 +26,15 @@ use Rattle.realtime.specs.Schema.{feedMessage}
 use Rattle.realtime.specs.Schema as schema
 use Rattle.decode.specs.Leaves.{Trips, leaves}
 use Rattle.decode.specs.Sizes.{mostOld}
-use Rattle.decode.specs.Trip.{Trip, updatesOf}
+use Rattle.decode.specs.Trip.{updatesOf}
 use Rattle.decode_slots.specs.Index.{index}
 use Rattle.decode_slots.specs.Places.{orEnd, held, crowded}
-use Rattle.decode_old.specs.promises.Old.{Stands}
-use Rattle.decode_index.specs.Leaving.{Leaving, manyTrips, manyUpdates, trips, leaving}
+use Rattle.decode_index.specs.Leaving.{trips, leaving}
 use Rattle.decode_index.specs.declared.Left.{Left}
 use Rattle.decode_index.specs.laws.Seven.{isTrips, leaving-seven, leaving-yes}
 use Rattle.decode_index.specs.promises.Leaving.{Leaves, Old, viewLeft}
 use Rattle.decode_write.specs.promises.Slots.{Writable}
 use Rattle.overlay.specs.Change.{afterMessage, feedAt, putFeed}
-use Rattle.overlay.specs.Image.{stateOf}
 use Rattle.overlay.specs.State.{Feed, State, feed, feedEntry, overlay, tripsOf, versionOf, feedsOf, noFeed, stateWith}
 use Rattle.overlay_feeds.specs.declared.Parts.{Parts}
 use Rattle.overlay_feeds.specs.promises.Head.{ReadsHead}

@@ -1,5 +1,5 @@
 -- Law. Question 7 of a state with one feed put: the number of feeds, and that feed's trips.
-use Prim.Native.Nat.{ℕ, suc, _+_, _≤_}
+use Prim.Native.Nat.{ℕ, suc, _+_}
 use mathlib.Core.Path.{_≡_, refl, sym, ap, ap₂, _∙_}
 use mathlib.Core.Bool.{Bool, true, false, _&&_}
 use mathlib.Core.List.{List, [], _∷_, _++_}
@@ -17,8 +17,8 @@ use Rattle.decode.specs.Trip.{tripEntry}
 use Rattle.decode.specs.Leaves.{Trips}
 use Rattle.decode_index.specs.Leaving.{leaving}
 use Rattle.decode_index.specs.laws.Seven.{isTrips, leaving-seven}
-use Rattle.alerts.specs.Alert.{alert, Alert}
-use Rattle.overlay.specs.State.{Feed, State, Vehicles, timestamp, feed, feedEntry, vehicleEntry, overlay, feedWith}
+use Rattle.alerts.specs.Alert.{alert}
+use Rattle.overlay.specs.State.{Feed, State, timestamp, feedEntry, vehicleEntry, overlay, feedWith}
 use Rattle.overlay.specs.State.{stateWith, feedsOf, vehiclesOf, alertsOf, tripsOf, timestampOf}
 use Rattle.overlay.specs.Valid.{valid, within, feedValid}
 use Rattle.maps.specs.Map.{ascending}

@@ -17,7 +17,7 @@ use Rattle.maps.specs.laws.Order.{texts-order}
 use Rattle.formats.specs.Class.{Class, printable, token, inClass}
 use Rattle.formats.specs.Format.{Format, number, small, text, list, optional, _&_, Value, write}
 use Rattle.formats_judge.specs.Judged.{ok}
-use Rattle.formats_check.specs.promises.Checked.{fine, holds}
+use Rattle.formats_check.specs.promises.Checked.{fine}
 use Rattle.formats_read.specs.promises.Here.{Here}
 use Rattle.decode.specs.Sizes.{keyBytes}
 use Rattle.decode.specs.Trip.{Trip, trip, tripEntry, delay, date, id, number32, time, stopUpdate, updatesOf}

@@ -1,14 +1,12 @@
 -- Law. Question 7 of a state with one feed put, whose other feeds are a valid state's: the number of feeds, and what is
 -- new in that feed.
-use mathlib.Core.Path.{_≡_, refl, sym, ap, ap₂, _∙_}
+use mathlib.Core.Path.{_≡_, refl, sym, ap, _∙_}
 use mathlib.Core.Bool.{Bool, true, false, _&&_}
 use mathlib.Core.List.{List, [], _∷_, _++_}
-use mathlib.Core.Option.{none, some}
-use Prim.Native.Nat.{ℕ, suc, _+_, _≤_, _<_}
+use Prim.Native.Nat.{ℕ, _+_}
 use native.Mathlib.Omega.{arith}
 use lib.Dec.{leb}
 use lib.ListN.{length, length-append}
-use borrow.Author.Tests.{le-leb, lt-leb}
 use Rattle.basics.specs.Lists.{all}
 use Rattle.basics.specs.laws.Booleans.{both-true}
 use Rattle.maps.specs.Map.{put, ascending}

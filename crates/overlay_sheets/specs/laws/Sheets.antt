@@ -1,18 +1,17 @@
 -- Law. A state by a sheet: the feed that is there, or one that is made.
 use mathlib.Core.Path.{_≡_, refl, sym, ap, _∙_}
 use mathlib.Core.Bool.{Bool, true, false, _&&_}
-use mathlib.Core.List.{List, [], _∷_, _++_}
+use mathlib.Core.List.{List, _∷_}
 use mathlib.Core.Option.{none, some}
-use Prim.Native.Nat.{ℕ, suc, _+_, _%_, _^_, _≤_, _<_}
+use Prim.Native.Nat.{ℕ, _+_, _%_, _^_, _≤_, _<_}
 use native.Mathlib.Omega.{arith}
-use lib.IntN.{ℤ, pos, _-ℤ_}
+use lib.IntN.{ℤ}
 use lib.Dec.{leb}
 use lib.ListN.{length, length-append}
 use borrow.Author.Tests.{le-leb, lt-leb}
 use Rattle.basics.specs.laws.Booleans.{false-true}
 use Rattle.maps.specs.Map.{get, puts}
 use Rattle.maps.specs.Order.{texts}
-use Rattle.formats.specs.Number.{zag}
 use Rattle.formats.specs.Format.{list, write}
 use Rattle.formats_judge.specs.Judged.{ok}
 use Rattle.formats_write.specs.declared.Put.{Put}
@@ -21,7 +20,7 @@ use Rattle.formats_write.specs.promises.Adds.{Adds}
 use Rattle.formats_write.specs.laws.Adds.{same, wrote}
 use Rattle.formats_read.specs.promises.Here.{Here}
 use Rattle.alerts.specs.Alert.{Alert, alert}
-use Rattle.overlay.specs.State.{Feed, State, Vehicles, vehicleEntry, feed, overlay, noFeed, versionOf, feedsOf}
+use Rattle.overlay.specs.State.{Feed, State, Vehicles, feed, overlay, noFeed, versionOf, feedsOf}
 use Rattle.overlay.specs.State.{vehiclesOf}
 use Rattle.overlay.specs.Change.{feedAt, putFeed, afterAlerts, withoutStale, afterVehicles}
 use Rattle.overlay.specs.Valid.{valid}
@@ -33,7 +32,7 @@ use Rattle.overlay_frame.specs.promises.Frame.{Spot, openingW, closingW}
 use Rattle.overlay_frame.specs.laws.Frame.{framed}
 use Rattle.overlay_bodies.specs.promises.Bodies.{AlertsIn, withAlerts, withVehicles}
 use Rattle.overlay_sheets.specs.promises.Sheets.{Changes}
-use Rattle.overlay_sheets.specs.laws.Seven.{seven-found, seven-lost, found-seven, alerts-seven, vehicles-seven}
+use Rattle.overlay_sheets.specs.laws.Seven.{seven-found, seven-lost, found-seven, alerts-seven}
 
 -- WHERE THE FEED GOES
 module _ {b : List ℕ} {s : State} {q v c n first : ℕ} (h : Here overlay b 0 q s) (H : ReadsHead b v c n first) where

@@ -1,15 +1,14 @@
 -- Law. An entry by its parts: key, trip, latitude, longitude, time.
-use mathlib.Core.Path.{_≡_}
 use mathlib.Core.List.{List}
 use Prim.Native.Nat.{ℕ}
 use Rattle.formats.specs.Class.{any}
-use Rattle.formats.specs.Format.{number, float, text, optional, _&_, Value}
+use Rattle.formats.specs.Format.{float, text, optional, _&_, Value}
 use Rattle.formats_read.specs.promises.Here.{Here}
 use Rattle.formats_read.specs.promises.Reads.{ReadsNumber, ReadsText}
-use Rattle.formats_read.specs.laws.Here.{Halves, halves, signed-here}
+use Rattle.formats_read.specs.laws.Here.{halves, signed-here}
 use Rattle.formats_skip.specs.promises.Passes.{Passes}
 use Rattle.formats_skip.specs.laws.Passes.{any-optional-text}
-use Rattle.decode.specs.Trip.{id, instant}
+use Rattle.decode.specs.Trip.{instant}
 use Rattle.overlay.specs.State.{vehicleEntry, vehicle, updatedOf}
 use Rattle.overlay_vehicles.specs.promises.Entry.{ReadsEntry}
 

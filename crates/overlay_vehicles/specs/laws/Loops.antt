@@ -1,10 +1,9 @@
 -- Law. The merge run to count, and run to write.
-use mathlib.Core.Path.{_≡_, refl, sym, ap, _∙_}
+use mathlib.Core.Path.{_≡_, refl, sym, _∙_}
 use mathlib.Core.Bool.{Bool, true, false, cond}
-use mathlib.Core.List.{List, [], _∷_, _++_, append-nil}
+use mathlib.Core.List.{List, [], _∷_, append-nil}
 use Prim.Native.Nat.{ℕ, _+_, _≤_, _<_}
 use native.Mathlib.Omega.{arith}
-use lib.IntN.{ℤ, pos, _-ℤ_}
 use lib.ListN.{length, length-append}
 use lib.Seq.{slice}
 use Rattle.basics.specs.laws.Booleans.{false-true}
@@ -15,9 +14,9 @@ use Rattle.formats_write.specs.laws.Adds.{none, then, same}
 use Rattle.formats_write.specs.promises.Adds.{Adds}
 use Rattle.formats_read.specs.laws.Progress.{one-more}
 use Rattle.formats_read.specs.laws.Rewriting as rewriting
-use Rattle.overlay.specs.State.{Vehicle, Vehicles, vehicleEntry}
+use Rattle.overlay.specs.State.{vehicleEntry}
 use Rattle.overlay_vehicles.specs.declared.Turn.{Turn}
-use Rattle.overlay_vehicles.specs.promises.Merge.{Both, In, Turned, Merge, Counted, Counts}
+use Rattle.overlay_vehicles.specs.promises.Merge.{Turned, Merge, Counts}
 use Rattle.overlay_vehicles.specs.promises.Writes.{PutsEntry, Writes}
 use Rattle.overlay_vehicles.specs.laws.Merge.{begin, onward, ended, most}
 

@@ -1,6 +1,6 @@
 -- Law. The merge, turn by turn.
 use mathlib.Core.Path.{_≡_, refl, sym, ap, _∙_}
-use mathlib.Core.Bool.{Bool, true, false, cond, not}
+use mathlib.Core.Bool.{Bool, true, false, not}
 use mathlib.Core.List.{List, [], _∷_, _++_, append-assoc, append-nil}
 use Prim.Native.Nat.{ℕ, _+_, _-_, _≤_, _<_}
 use native.Mathlib.Omega.{arith}
@@ -29,7 +29,7 @@ use Rattle.overlay.specs.Change.{withoutStale}
 use Rattle.overlay_vehicles.specs.declared.Turn.{Turn}
 use Rattle.overlay_vehicles.specs.promises.Entry.{ReadsEntry}
 use Rattle.overlay_vehicles.specs.promises.Merge.{firstOf, Fresh, Firsts, Both, In, Taken, Turned, Ahead}
-use Rattle.overlay_vehicles.specs.promises.Merge.{Merge, Counted}
+use Rattle.overlay_vehicles.specs.promises.Merge.{Merge}
 use Rattle.overlay_vehicles.specs.laws.Puts.{puts-last, puts-less, puts-same, puts-more}
 
 -- no order is another

@@ -1,5 +1,4 @@
 -- `read_clock` meets its contract.
-use borrow.Author.Needs.{needs}
 use Rattle.panel_questions.specs.laws.Clock.{clock-early, clock-late, clock-above, clock-within}
 use Rattle.panel_questions.proofs.read_clock.Statement.{statement}
 use Rattle.panel_questions.proofs.read_clock.Tie as tie

@@ -1,5 +1,4 @@
 -- `timed` meets its contract.
-use borrow.Author.Needs.{needs}
 use Rattle.panel_questions.specs.laws.Vehicles.{timed-five, timed-six, timed-fine, timed-not}
 use Rattle.panel_questions.proofs.timed.Statement.{statement}
 use Rattle.panel_questions.proofs.timed.Tie as tie

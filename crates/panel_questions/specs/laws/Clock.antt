@@ -1,18 +1,18 @@
 -- Law. The clock's time, as question 6 judges it.
 use mathlib.Core.Path.{_≡_, refl, sym, ap, _∙_}
-use mathlib.Core.Bool.{Bool, true, false, _&&_}
+use mathlib.Core.Bool.{true, false}
 use Prim.Native.Nat.{ℕ}
 use native.Mathlib.Omega.{arith}
 use lib.IntN.{ℤ, pos, negsuc, _-ℤ_}
 use lib.Signed.{ltZ, nonNeg}
-use lib.Dec.{T, leb, ltb}
+use lib.Dec.{T}
 use borrow.Author.Tests.{le-leb, lt-leb, ltb-true, ltb-false}
 use mir.Syntax.{w64}
 use mir.Val.{SFits, toZ, ofZ}
 use mir.Facts.{toZ-ofZ}
 use Rattle.basics.specs.laws.Booleans.{false-true}
 use Rattle.formats.specs.Number.{zag}
-use Rattle.formats_judge.specs.Judged.{atMost, ok}
+use Rattle.formats_judge.specs.Judged.{ok}
 use Rattle.decode.specs.Trip.{instant}
 use Rattle.panel_questions.specs.promises.Numbers.{ClockIs}
 

@@ -2,23 +2,21 @@
 use mathlib.Core.Path.{_≡_, refl, sym, ap, _∙_}
 use mathlib.Core.Bool.{Bool, true, false, cond}
 use mathlib.Core.List.{List, []}
-use mathlib.Core.Option.{Option, none, some}
+use mathlib.Core.Option.{some}
 use Prim.Native.Nat.{ℕ, _≤_, _<_}
-use native.Mathlib.Omega.{arith}
 use lib.ListN.{length}
-use lib.Dec.{eqb}
 use borrow.Author.Tests.{eq-eqb, ne-eqb}
 use Rattle.maps.specs.Map.{ascending}
 use Rattle.maps.specs.Order.{texts}
 use Rattle.formats.specs.Format.{Value}
-use Rattle.formats_judge.specs.Judged.{verdict, judgeTo, answer}
+use Rattle.formats_judge.specs.Judged.{verdict, judgeTo}
 use Rattle.formats_judge.specs.declared.Judge.{Judge}
 use Rattle.formats_judge.specs.declared.Judge.the-variants.{At, Broken}
 use Rattle.formats_read.specs.laws.Here.{whole-here, halves}
 use Rattle.overlay.specs.State.{vehicleSheet}
 use Rattle.overlay_ascends.specs.promises.Ascends.{Ascends}
-use Rattle.panel.specs.Questions.{whole, feedOk, keysAscend, vehiclesIn}
-use Rattle.panel_questions.specs.promises.Numbers.{formed, short, timed, vehicleNumber, Whole}
+use Rattle.panel.specs.Questions.{feedOk, keysAscend, vehiclesIn}
+use Rattle.panel_questions.specs.promises.Numbers.{timed, vehicleNumber, Whole}
 use Rattle.panel_questions.specs.laws.Whole.{whole-broken, whole-short, whole-at, all-read}
 use Rattle.panel_questions.specs.laws.Whole.{too-long, no-form, in-form}
 

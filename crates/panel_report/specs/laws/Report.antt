@@ -2,11 +2,11 @@
 use mathlib.Core.Path.{_≡_, refl, sym, ap, ap₂, _∙_}
 use mathlib.Core.Bool.{Bool, true, false, _&&_}
 use mathlib.Core.List.{List, [], _∷_, _++_}
-use mathlib.Core.Option.{Option, none, some, Option·getD}
+use mathlib.Core.Option.{some, Option·getD}
 use Prim.Native.Nat.{ℕ, _-_, _/_, _%_, _^_, _≤_, _<_}
 use native.Mathlib.Omega.{arith}
 use lib.IntN.{ℤ, pos, negsuc}
-use lib.Dec.{eqb, leb}
+use lib.Dec.{leb}
 use lib.ListN.{length}
 use borrow.Author.Tests.{eq-eqb, ne-eqb, lt-leb, le-leb}
 use Rattle.basics.specs.Options.{Maybe}
@@ -21,7 +21,7 @@ use Rattle.formats_write.specs.declared.OptionalSigned.the-variants.{Absent, Pr
 use Rattle.formats_write.specs.declared.Put.{Put}
 use Rattle.formats_write.specs.declared.Put.the-variants as put
 use Rattle.formats_write.specs.laws.Adds.{then, same, wrote}
-use Rattle.formats_write.specs.promises.Adds.{Adds, Wrote}
+use Rattle.formats_write.specs.promises.Adds.{Adds}
 use Rattle.formats_write.specs.promises.Given.{givenSigned}
 use Rattle.formats_read.specs.laws.Here.{halves, number-here}
 use Rattle.formats_read.specs.promises.Here.{Here}
@@ -32,7 +32,7 @@ use Rattle.overlay.specs.Change.{feedAt}
 use Rattle.overlay.specs.Image.{room, stateOf}
 use Rattle.overlay.specs.Report.{bits64, stamped}
 use Rattle.overlay.specs.Report as report
-use Rattle.overlay.specs.State.{Feed, State, overlay, noFeed, noState, feedsOf, countOf, timestampOf, versionOf}
+use Rattle.overlay.specs.State.{State, overlay, noFeed, noState, feedsOf, countOf, timestampOf, versionOf}
 use Rattle.overlay_feeds.specs.declared.FeedPlace.{FeedPlace}
 use Rattle.overlay_feeds.specs.declared.FeedPlace.the-variants.{At, Missing}
 use Rattle.overlay_feeds.specs.promises.Head.{ReadsHead}

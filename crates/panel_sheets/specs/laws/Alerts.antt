@@ -7,7 +7,6 @@ use Prim.Native.Nat.{ℕ}
 use native.Mathlib.Omega.{arith}
 use lib.Dec.{leb}
 use lib.ListN.{length}
-use Rattle.basics.specs.laws.Booleans.{both-true}
 use Rattle.formats.specs.Format.{list, Value}
 use Rattle.formats_judge.specs.Judged.{ok, firstFailing, verdict}
 use Rattle.formats_write.specs.declared.Put.{Put}
