@@ -31,7 +31,7 @@ fn main() {
         let libraries = directory("PORT_LIBRARIES");
         println!("cargo:rerun-if-env-changed=PORT_LIBRARIES");
         println!("cargo:rustc-link-search=native={}", libraries.display());
-        for name in ["wire_probes", "decode_probes", "alerts_probes", "panel_probes"] {
+        for name in ["wire_probes", "decode_probes", "alerts_probes", "panel_probes", "panel_calls"] {
             found(&libraries.join(format!("lib{name}.a")));
             println!("cargo:rustc-link-lib=static={name}");
         }

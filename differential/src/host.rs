@@ -115,7 +115,7 @@ pub fn alert(alert: &Alert) -> AlertRt {
     }
 }
 
-fn arriving(card: &Card) -> Journey {
+pub fn arriving(card: &Card) -> Journey {
     Journey {
         departure: instant(card.departure),
         arrival: instant(card.arrival),

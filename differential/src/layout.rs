@@ -139,7 +139,22 @@ fn alert(alert: &AlertRt) -> Alert {
 pub fn held(buffer: &[u8]) -> Option<Overlay> {
     let mut reader = Reader(buffer);
     let overlay = Overlay::read(&mut reader)?;
-    (reader.0.iter().all(|byte| *byte == 0) && valid(&overlay)).then_some(overlay)
+    (zeros(reader.0) && valid(&overlay)).then_some(overlay)
+}
+
+/// Whether all bytes are zero.
+pub fn zeros(bytes: &[u8]) -> bool {
+    bytes.chunks(ZEROS.len()).all(|chunk| chunk == &ZEROS[..chunk.len()])
+}
+
+static ZEROS: [u8; 4_096] = [0; 4_096];
+
+/// The bytes before the zeros at the end.
+pub fn used(bytes: &[u8]) -> &[u8] {
+    let upto = bytes.chunks(ZEROS.len()).rposition(|chunk| !zeros(chunk)).map_or(0, |chunk| chunk + 1);
+    let bytes = &bytes[..bytes.len().min(upto * ZEROS.len())];
+    let end = bytes.iter().rposition(|byte| *byte != 0).map_or(0, |last| last + 1);
+    &bytes[..end]
 }
 
 fn valid(overlay: &Overlay) -> bool {

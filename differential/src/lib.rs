@@ -9,9 +9,11 @@ mod original {
 }
 pub use original::{gtfs, routing, rt};
 
+pub mod after;
 pub mod bounds;
 pub mod form;
 pub mod gens;
+pub mod guarded;
 pub mod host;
 pub mod largest;
 pub mod layout;
@@ -28,4 +30,5 @@ pub mod samples;
 pub mod states;
 pub mod tables;
 pub mod tree;
+pub mod turns;
 pub mod wire;

@@ -94,6 +94,12 @@ pub fn field_end(bytes: &[u8], at: usize) -> Option<usize> {
     Some(bytes.len() - left.len())
 }
 
+/// Whether the field that begins at a place is listed; none where its key is broken.
+pub fn is_listed(message: Type, bytes: &[u8], at: usize) -> Option<bool> {
+    let (number, _) = key(&mut bytes.get(at..)?)?;
+    Some(listed(message, number).is_some())
+}
+
 /// The number, the type and the place of the listed message in the field that begins at a place; none where the field
 /// is another one.
 pub fn inner(message: Type, bytes: &[u8], at: usize) -> Option<(u64, Type, Range<usize>)> {

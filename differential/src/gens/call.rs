@@ -5,12 +5,16 @@ use crate::panel::Call;
 
 /// A list of calls on a fresh overlay that ends in a card.
 pub fn history(random: &mut Random, most: usize) -> Vec<Call> {
-    let mut calls: Vec<_> = (0..random.below(most - 1) + 1).map(|_| call(random)).collect();
-    calls.push(Call::Card { card: card(random).written() });
+    let mut calls: Vec<_> = (0..random.below(most - 1) + 1).map(|_| any_call(random)).collect();
+    calls.push(any_card(random));
     calls
 }
 
-fn call(random: &mut Random) -> Call {
+pub fn any_card(random: &mut Random) -> Call {
+    Call::Card { card: card(random).written() }
+}
+
+pub fn any_call(random: &mut Random) -> Call {
     let mut call = match random.below(16) {
         0..=6 => Call::Message { feed: feed(random), message: message(random) },
         7..=9 => Call::AlertSheet { feed: feed(random), sheet: alert_sheet(random).written() },
@@ -19,7 +23,7 @@ fn call(random: &mut Random) -> Call {
             sheet: vehicle_sheet(random).written(),
             clock: feed_time(random) + random.pick(&[0, 899, 900, 901]),
         },
-        13 | 14 => Call::Card { card: card(random).written() },
+        13 | 14 => any_card(random),
         _ => Call::Report { feed: feed(random) },
     };
     if random.once_in(12) {

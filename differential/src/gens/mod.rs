@@ -4,12 +4,14 @@ mod alert_text;
 mod call;
 mod gained;
 mod message;
+mod of_a_trip;
 mod paper;
 
 pub use alert_text::alert_text;
-pub use call::history;
+pub use call::{any_call, any_card, history};
 pub use gained::gained;
 pub use message::message;
+pub use of_a_trip::{full_card, of_a_trip};
 pub use paper::{alert, card, transit};
 pub use paper::{wild_alert_sheet, wild_card, wild_vehicle_sheet};
 

@@ -18,7 +18,7 @@ const TURNS: u32 = 5;
 const NAMES: &str =
     "RER A RER B RER C RER D RER E METRO 1 METRO 2 METRO 3 METRO 4 METRO 5 METRO 6 METRO 7 METRO 8 \
     METRO 9 METRO 10 METRO 11 METRO 12 METRO 13 METRO 14 TRAM T1 T2 T3 T4 T5 T6 T7 T8 T9 T10 T11 T12 T13 ";
-const PROSE: &str =
+pub const PROSE: &str =
     "Suite à un incident d'exploitation à la station Châtelet, le trafic est perturbé. Les voyageurs \
     sont invités à prendre leurs dispositions. Reprise estimée à 18 heures. ";
 const UNITS: &[&str] = &[
@@ -88,12 +88,12 @@ fn compare(runs: usize, header: &str, description: &str, short: &str) -> [f64; 2
 }
 
 fn told(name: &str, [port, original]: [f64; 2]) -> f64 {
-    println!("  {:.2}  {port:6.2} and {original:6.2} us: {name}", port / original);
+    println!("| {name} | {port:.2} | {original:.2} | {:.2} |", port / original);
     port / original
 }
 
 fn usual() {
-    println!("alert texts, port / original:");
+    println!("| texts of an alert | port, us | original, us | port / original |\n|---|---|---|---|");
     let lines = [
         ("4", "Métro 4"),
         ("14", "Métro 14"),
@@ -123,6 +123,19 @@ fn filled(front: &str, unit: &str, tail: &str) -> (String, String) {
     let whole = cut(front.to_string() + &unit.repeat(LONGEST / unit.len()), LONGEST - tail.len()) + tail;
     let header = cut(whole.clone(), HEADER);
     let description = whole[header.len()..].to_string();
+    (header, description)
+}
+
+/// Of the longest texts the one that takes the port longest, in header and description.
+pub fn longest_text() -> (String, String) {
+    let timed = |unit: &&str| {
+        let (header, description) = filled("", unit, ". RER B LIGNE 5 LIGNE 1 UTILISEZ T1");
+        let mut out = [0; ROOM];
+        let took = (0..10).map(|_| micros(|| text_fits(&mut out, &header, &description, "5")));
+        (took.fold(f64::MAX, f64::min), header, description)
+    };
+    let texts = UNITS.iter().map(timed).filter(|(_, header, _)| header.is_ascii());
+    let (_, header, description) = texts.max_by(|one, other| one.0.total_cmp(&other.0)).expect("a text");
     (header, description)
 }
 
