@@ -1,0 +1,175 @@
+//! The calls, with every length in the types: a wrong one cannot be passed. All that is unsafe about them stands here.
+use crate::overlay::Overlay;
+use crate::raw;
+use crate::refusal::Refusal;
+
+/// How long a finished card's buffer is.
+pub const CARD: usize = 65_536;
+/// How long a report is.
+pub const REPORT: usize = 25;
+
+/// The working buffers. Their contents don't matter before a call; every call leaves zeros.
+pub(crate) struct Work {
+    keys: [u8; 280_713],
+    marks: [u32; 6_147],
+    order: [u32; 2_049],
+    updates: [u32; 387],
+    candidates: [u16; 256],
+    met: [u16; 256],
+    text: [u8; 2_626],
+    froms: [u32; 1_025],
+    tos: [u32; 1_025],
+    places: [u32; 256],
+    noted: [u32; 8_208],
+    known: [u32; 4_096],
+    pub(crate) card: [u8; CARD],
+}
+
+/// What a number says of a call.
+fn answer(number: u32) -> Result<(), Refusal> {
+    match number {
+        0 => Ok(()),
+        _ => Err(Refusal::of(number).expect("a call answers 0 to 8")),
+    }
+}
+
+// In each call below every slice is a Rust reference's, so it is valid for its length, and a written one is borrowed
+// mutably, so it overlaps no other: that is all that the calls ask.
+
+pub(crate) fn fresh(new: &mut Overlay) -> Result<(), Refusal> {
+    let new = new.bytes_mut();
+    answer(unsafe { raw::mipsuqal_fresh(new.as_mut_ptr(), new.len()) })
+}
+
+pub(crate) fn message(
+    old: &Overlay,
+    feed: &str,
+    message: &[u8],
+    new: &mut Overlay,
+    work: &mut Work,
+) -> Result<(), Refusal> {
+    let (old, new) = (old.bytes(), new.bytes_mut());
+    answer(unsafe {
+        raw::mipsuqal_message(
+            old.as_ptr(),
+            old.len(),
+            feed.as_ptr(),
+            feed.len(),
+            message.as_ptr(),
+            message.len(),
+            new.as_mut_ptr(),
+            new.len(),
+            work.keys.as_mut_ptr(),
+            work.keys.len(),
+            work.marks.as_mut_ptr(),
+            work.marks.len(),
+            work.order.as_mut_ptr(),
+            work.order.len(),
+            work.updates.as_mut_ptr(),
+            work.updates.len(),
+        )
+    })
+}
+
+pub(crate) fn alert_sheet(old: &Overlay, feed: &str, sheet: &[u8], new: &mut Overlay) -> Result<(), Refusal> {
+    let (old, new) = (old.bytes(), new.bytes_mut());
+    answer(unsafe {
+        raw::mipsuqal_alert_sheet(
+            old.as_ptr(),
+            old.len(),
+            feed.as_ptr(),
+            feed.len(),
+            sheet.as_ptr(),
+            sheet.len(),
+            new.as_mut_ptr(),
+            new.len(),
+        )
+    })
+}
+
+pub(crate) fn vehicle_sheet(
+    old: &Overlay,
+    feed: &str,
+    sheet: &[u8],
+    clock: i64,
+    new: &mut Overlay,
+) -> Result<(), Refusal> {
+    let (old, new) = (old.bytes(), new.bytes_mut());
+    answer(unsafe {
+        raw::mipsuqal_vehicle_sheet(
+            old.as_ptr(),
+            old.len(),
+            feed.as_ptr(),
+            feed.len(),
+            sheet.as_ptr(),
+            sheet.len(),
+            clock,
+            new.as_mut_ptr(),
+            new.len(),
+        )
+    })
+}
+
+/// Leaves the finished card, and then zeros, in `work.card`.
+pub(crate) fn card(old: &Overlay, card: &[u8], work: &mut Work) -> Result<(), Refusal> {
+    let old = old.bytes();
+    answer(unsafe {
+        raw::mipsuqal_card(
+            old.as_ptr(),
+            old.len(),
+            card.as_ptr(),
+            card.len(),
+            work.card.as_mut_ptr(),
+            work.card.len(),
+            work.candidates.as_mut_ptr(),
+            work.candidates.len(),
+            work.met.as_mut_ptr(),
+            work.met.len(),
+            work.text.as_mut_ptr(),
+            work.text.len(),
+            work.froms.as_mut_ptr(),
+            work.froms.len(),
+            work.tos.as_mut_ptr(),
+            work.tos.len(),
+            work.places.as_mut_ptr(),
+            work.places.len(),
+            work.noted.as_mut_ptr(),
+            work.noted.len(),
+            work.known.as_mut_ptr(),
+            work.known.len(),
+        )
+    })
+}
+
+pub(crate) fn report(old: &Overlay, feed: &str, out: &mut [u8; REPORT]) -> Result<(), Refusal> {
+    let old = old.bytes();
+    answer(unsafe {
+        raw::mipsuqal_report(old.as_ptr(), old.len(), feed.as_ptr(), feed.len(), out.as_mut_ptr(), out.len())
+    })
+}
+
+/// The lengths that the library publishes, in the order of their numbers, up to the first number without one.
+pub fn published_lengths() -> Vec<usize> {
+    (0..).map(|number| unsafe { raw::mipsuqal_length(number) }).take_while(|length| *length > 0).collect()
+}
+
+#[cfg(test)]
+mod tests {
+    use super::*;
+
+    fn lengths(work: &Work) -> [usize; 12] {
+        let Work {
+            keys, marks, order, updates, candidates, met, text, froms, tos, places, noted, known, ..
+        } = work;
+        let bytes = [keys.len(), marks.len(), order.len(), updates.len(), candidates.len(), met.len()];
+        let more = [text.len(), froms.len(), tos.len(), places.len(), noted.len(), known.len()];
+        [bytes, more].concat().try_into().expect("twelve buffers")
+    }
+
+    #[test]
+    fn buffers_are_as_long_as_the_library_publishes() {
+        let work = crate::overlay::zeroed::<Work>();
+        let ours = [[Overlay::LENGTH, CARD, REPORT].as_slice(), &lengths(&work)].concat();
+        assert_eq!(published_lengths(), ours);
+    }
+}
