@@ -7,7 +7,7 @@ ghost use lib.ListN.{length, getD};
 ghost use Rattle.decode.specs.Sizes.{mostOld};
 ghost use Rattle.alerts_search.specs.promises.Marks.{mostMarks};
 ghost use Rattle.alerts_apply.specs.promises.Known.{Knows};
-ghost use Rattle.overlay_places.specs.promises.Noted.{Noted};
+ghost use Rattle.overlay_noted.specs.promises.Noted.{Noted};
 ghost use Rattle.journey_labels.specs.promises.Labels.{Inside, SoundLabels};
 ghost use Rattle.journey_alerts.specs.promises.Texts.{TextsIn, LegTextsAt};
 ghost use Rattle.journey_alerts.specs.promises.Places.{mostText, Lent, Prepared};

@@ -3,7 +3,7 @@ use formats_write::Put;
 use journey_card::Survey;
 ghost use Prim.Native.Nat.{_≤_};
 ghost use lib.ListN.{length};
-ghost use Rattle.overlay_places.specs.promises.Noted.{Noted};
+ghost use Rattle.overlay_noted.specs.promises.Noted.{Noted};
 ghost use Rattle.journey_enrich.specs.promises.Enrich.{HeadersUpTo, HeadersPut, Enriches};
 
 // The texts of the first n labels, which are places in b.

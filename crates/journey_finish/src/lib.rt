@@ -5,7 +5,7 @@ use journey_leg::LegRealtime;
 use overlay_resolve::Resolved;
 use overlay_seek::Found;
 use overlay_vehicle::OptionalPlace;
-ghost use Rattle.overlay_places.specs.promises.Noted.{Noted};
+ghost use Rattle.overlay_noted.specs.promises.Noted.{Noted};
 ghost use Rattle.journey_finish.specs.promises.Finish.{LegResolved, RowAt, Looks, LegVehicle, FinishesBy};
 ghost use Rattle.journey_finish.specs.promises.Finish.{Finishes, LegDone, EachDone, LegsDone};
 

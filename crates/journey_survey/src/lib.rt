@@ -3,7 +3,7 @@ use journey_card::Survey;
 use journey_leg::LegRealtime;
 ghost use mathlib.Core.Path.{_≡_};
 ghost use lib.ListN.{length};
-ghost use Rattle.overlay_places.specs.promises.Noted.{Noted};
+ghost use Rattle.overlay_noted.specs.promises.Noted.{Noted};
 ghost use Rattle.journey_labels.specs.promises.Labels.{labelsLength, SoundLabels};
 ghost use Rattle.alerts_apply.specs.promises.Known.{Knows};
 ghost use Rattle.journey_alerts.specs.promises.Places.{mostText, Lent};

@@ -9,7 +9,7 @@ ghost use Rattle.maps.specs.Order.{texts};
 ghost use Rattle.formats_write.specs.promises.Given.{givenNumber};
 ghost use Rattle.decode.specs.Trip.{tripEntry};
 ghost use Rattle.overlay.specs.Lookup.{trip-at, get-trip, find-trip-by-descriptor};
-ghost use Rattle.overlay_places.specs.promises.Noted.{RankNoted};
+ghost use Rattle.overlay_noted.specs.promises.Noted.{RankNoted};
 ghost use Rattle.overlay_seek.specs.promises.Answers.{Tests};
 ghost use Rattle.overlay_find.specs.promises.Finds.{Finds};
 ghost use Rattle.overlay_find.specs.promises.Texts.{RouteIs, DirectionIs, Described, descriptorTest};

@@ -4,3 +4,5 @@ pub mod Valid
 pub mod Feed
 pub mod Opened
 pub mod Held
+pub mod Records
+pub mod Feeds

@@ -1,3 +1,4 @@
 pub mod State
 pub mod Opened
 pub mod Held
+pub mod Feeds

@@ -1,22 +1,25 @@
-// Question 2: whether a buffer is an overlay, and where its state ends. One walk over the state by checked reading, and
-// one over the zeros behind it.
+// Question 2: whether a buffer is an overlay, and where its state ends. One walk over the state by checked reading,
+// which notes where feeds and trips stand, and one over the zeros behind it.
 use formats::Numeral;
 use formats::Skip;
 use formats_check::Entry;
 use formats_check::Span;
 use formats_check::number_at;
+use overlay_noted::note_parts;
 ghost use mathlib.Core.Path.{_≡_};
-ghost use Prim.Native.Nat.{_≤_};
+ghost use Prim.Native.Nat.{_≤_, _<_};
 ghost use lib.ListN.{length};
 ghost use Rattle.formats.specs.Class.{token};
 ghost use Rattle.formats.specs.Format.{list, optional};
 ghost use Rattle.formats_check.specs.promises.Checked.{Fine, Tested};
 ghost use Rattle.formats_check.specs.laws.Climbing.{Climbs, Entered, weightless, whatever};
-ghost use Rattle.overlay.specs.State.{timestamp, feed, feedEntry, overlay};
+ghost use Rattle.overlay.specs.State.{timestamp, feed, feedEntry, overlay, feedsOf};
 ghost use Rattle.overlay.specs.Image.{stateOf};
-ghost use Rattle.overlay_open.specs.promises.Opened.{ending};
+ghost use Rattle.overlay_noted.specs.promises.Noting.{Unless};
+ghost use Rattle.overlay_open.specs.promises.Opened.{ending, Notes};
 ghost use Rattle.overlay_open.specs.promises.State.{records, counted, recordsGood, countedGood, feedGood};
 ghost use Rattle.overlay_open.specs.promises.State.{entryGood, feedsGood, stateGood};
+ghost use Rattle.overlay_open.specs.promises.Feeds.{RecordsPut, FeedPut, FeedsPut, HeldPut};
 
 // What a buffer is: no overlay, or one whose state ends at a place.
 pub enum Opened {
@@ -50,21 +53,37 @@ fn optional_timestamp(s: &[u8], at: usize) -> Skip
     Skip::Broken
 }
 
-// Trips, vehicles and alerts of the feed whose count is c.
-fn records(c: u64, id: &[u8], s: &[u8], at: usize) -> Skip
-    ensures { λ r. ⌜ Tested records (recordsGood (now (id .entry)) c) (now (s .entry)) at r ⌝ }
+// Trips, vehicles and alerts of the feed whose count is c, at rank r, with its entry at `entry`.
+fn records(
+    c: u64,
+    id: &[u8],
+    s: &[u8],
+    at: usize,
+    noted: &mut [u32],
+    r: usize,
+    entry: usize,
+) -> Skip
+    requires { ⌜ r < 4 ⌝ }
+    ensures { λ x. ⌜ Tested records (recordsGood (now (id .entry)) c) (now (s .entry)) at x ⌝ }
+    ensures { λ x. ⌜ Unless x Skip.Broken (RecordsPut records (λ v. v) (now (s .entry)) at r entry
+        (now (noted .entry)) (now (noted .exit))) ⌝ }
 {
-    let Skip::At(p) = overlay_trips::trips(c, id, s, at) else {
+    let Skip::At(p) = overlay_trips::trips(c, id, s, at, noted, 2048 * r) else {
         return Skip::Broken;
     };
     let Skip::At(q) = overlay_records::vehicles(s, p) else {
         return Skip::Broken;
     };
+    let n = formats_read::number(s, at);
+    note_parts(noted, r, entry, n.value as usize, p, q);
     overlay_records::alerts(s, q)
 }
 
-fn counted(id: &[u8], s: &[u8], at: usize) -> Skip
-    ensures { λ r. ⌜ Tested counted (countedGood (now (id .entry))) (now (s .entry)) at r ⌝ }
+fn counted(id: &[u8], s: &[u8], at: usize, noted: &mut [u32], r: usize, entry: usize) -> Skip
+    requires { ⌜ r < 4 ⌝ }
+    ensures { λ x. ⌜ Tested counted (countedGood (now (id .entry))) (now (s .entry)) at x ⌝ }
+    ensures { λ x. ⌜ Unless x Skip.Broken (RecordsPut counted (λ v. v .1) (now (s .entry)) at r entry
+        (now (noted .entry)) (now (noted .exit))) ⌝ }
 {
     let Numeral::Got(c, p) = number_at(s, at) else {
         return Skip::Broken;
@@ -72,43 +91,52 @@ fn counted(id: &[u8], s: &[u8], at: usize) -> Skip
     if 2048 < c {
         return Skip::Broken;
     }
-    records(c, id, s, p)
+    records(c, id, s, p, noted, r, entry)
 }
 
-fn feed(id: &[u8], s: &[u8], at: usize) -> Skip
-    ensures { λ r. ⌜ Tested feed (feedGood (now (id .entry))) (now (s .entry)) at r ⌝ }
+fn feed(id: &[u8], s: &[u8], at: usize, noted: &mut [u32], r: usize, entry: usize) -> Skip
+    requires { ⌜ r < 4 ⌝ }
+    ensures { λ x. ⌜ Tested feed (feedGood (now (id .entry))) (now (s .entry)) at x ⌝ }
+    ensures { λ x. ⌜ Unless x Skip.Broken (RecordsPut feed (λ v. v .1 .1) (now (s .entry)) at r entry
+        (now (noted .entry)) (now (noted .exit))) ⌝ }
 {
     let Skip::At(p) = optional_timestamp(s, at) else {
         return Skip::Broken;
     };
-    counted(id, s, p)
+    counted(id, s, p, noted, r, entry)
 }
 
-// A feed and its id: class 2 is that of tokens.
-fn feed_entry(s: &[u8], at: usize) -> Entry
-    ensures { λ r. ⌜ Entered 16 token entryGood (now (s .entry)) at r ⌝ }
+// A feed and its id, at rank r: class 2 is that of tokens.
+fn feed_entry(s: &[u8], at: usize, noted: &mut [u32], r: usize) -> Entry
+    requires { ⌜ r < 4 ⌝ }
+    ensures { λ x. ⌜ Entered 16 token entryGood (now (s .entry)) at x ⌝ }
+    ensures { λ x. ⌜ Unless x Entry.No (FeedPut (now (s .entry)) at r (now (noted .entry)) (now (noted .exit))) ⌝ }
 {
     let Span::At(a, e) = formats_check::text_at(2, 16, s, at) else {
         return Entry::No;
     };
-    match feed(&s[a..e], s, e) {
+    match feed(&s[a..e], s, e, noted, r, at) {
         Skip::At(q) => Entry::At(a, e, q),
         Skip::Broken => Entry::No,
     }
 }
 
 // n feeds one after another, ascending by id: the walk keeps the place of the last id.
-fn feeds_from(n: u64, s: &[u8], at: usize) -> Skip
+fn feeds_from(n: u64, s: &[u8], at: usize, noted: &mut [u32]) -> Skip
     requires { ⌜ at ≤ length (now s) ⌝ }
+    requires { ⌜ n ≤ 4 ⌝ }
     ensures { λ r. ⌜ Climbs 16 token entryGood weightless (whatever n) n (now (s .entry)) at r ⌝ }
+    ensures { λ r. ⌜ Unless r Skip.Broken (FeedsPut (now (s .entry)) at n (now (noted .entry))
+        (now (noted .exit))) ⌝ }
 {
     let mut p = at;
     let mut left = n;
+    let mut r = 0;
     let mut first = true;
     let mut b: usize = 0;
     let mut d: usize = 0;
     while 0 < left {
-        let Entry::At(a, e, q) = feed_entry(s, p) else {
+        let Entry::At(a, e, q) = feed_entry(s, p, noted, r) else {
             return Skip::Broken;
         };
         if !formats_check::follows(first, s, b, d, a, e) {
@@ -118,13 +146,16 @@ fn feeds_from(n: u64, s: &[u8], at: usize) -> Skip
         first = false;
         b = a;
         d = e;
+        r += 1;
         left -= 1;
     }
     Skip::At(p)
 }
 
-fn feeds(s: &[u8], at: usize) -> Skip
+fn feeds(s: &[u8], at: usize, noted: &mut [u32]) -> Skip
     ensures { λ r. ⌜ Tested (list 4 feedEntry) feedsGood (now (s .entry)) at r ⌝ }
+    ensures { λ r. ⌜ Unless r Skip.Broken (HeldPut (list 4 feedEntry) (λ v. v) (now (s .entry)) at
+        (now (noted .entry)) (now (noted .exit))) ⌝ }
 {
     let Numeral::Got(n, p) = number_at(s, at) else {
         return Skip::Broken;
@@ -132,12 +163,14 @@ fn feeds(s: &[u8], at: usize) -> Skip
     if 4 < n {
         return Skip::Broken;
     }
-    feeds_from(n, s, p)
+    feeds_from(n, s, p, noted)
 }
 
 // The byte 1, any version, the feeds.
-fn state(s: &[u8], at: usize) -> Skip
+fn state(s: &[u8], at: usize, noted: &mut [u32]) -> Skip
     ensures { λ r. ⌜ Tested overlay stateGood (now (s .entry)) at r ⌝ }
+    ensures { λ r. ⌜ Unless r Skip.Broken (HeldPut overlay feedsOf (now (s .entry)) at (now (noted .entry))
+        (now (noted .exit))) ⌝ }
 {
     let Skip::At(p) = formats::given(s, at, 1) else {
         return Skip::Broken;
@@ -145,18 +178,27 @@ fn state(s: &[u8], at: usize) -> Skip
     let Numeral::Got(v, q) = number_at(s, p) else {
         return Skip::Broken;
     };
-    feeds(s, q)
+    feeds(s, q, noted)
 }
 
-// QUESTION 2.
-pub fn open(s: &[u8]) -> Opened
+// QUESTION 2, and where the feeds and trips of the overlay stand, in numbers for all of them.
+pub fn open_noted(s: &[u8], noted: &mut [u32]) -> Opened
     ensures { λ r. ⌜ r ≡ ending (stateOf (now (s .entry))) ⌝ }
+    ensures { λ r. ⌜ Notes (now (s .entry)) (now (noted .entry)) (now (noted .exit)) r ⌝ }
 {
-    let Skip::At(p) = state(s, 0) else {
+    let Skip::At(p) = state(s, 0, noted) else {
         return Opened::No;
     };
     if slices::all_zero(&s[p..]) {
         return Opened::At(p);
     }
     Opened::No
+}
+
+// QUESTION 2.
+pub fn open(s: &[u8]) -> Opened
+    ensures { λ r. ⌜ r ≡ ending (stateOf (now (s .entry))) ⌝ }
+{
+    let mut none = [0u32; 1];
+    open_noted(s, &mut none)
 }

@@ -1,4 +1,1 @@
-pub mod Places
-pub mod Entries
-pub mod Feeds
 pub mod Ranks

@@ -1,3 +1,1 @@
-pub mod Noted
-pub mod Noting
 pub mod Ranks

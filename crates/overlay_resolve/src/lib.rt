@@ -6,7 +6,7 @@ use overlay_vehicle::OptionalPlace;
 ghost use Rattle.calendar.specs.Paris.{parisDigits};
 ghost use Rattle.formats_write.specs.promises.Given.{givenNumber};
 ghost use Rattle.overlay.specs.Lookup.{get-trip, find-trip-by-descriptor};
-ghost use Rattle.overlay_places.specs.promises.Noted.{Noted};
+ghost use Rattle.overlay_noted.specs.promises.Noted.{Noted};
 ghost use Rattle.overlay_resolve.specs.promises.Shown.{ShowsVehicle, ShowsAlerts, Resolves};
 ghost use Rattle.overlay_resolve.specs.promises.Shown.{inTrips, byRoute, recordFor};
 

@@ -11,7 +11,9 @@ ghost use Rattle.formats.specs.Format.{list};
 ghost use Rattle.formats_check.specs.promises.Checked.{Tested};
 ghost use Rattle.formats_check.specs.laws.Climbing.{Climbs, Entered};
 ghost use Rattle.decode.specs.Leaves.{hasByte};
+ghost use Rattle.decode.specs.Sizes.{mostTrips};
 ghost use Rattle.decode.specs.Trip.{tripEntry};
+ghost use Rattle.overlay_noted.specs.promises.Noting.{Unless, EntriesPut, TripsPut};
 ghost use Rattle.overlay_keys.specs.promises.Piece.{bytes, Inside};
 ghost use Rattle.overlay_trips.specs.promises.Trips.{entryGood, plain, isCount, tripsGood};
 
@@ -58,14 +60,28 @@ fn trip_entry(feed: &[u8], s: &[u8], at: usize) -> Entry
     Entry::No
 }
 
-// n trips of the feed one after another, ascending by key: the walk keeps the place of the last key, and the sum.
-fn trips_from(c: u64, n: u64, marked: bool, feed: &[u8], s: &[u8], at: usize) -> Skip
+// n trips of the feed one after another, ascending by key: the walk keeps the place of the last key, and the sum, and
+// notes the place of each from `base` on.
+fn trips_from(
+    c: u64,
+    n: u64,
+    marked: bool,
+    feed: &[u8],
+    s: &[u8],
+    at: usize,
+    noted: &mut [u32],
+    base: usize,
+) -> Skip
     requires { ⌜ marked ≡ hasByte 64 (now feed) ⌝ }
     requires { ⌜ at ≤ length (now s) ⌝ }
+    requires { ⌜ (base ≤ 6144) × (n ≤ mostTrips) ⌝ }
     ensures { λ r. ⌜ Climbs 137 printable (entryGood (now (feed .entry))) (plain (now (feed .entry))) (isCount c n) n
         (now (s .entry)) at r ⌝ }
+    ensures { λ r. ⌜ Unless r Skip.Broken (EntriesPut (now (s .entry)) at n base (now (noted .entry))
+        (now (noted .exit))) ⌝ }
 {
     let mut p = at;
+    let mut i = base;
     let mut left = n;
     let mut first = true;
     let mut b: usize = 0;
@@ -79,7 +95,9 @@ fn trips_from(c: u64, n: u64, marked: bool, feed: &[u8], s: &[u8], at: usize) ->
             return Skip::Broken;
         }
         m += adds(marked, feed, s, a, e);
+        overlay_noted::note(noted, i, p);
         p = q;
+        i += 1;
         first = false;
         b = a;
         d = e;
@@ -94,9 +112,12 @@ fn trips_from(c: u64, n: u64, marked: bool, feed: &[u8], s: &[u8], at: usize) ->
     Skip::Broken
 }
 
-// The trips of the feed whose count is c.
-pub fn trips(c: u64, feed: &[u8], s: &[u8], at: usize) -> Skip
+// The trips of the feed whose count is c. Their places are noted from `base` on.
+pub fn trips(c: u64, feed: &[u8], s: &[u8], at: usize, noted: &mut [u32], base: usize) -> Skip
+    requires { ⌜ base ≤ 6144 ⌝ }
     ensures { λ r. ⌜ Tested (list 2048 tripEntry) (tripsGood (now (feed .entry)) c) (now (s .entry)) at r ⌝ }
+    ensures { λ r. ⌜ Unless r Skip.Broken (TripsPut (now (s .entry)) at base (now (noted .entry))
+        (now (noted .exit))) ⌝ }
 {
     let Numeral::Got(n, p) = formats_check::number_at(s, at) else {
         return Skip::Broken;
@@ -105,5 +126,5 @@ pub fn trips(c: u64, feed: &[u8], s: &[u8], at: usize) -> Skip
         return Skip::Broken;
     }
     let marked = has_at(feed);
-    trips_from(c, n, marked, feed, s, p)
+    trips_from(c, n, marked, feed, s, p, noted, base)
 }

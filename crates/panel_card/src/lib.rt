@@ -11,14 +11,15 @@ use table::CARD;
 use table::CARD_DEPTH;
 use table::CARD_TABLE;
 ghost use mathlib.Core.Path.{_≡_};
-ghost use Prim.Native.Nat.{_<_};
+ghost use Prim.Native.Nat.{_≤_, _<_};
 ghost use lib.ListN.{length};
-ghost use Rattle.overlay_places.specs.promises.Noted.{placesLength, Noted};
+ghost use Rattle.decode.specs.Sizes.{mostOld};
+ghost use Rattle.overlay_noted.specs.promises.Noted.{placesLength, Noted};
 ghost use Rattle.alerts_apply.specs.promises.Known.{Knows};
 ghost use Rattle.journey_alerts.specs.promises.Places.{mostText, Lent};
 ghost use Rattle.formats_judge.specs.Judged.{judgeTo};
 ghost use Rattle.journey.specs.Card as form;
-ghost use Rattle.panel_card.specs.promises.Card.{cardNumber, askedNumber, LentLabels};
+ghost use Rattle.panel_card.specs.promises.Card.{cardNumber, askedNumber, AskedNotes, LentLabels};
 ghost use Rattle.panel_card.specs.promises.Card.{FinishesCard, CardEnds};
 
 // The end of a card, and the first of the questions 5 to 7 that it fails.
@@ -44,11 +45,14 @@ fn card_number(s: &[u8]) -> u32
     n
 }
 
-// The first of the questions 2 to 7 that an arriving card and the old overlay fail.
-fn asked(old: &[u8], card: &[u8]) -> u32
+// The first of the questions 2 to 7 that an arriving card and the old overlay fail. Question 2 notes the places of
+// feeds and trips.
+fn asked(old: &[u8], card: &[u8], noted: &mut [u32]) -> u32
+    requires { ⌜ (length (now old) ≤ mostOld) × (length (now noted) ≡ placesLength) ⌝ }
     ensures { λ r. ⌜ r ≡ askedNumber (now (old .entry)) (now (card .entry)) ⌝ }
+    ensures { λ r. ⌜ AskedNotes (now (old .entry)) (now (noted .exit)) r ⌝ }
 {
-    let Opened::At(end) = overlay_open::open(old) else {
+    let Opened::At(end) = overlay_open::open_noted(old, noted) else {
         return 2;
     };
     card_number(card)
@@ -121,13 +125,12 @@ pub fn card(
     requires { ⌜ LentLabels (now froms) (now tos) × (length (now noted) ≡ placesLength) ⌝ }
     ensures { λ r. ⌜ CardEnds (now (old .entry)) (now (card .entry)) (now (out .entry)) (now (out .exit)) r ⌝ }
 {
-    let number = asked(old, card);
+    let number = asked(old, card, noted);
     if number != 0 {
         return Ending::Refused(number);
     }
     // Whatever a caller left there, nothing is known of alerts yet.
     panel_output::clear32(known);
-    overlay_places::note(old, noted);
     let w = finish(
         old,
         noted,

@@ -32,7 +32,7 @@ use Rattle.overlay_ids.specs.declared.Place.{Place}
 use Rattle.overlay_ids.specs.declared.Place.the-variants as place
 use Rattle.overlay_ids.specs.promises.Ids.{LastAt}
 use Rattle.overlay_ids.specs.laws.Joined.{part, joined-short, joined-other}
-use Rattle.overlay_places.specs.promises.Noted.{countAt, FeedNoted, RankNoted}
+use Rattle.overlay_noted.specs.promises.Noted.{countAt, FeedNoted, RankNoted}
 use Rattle.overlay_seek.specs.declared.Found.{Found}
 use Rattle.overlay_seek.specs.declared.Found.the-variants.{At, Missing}
 use Rattle.overlay_seek.specs.promises.Answers.{Tests}

@@ -22,8 +22,8 @@ use Rattle.decode.specs.Trip.{Trip, tripEntry}
 use Rattle.overlay.specs.State.{Feed, tripsOf}
 use Rattle.overlay_feeds.specs.promises.Place.{Compares}
 use Rattle.overlay_feeds.specs.laws.Head.{begins}
-use Rattle.overlay_places.specs.promises.Noted.{placesLength, countAt, FeedNoted, RankNoted}
-use Rattle.overlay_places.specs.laws.Places.{trip-behind}
+use Rattle.overlay_noted.specs.promises.Noted.{placesLength, countAt, FeedNoted, RankNoted}
+use Rattle.overlay_noted.specs.laws.Places.{trip-behind}
 use Rattle.overlay_seek.specs.declared.Found.the-variants.{At, Missing}
 use Rattle.overlay_seek.specs.laws.Answers.{at-place, not-there}
 use Rattle.overlay_find.specs.promises.Finds.{Finds}

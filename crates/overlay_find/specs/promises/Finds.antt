@@ -5,7 +5,7 @@ use Prim.Native.Nat.{ℕ}
 use Rattle.decode.specs.Leaves.{Trips}
 use Rattle.decode.specs.Trip.{Trip, trip}
 use Rattle.overlay.specs.State.{Feed, tripsOf}
-use Rattle.overlay_places.specs.promises.Noted.{FeedNoted}
+use Rattle.overlay_noted.specs.promises.Noted.{FeedNoted}
 use Rattle.overlay_seek.specs.declared.Found.{Found}
 use Rattle.overlay_seek.specs.promises.Answers.{Answers}
 

@@ -1,4 +1,6 @@
 use Rattle.overlay_open.specs.laws.Feed.{counted-no, counted-over, counted-so}
+use Rattle.overlay_noted.specs.laws.Passes.{unless-no}
+use Rattle.overlay_open.specs.laws.Records.{counted-put}
 use borrow.Author.Needs.{needs}
 use Rattle.overlay_open.proofs.counted.Statement.{statement}
 use Rattle.overlay_open.proofs.counted.Tie as tie
@@ -13,16 +15,19 @@ enum-told : tie.Need-enum-told
 enum-told c = search needs
 
 returns : tie.Need-returns
-returns c = search counted-no
+returns c = (search counted-no, unless-no)
 
 returns-2 : tie.Need-returns-2
-returns-2 c = search counted-over
+returns-2 c = (search counted-over, unless-no)
 
 records-requires : tie.Need-records-requires
 records-requires c κs = search needs
 
+same-length : tie.Need-same-length
+same-length c = search needs
+
 returns-3 : tie.Need-returns-3
-returns-3 c = search counted-so
+returns-3 c = (search counted-so, search counted-put)
 
 pub counted-spec : {M : Type 1} → statement M
 counted-spec =
@@ -34,4 +39,5 @@ counted-spec =
     returns
     returns-2
     records-requires
+    same-length
     returns-3)

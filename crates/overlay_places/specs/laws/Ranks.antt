@@ -1,4 +1,4 @@
--- Law. A feed's rank among those that are noted; what question 2 says of a buffer.
+-- Law. A feed's rank among those that are noted.
 use mathlib.Core.Path.{_≡_, refl, sym, ap, _∙_}
 use mathlib.Core.Bool.{true}
 use mathlib.Core.List.{List, [], _∷_, _++_, append-assoc}
@@ -16,26 +16,15 @@ use Rattle.maps.specs.laws.Order.{texts-order, lex-same}
 use Rattle.formats_read.specs.promises.Here.{Here}
 use Rattle.formats_read.specs.laws.Here.{reads}
 use Rattle.overlay.specs.State.{State, Feed, overlay, feedsOf}
-use Rattle.overlay.specs.Image.{stateOf}
-use Rattle.overlay_open.specs.declared.Opened.{Opened}
-use Rattle.overlay_open.specs.declared.Opened.the-variants as opened
-use Rattle.overlay_open.specs.promises.Opened.{ending}
-use Rattle.overlay_open.specs.laws.Held.{open-at}
+use Rattle.overlay_noted.specs.promises.Noted.{placesLength, entryAt, FeedNoted, FeedsNoted, Noted, RankNoted}
+use Rattle.overlay_noted.specs.laws.Places.{feed-behind}
 use Rattle.overlay_feeds.specs.promises.Head.{ReadsHead}
 use Rattle.overlay_feeds.specs.promises.Place.{Compares}
 use Rattle.overlay_feeds.specs.laws.Head.{begins}
 use Rattle.overlay_feeds.specs.laws.Map.{get-past, back-ascending, get-below}
 use Rattle.overlay_places.specs.declared.FeedRank.{FeedRank}
 use Rattle.overlay_places.specs.declared.FeedRank.the-variants.{At, Missing}
-use Rattle.overlay_places.specs.promises.Noted.{placesLength, HoldsState, entryAt}
-use Rattle.overlay_places.specs.promises.Noted.{FeedNoted, FeedsNoted, Noted, RankNoted}
 use Rattle.overlay_places.specs.promises.Ranks.{RanksFeed}
-use Rattle.overlay_places.specs.laws.Places.{feed-behind}
-
--- an opened buffer
-pub open-state : {b : List ℕ} {r : Opened} {p : ℕ} → r ≡ ending (stateOf b) → r ≡ opened.At p → HoldsState b
-open-state e h =
-    let O = open-at e h in record { state = O .state; end = _; here = O .here; valid = O .valid }
 
 -- one state stands at 0
 one-read : {A : Type 0} {o : Option (A × List ℕ)} {v u : A} {x y : List ℕ} → o ≡ some (v, x) → o ≡ some (u, y) → v ≡ u

@@ -9,7 +9,7 @@ use Rattle.formats_read.specs.promises.Here.{Here}
 use Rattle.overlay.specs.State.{Feed, State, overlay, feedsOf}
 use Rattle.overlay_places.specs.declared.FeedRank.{FeedRank}
 use Rattle.overlay_places.specs.declared.FeedRank.the-variants.{At, Missing}
-use Rattle.overlay_places.specs.promises.Noted.{FeedNoted}
+use Rattle.overlay_noted.specs.promises.Noted.{FeedNoted}
 
 -- feed f of the state is noted at rank r
 pub record RankedAt (s places f : List ℕ) (st : State) (r : ℕ) : Type 0 where

@@ -17,7 +17,7 @@ use Rattle.overlay.specs.Lookup.{Found, feed-of, inFeed, get-trip, find-trip-by
 use Rattle.overlay_feeds.specs.laws.Head.{begins}
 use Rattle.overlay_places.specs.declared.FeedRank.{FeedRank}
 use Rattle.overlay_places.specs.declared.FeedRank.the-variants as rank
-use Rattle.overlay_places.specs.promises.Noted.{entryAt}
+use Rattle.overlay_noted.specs.promises.Noted.{entryAt}
 use Rattle.overlay_places.specs.promises.Ranks.{RanksFeed}
 use Rattle.overlay_seek.specs.declared.Found as seek
 use Rattle.overlay_seek.specs.declared.Found.the-variants as place

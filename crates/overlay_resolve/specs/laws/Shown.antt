@@ -15,7 +15,7 @@ use Rattle.overlay_feeds.specs.laws.Head.{begins}
 use Rattle.overlay_ids.specs.promises.Ids.{FeedEnd}
 use Rattle.overlay_places.specs.declared.FeedRank.{FeedRank}
 use Rattle.overlay_places.specs.declared.FeedRank.the-variants as rank
-use Rattle.overlay_places.specs.promises.Noted.{vehiclesAt, alertsAt}
+use Rattle.overlay_noted.specs.promises.Noted.{vehiclesAt, alertsAt}
 use Rattle.overlay_places.specs.promises.Ranks.{RankedAt, RanksFeed}
 use Rattle.overlay_seek.specs.declared.Found.the-variants as place
 use Rattle.overlay_vehicle.specs.declared.OptionalPlace.{OptionalPlace}

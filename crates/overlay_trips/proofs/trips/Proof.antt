@@ -1,5 +1,7 @@
 use Rattle.formats_check.specs.laws.Elements.{in-place}
 use Rattle.formats_check.specs.laws.Climbing.{climbs-no, climbs-many, climbs-so}
+use Rattle.overlay_noted.specs.laws.Passes.{unless-no}
+use Rattle.overlay_noted.specs.laws.Entries.{trips-put}
 use borrow.Author.Needs.{needs}
 use Rattle.overlay_trips.proofs.trips.Statement.{statement}
 use Rattle.overlay_trips.proofs.trips.Tie as tie
@@ -14,19 +16,22 @@ enum-told : tie.Need-enum-told
 enum-told c = search needs
 
 returns : tie.Need-returns
-returns c = search climbs-no
+returns c = (search climbs-no, unless-no)
 
 returns-2 : tie.Need-returns-2
-returns-2 c = search climbs-many
+returns-2 c = (search climbs-many, unless-no)
 
 has-at-requires : tie.Need-has-at-requires
 has-at-requires c κs = search needs
 
 trips-from-requires : tie.Need-trips-from-requires
-trips-from-requires c κs = (search needs, search in-place)
+trips-from-requires c κs = (search needs, (search in-place, search needs))
+
+same-length : tie.Need-same-length
+same-length c = search needs
 
 returns-3 : tie.Need-returns-3
-returns-3 c = search climbs-so
+returns-3 c = (search climbs-so, search trips-put)
 
 pub trips-spec : {M : Type 1} → statement M
 trips-spec =
@@ -39,4 +44,5 @@ trips-spec =
     returns-2
     has-at-requires
     trips-from-requires
+    same-length
     returns-3)

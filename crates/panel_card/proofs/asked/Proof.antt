@@ -1,6 +1,6 @@
 -- `asked` meets its contract.
 use borrow.Author.Needs.{needs}
-use Rattle.panel_card.specs.laws.Card.{asked-closed, asked-open}
+use Rattle.panel_card.specs.laws.Card.{asked-closed, asked-open, two-notes, asked-notes}
 use Rattle.panel_card.proofs.asked.Statement.{statement}
 use Rattle.panel_card.proofs.asked.Tie as tie
 
@@ -11,6 +11,8 @@ asked-spec =
     (λ c κs. search needs)
     (λ c. search needs)
     (λ c. search needs)
-    (λ c. search asked-closed)
+    (λ c. search needs)
+    (λ c. (search asked-closed, two-notes))
     (λ c κs. search needs)
-    (λ c. search asked-open))
+    (λ c. search needs)
+    (λ c. (search asked-open, search asked-notes)))

@@ -3,7 +3,7 @@ use mathlib.Core.Path.{_≡_, refl, sym, ap, _∙_}
 use mathlib.Core.Bool.{true, cond}
 use mathlib.Core.List.{List}
 use mathlib.Core.Option.{Option, none, some}
-use Prim.Native.Nat.{ℕ, _<_}
+use Prim.Native.Nat.{ℕ, _≤_, _<_}
 use native.Mathlib.Omega.{arith}
 use lib.Dec.{leb}
 use lib.ListN.{length, replicate}
@@ -16,6 +16,7 @@ use Rattle.formats_skip.specs.laws.Leads.{lead-field}
 use Rattle.formats_write.specs.declared.Put.{Put}
 use Rattle.formats_write.specs.declared.Put.the-variants as put
 use Rattle.formats_write.specs.laws.Adds.{wrote}
+use Rattle.decode.specs.Sizes.{mostOld}
 use Rattle.overlay.specs.State.{State, overlay}
 use Rattle.overlay.specs.Valid.{Held}
 use Rattle.overlay.specs.Image.{stateOf}
@@ -24,9 +25,9 @@ use Rattle.overlay.specs.laws.StaysValid.{kept-of}
 use Rattle.overlay.specs.laws.Within.{Judged56, right, formed-of}
 use Rattle.overlay_open.specs.declared.Opened.{Opened}
 use Rattle.overlay_open.specs.declared.Opened.the-variants.{No, At}
-use Rattle.overlay_open.specs.promises.Opened.{ending}
-use Rattle.overlay_open.specs.laws.Held.{opened-here, opened-valid, open-at, open-no, feeds-up}
-use Rattle.overlay_places.specs.promises.Noted.{HoldsState}
+use Rattle.overlay_noted.specs.promises.Noted.{placesLength}
+use Rattle.overlay_open.specs.promises.Opened.{ending, Notes}
+use Rattle.overlay_open.specs.laws.Held.{opened-here, open-at, open-no, feeds-up}
 use Rattle.alerts_apply.specs.promises.Known.{Knows}
 use Rattle.alerts_apply.specs.laws.Known.{knows-nothing}
 use Rattle.journey.specs.Card.{card}
@@ -47,7 +48,8 @@ use Rattle.panel_output.specs.declared.Ending.the-variants.{Refused}
 use Rattle.panel_output.specs.laws.Ending.{written-as}
 use Rattle.panel_output.specs.promises.Ending.{outcomeOf, endingOf}
 use Rattle.panel_questions.specs.laws.Whole.{all-read}
-use Rattle.panel_card.specs.promises.Card.{cardNumber, askedNumber, Passed, FinishesCard, CardEnds}
+use Rattle.panel_card.specs.promises.Card.{cardNumber, askedNumber, AskedNotes, Passed, FinishesCard}
+use Rattle.panel_card.specs.promises.Card.{CardEnds}
 use Rattle.panel_card.specs.laws.Number.{refused-so, passed}
 
 -- ---- what is known of the state and of the card
@@ -102,6 +104,13 @@ pub asked-open : (o c : List ℕ) {r : Opened} {p n : ℕ} → r ≡ ending (sta
     → n ≡ askedNumber o c
 asked-open o c e h i = i ∙ sym (rw (open-at e h .is) refl)
 
+pub two-notes : {o l : List ℕ} → AskedNotes o l 2
+two-notes = record { is = λ e. absurd (omega arith) }
+
+pub asked-notes : {o k l : List ℕ} {r : Opened} {p n : ℕ} → Notes o k l r → length o ≤ mostOld
+    → length k ≡ placesLength → r ≡ At p → AskedNotes o l n
+asked-notes N m k h = record { is = λ e. N .at (record { small = m; room = k }) h }
+
 -- all are answered by yes
 pub record Fine (o c : List ℕ) : Type 0 where
   pub state : State
@@ -117,16 +126,6 @@ fine o c e z = go (stateOf o) refl (sym z ∙ e)
 
 pub card-begins : {n : ℕ} (o c : List ℕ) → n ≡ askedNumber o c → n ≡ 0 → 0 < length c
 card-begins o c e z = let x = halves (card-here (fine o c e z .passes)) .first in omega (arith, x .within)
-
-pub holds-state : {n : ℕ} (o c : List ℕ) → n ≡ askedNumber o c → n ≡ 0 → HoldsState o
-holds-state o c e z =
-    let Y = fine o c e z in
-    record {
-      state = Y .state;
-      end = length (write overlay (Y .state));
-      here = opened-here o (Y .state) (Y .is);
-      valid = opened-valid o (Y .state) (Y .is);
-    }
 
 -- ---- how the call ends
 

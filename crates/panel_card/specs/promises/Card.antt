@@ -13,6 +13,7 @@ use Rattle.formats_write.specs.declared.Put.{Put}
 use Rattle.formats_write.specs.promises.Adds.{Wrote}
 use Rattle.overlay.specs.State.{State}
 use Rattle.overlay.specs.Image.{stateOf}
+use Rattle.overlay_noted.specs.promises.Noted.{Noted}
 use Rattle.journey.specs.Card.{card}
 use Rattle.journey_labels.specs.promises.Labels.{labelsLength}
 use Rattle.panel.specs.Outcome.{need, needSome}
@@ -28,6 +29,10 @@ cardNumber s = cond (leb (length s) 65536) (formed (whole card s) (verdict card)
 -- the first of the questions 2 to 7
 abbrev pub askedNumber : List ℕ → List ℕ → ℕ
 askedNumber o s = cond (isSome (stateOf o)) (cardNumber s) 2
+
+-- where the number is 0, the places of the overlay o are noted in l
+pub record AskedNotes (o l : List ℕ) (n : ℕ) : Type 0 where
+  pub is : n ≡ 0 → Noted o l
 
 -- a card that passes them
 pub record Passed (s : List ℕ) : Type 0 where

@@ -14,7 +14,7 @@ use Rattle.panel.specs.Calls as calls
 use Rattle.panel_output.specs.declared.Ending.{Ending}
 use Rattle.panel_output.specs.declared.Ending.the-variants.{Refused}
 use Rattle.panel_output.specs.promises.Ending.{Finished}
-use Rattle.overlay_places.specs.promises.Noted.{placesLength}
+use Rattle.overlay_noted.specs.promises.Noted.{placesLength}
 use Rattle.journey_alerts.specs.promises.Places.{Lent}
 use Rattle.panel_card.specs.promises.Card.{LentLabels, CardEnds}
 use Rattle.panel_card.specs.laws.Card.{card-is}

@@ -15,17 +15,9 @@ use Rattle.decode.specs.Sizes.{mostTrips, mostFeed}
 use Rattle.decode.specs.Trip.{tripEntry}
 use Rattle.alerts.specs.Alert.{alert}
 use Rattle.overlay.specs.State.{Feed, State, overlay, vehicleEntry, feedsOf, tripsOf, vehiclesOf, alertsOf}
-use Rattle.overlay.specs.Valid.{valid}
 
 abbrev pub placesLength : ℕ
 placesLength = 8208
-
--- a buffer that holds an overlay's state
-pub record HoldsState (b : List ℕ) : Type 0 where
-  pub state : State
-  pub end : ℕ
-  pub here : Here overlay b 0 end state
-  pub valid : valid state ≡ true
 
 -- of the feed at a rank: the place of its entry, the count of its trips, the places of its vehicles and its alerts
 abbrev pub entryAt : List ℕ → ℕ → ℕ

@@ -8,7 +8,7 @@ use Rattle.formats_read.specs.promises.Here.{Here}
 use Rattle.decode.specs.Leaves.{Trips}
 use Rattle.decode.specs.Trip.{Trip, tripEntry}
 use Rattle.overlay.specs.State.{Feed, tripsOf}
-use Rattle.overlay_places.specs.promises.Noted.{TripsAt, FeedNoted, FeedsNoted}
+use Rattle.overlay_noted.specs.promises.Noted.{TripsAt, FeedNoted, FeedsNoted}
 
 -- numbers that agree from j on
 module _ (s old new : List ℕ) where

@@ -1,0 +1,4 @@
+pub mod Places
+pub mod Passes
+pub mod Parts
+pub mod Entries
