@@ -10,6 +10,7 @@ use borrow.Author.Tests.{lt-ltb, le-ltb}
 use Rattle.basics.specs.Lists.{All}
 use Rattle.formats.specs.Format.{list}
 use Rattle.formats_read.specs.promises.Here.{Here}
+use Rattle.formats_skip.specs.promises.Passes.{Passes}
 use Rattle.realtime.specs.Schema.{feed}
 use Rattle.realtime_views.specs.promises.Views.{HeaderRead}
 use Rattle.realtime_views.specs.declared.Header.{Header}
@@ -34,18 +35,19 @@ use Rattle.decode_index.proofs.Entities.{whole, message-is, held-length
 
 -- ---- the index before the entities
 
-pub begun-none : {o keys marks order : List ℕ} {at : ℕ} {d : Bool} → SoundIndex keys marks order 0 → d ≡ false
-    → Begun o at d keys marks order 0
+pub begun-none : {o keys marks order : List ℕ} {at p : ℕ} {d : Bool} → SoundIndex keys marks order 0 → d ≡ false
+    → Passes (list 2048 tripEntry) o at p → Begun o at d keys marks order 0 p
 unfolding held
-begun-none S e = record { sound = S; few = omega arith; old = tt; of = λ v q h s. rw e refl }
+begun-none S e P = record { sound = S; few = omega arith; old = tt; of = λ v q h s. rw e refl; passes = P }
 
-pub begun-old : {o keys marks order : List ℕ} {at n : ℕ} {d : Bool} → Joined o at keys marks order n → d ≡ true
-    → Begun o at d keys marks order n
+pub begun-old : {o keys marks order : List ℕ} {at n p : ℕ} {d : Bool} → Joined o at keys marks order n p → d ≡ true
+    → Begun o at d keys marks order n p
 begun-old J e = record {
   sound = J .sound;
   few = J .few;
   old = J .old;
   of = λ v q h s. rw e (J .of v q h s);
+  passes = J .passes;
 }
 
 -- ---- the places of an index are fit
@@ -73,10 +75,10 @@ unfolding anyCrowded
 all-calm [] h = refl
 all-calm (e ∷ m) h = rw (h .0) (all-calm m (h .1))
 
-begun-fit : {o keys marks order : List ℕ} {at n : ℕ} {d : Bool} (s : List ℕ) → Old o at
-    → Begun o at d keys marks order n → AllFit s o (index keys marks order n)
+begun-fit : {o keys marks order : List ℕ} {at n p : ℕ} {d : Bool} (s : List ℕ) → Old o at
+    → Begun o at d keys marks order n p → AllFit s o (index keys marks order n)
 unfolding anyCrowded
-begun-fit {o} {keys} {marks} {order} {at} {n} {d} s O B =
+begun-fit {o} {keys} {marks} {order} {n = n} {d = d} s O B =
     old-fit s o (index keys marks order n) (B .old)
     (ap anyCrowded (B .of (O .stands .trips) (O .stands .end) (O .stands .here) s) ∙ go d)
   where
@@ -98,9 +100,9 @@ slots-calm s o keys marks (j ∷ l) f = (f .0 .calm, slots-calm s o keys marks l
 
 -- ---- the whole
 
-module _ {name s o keys₀ marks₀ order₀ keys marks order : List ℕ} {at n m : ℕ} {h : Header}
+module _ {name s o keys₀ marks₀ order₀ keys marks order : List ℕ} {at n p m : ℕ} {h : Header}
     (J : JudgedMessage s) (O : Old o at) (H : HeaderRead feed s h)
-    (B : Begun o at (h .differential) keys₀ marks₀ order₀ n)
+    (B : Begun o at (h .differential) keys₀ marks₀ order₀ n p)
     (I : Indexed name s (index keys₀ marks₀ order₀ n) keys marks order m) where
   flag : h .differential ≡ differential (messageTree s)
   flag = let W = whole s J in ap (λ v. v .differential) (H .of (W .message) (W .read))
@@ -113,9 +115,10 @@ module _ {name s o keys₀ marks₀ order₀ keys marks order : List ℕ} {at n 
 
   pub leaves-many : 2048 < m → Leaves name s o at keys marks order Left.ManyTrips
   leaves-many g = record {
-    sound = λ i e. absurd (let z : _≡_ {A = ℕ} 0 1 = cc in omega arith);
-    fit = λ i e. absurd (let z : _≡_ {A = ℕ} 0 1 = cc in omega arith);
-    calm = λ i e. absurd (let z : _≡_ {A = ℕ} 0 1 = cc in omega arith);
+    sound = λ e. absurd (let z : _≡_ {A = ℕ} 0 1 = cc in omega arith);
+    fit = λ e. absurd (let z : _≡_ {A = ℕ} 0 1 = cc in omega arith);
+    calm = λ e. absurd (let z : _≡_ {A = ℕ} 0 1 = cc in omega arith);
+    passes = λ e. absurd (let z : _≡_ {A = ℕ} 0 1 = cc in omega arith);
     of = λ v q k. sym (rw (lt-ltb 2048 (length (leaves name (messageTree s) (puts texts v [])))
         (rw (← left-is v q k) (I .many g o))) refl);
   }
@@ -152,20 +155,22 @@ module _ {name s o keys₀ marks₀ order₀ keys marks order : List ℕ} {at n 
 
       pub leaves-crowded : c ≡ true → Leaves name s o at keys marks order Left.ManyUpdates
       leaves-crowded t = record {
-        sound = λ i e. absurd (let z : _≡_ {A = ℕ} 0 1 = cc in omega arith);
-        fit = λ i e. absurd (let z : _≡_ {A = ℕ} 0 1 = cc in omega arith);
-        calm = λ i e. absurd (let z : _≡_ {A = ℕ} 0 1 = cc in omega arith);
+        sound = λ e. absurd (let z : _≡_ {A = ℕ} 0 1 = cc in omega arith);
+        fit = λ e. absurd (let z : _≡_ {A = ℕ} 0 1 = cc in omega arith);
+        calm = λ e. absurd (let z : _≡_ {A = ℕ} 0 1 = cc in omega arith);
+        passes = λ e. absurd (let z : _≡_ {A = ℕ} 0 1 = cc in omega arith);
         of = λ v q k. sym (rw (short v q k, crowds v q k, t) refl);
       }
 
-      pub leaves-trips : c ≡ false → Leaves name s o at keys marks order (Left.Trips m)
+      pub leaves-trips : c ≡ false → Leaves name s o at keys marks order (Left.Trips m p)
       leaves-trips t =
           let S = O .stands in
           let calm : anyCrowded (held s o (index keys marks order m)) ≡ false =
           ap anyCrowded (held-is (S .trips) (S .end) (S .here)) ∙ crowds (S .trips) (S .end) (S .here) ∙ t in
           record {
-            sound = λ i e. let z : m ≡ i = cc in rw z at (I .sound);
-            fit = λ i e. let z : m ≡ i = cc in rw z at fits;
-            calm = λ i e. let z : m ≡ i = cc in rw z at calm;
+            sound = λ {n = i} e. let z : m ≡ i = cc in rw z at (I .sound);
+            fit = λ {n = i} e. let z : m ≡ i = cc in rw z at fits;
+            calm = λ {n = i} e. let z : m ≡ i = cc in rw z at calm;
+            passes = λ {next = q} e. let z : p ≡ q = cc in rw z at (B .passes);
             of = λ v q k. ap trips (held-is v q k) ∙ sym (rw (short v q k, crowds v q k, t) refl);
           }

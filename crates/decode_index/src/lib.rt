@@ -1,5 +1,6 @@
 // The index of what a message leaves of a feed's trips: every entity's keys, in order.
 use decode::sizes::MOST_TRIPS;
+use decode_old::Passed;
 use realtime_views::Item;
 ghost use mathlib.Core.Path.{_≡_};
 ghost use Prim.Native.Nat.{_≤_};
@@ -48,12 +49,12 @@ pub fn apply_entities(
     }
 }
 
-// What a message leaves: the index in its first n slots, or more than 2,048 trips, or a record with more than 128
-// updates.
+// What a message leaves: the index in its first slots, so many, and the place past the old trips; or more than 2,048
+// trips, or a record with more than 128 updates.
 pub enum Left {
     ManyTrips,
     ManyUpdates,
-    Trips(usize),
+    Trips(usize, usize),
 }
 
 // The index before the entities: the old trips where the message says what has changed, else none.
@@ -64,16 +65,19 @@ fn begin(
     differential: bool,
     old: &[u8],
     at: usize,
-) -> usize
+) -> Passed
     requires { ⌜ Lent (now keys) (now marks) (now order) ⌝ }
     requires { ⌜ Stands (now old) at ⌝ }
     ensures { λ r. ⌜ Begun (now (old .entry)) at differential
-        (now (keys .exit)) (now (marks .exit)) (now (order .exit)) r ⌝ }
+        (now (keys .exit)) (now (marks .exit)) (now (order .exit)) (r .slots) (r .next) ⌝ }
 {
     if differential {
         return decode_old::join(keys, marks, order, old, at);
     }
-    0
+    Passed {
+        slots: 0,
+        next: decode_skip::past_trips(old, at),
+    }
 }
 
 // What a judged message leaves of a feed's trips, the old ones of which stand in `old` at `at`.
@@ -95,13 +99,13 @@ pub fn leave(
         (now (keys .exit)) (now (marks .exit)) (now (order .exit)) r ⌝ }
 {
     let h = realtime_views::header_of(s);
-    let n = begin(keys, marks, order, h.differential, old, at);
-    let m = apply_entities(keys, marks, order, n, feed, s);
+    let begun = begin(keys, marks, order, h.differential, old, at);
+    let m = apply_entities(keys, marks, order, begun.slots, feed, s);
     if m > MOST_TRIPS {
         return Left::ManyTrips;
     }
     if decode_updates::any_crowded(updates, marks, order, m, s) {
         return Left::ManyUpdates;
     }
-    Left::Trips(m)
+    Left::Trips(m, begun.next)
 }

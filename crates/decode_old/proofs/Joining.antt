@@ -18,6 +18,7 @@ use Rattle.formats_read.specs.laws.Lists.{listed}
 use Rattle.formats_read.specs.promises.Lists.{Many}
 use Rattle.formats_read.specs.promises.Reads.{ReadsNumber, ReadsText}
 use Rattle.formats_skip.specs.promises.Passes.{Passes}
+use Rattle.formats_skip.specs.laws.Passes.{Passing, list-end}
 use Rattle.formats_read.specs.laws.Walk.{At, Walk, ended, of-list}
 use Rattle.decode.specs.Trip.{Trip, trip, tripEntry}
 use Rattle.maps.specs.Map.{put}
@@ -163,12 +164,30 @@ module _ {o : List ℕ} {at c a : ℕ} (S : Stands o at) (N : ReadsNumber o at c
       let A = now-at in let j = A .joined in first-entry (A .ahead) (A .count) z (A .stand)
       (short-back (A .behind) (A .ahead) (rw j (S .short)))
 
-  pub joins : left ≤ 0 → Joined o at keys marks order n
+  -- whatever was done with the entries behind
+  passing : Passing tripEntry o a c p left
+  passing = record {
+    walk = record {
+      at = λ vs q l m.
+          let A = W .at vs q l m in
+          record {
+            behind = A .behind;
+            ahead = A .ahead;
+            joined = A .joined;
+            count = A .count;
+            stand = A .stand;
+            so = tt;
+          };
+    };
+  }
+
+  pub joins : left ≤ 0 → Joined o at keys marks order n p
   joins z = record {
     sound = sound-now;
     few = omega (arith, all (S .trips) (S .end) (S .here) .few, S .few);
     old = all (S .trips) (S .end) (S .here) .old;
     of = λ v q h. all v q h .holds;
+    passes = list-end passing N z;
   }
     where
       all : (v : Trips) (q : ℕ) → Here (list 2048 tripEntry) o at q v → Filled o keys marks order n v

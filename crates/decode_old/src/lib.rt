@@ -33,10 +33,10 @@ fn old_place(p: usize) -> u32
     (BEYOND + p) as u32
 }
 
-// How many slots are in use, and the place past the entry.
-struct Passed {
-    slots: usize,
-    next: usize,
+// How many slots are in use, and the place past what has joined.
+pub struct Passed {
+    pub slots: usize,
+    pub next: usize,
 }
 
 // The key of the entry at `at` goes into the index with the place of its record.
@@ -63,11 +63,12 @@ fn file_entry(
     Passed { slots, next }
 }
 
-// The index of the old trips that stand at `at`: how many slots are in use.
-pub fn join(keys: &mut [u8], marks: &mut [u32], order: &mut [u32], old: &[u8], at: usize) -> usize
+// The index of the old trips that stand at `at`.
+pub fn join(keys: &mut [u8], marks: &mut [u32], order: &mut [u32], old: &[u8], at: usize) -> Passed
     requires { ⌜ Lent (now keys) (now marks) (now order) ⌝ }
     requires { ⌜ Stands (now old) at ⌝ }
-    ensures { λ r. ⌜ Joined (now (old .entry)) at (now (keys .exit)) (now (marks .exit)) (now (order .exit)) r ⌝ }
+    ensures { λ r. ⌜ Joined (now (old .entry)) at (now (keys .exit)) (now (marks .exit)) (now (order .exit))
+        (r .slots) (r .next) ⌝ }
 {
     let count = formats_read::number(old, at);
     let mut p = count.next;
@@ -79,5 +80,5 @@ pub fn join(keys: &mut [u8], marks: &mut [u32], order: &mut [u32], old: &[u8], a
         p = passed.next;
         left -= 1;
     }
-    n
+    Passed { slots: n, next: p }
 }

@@ -81,10 +81,10 @@ module _ (keys marks order updates : ℕ) (feed s o : List ℕ) where
       pub answers-many-updates : r ≡ Left.ManyUpdates → refused 7 ≡ outcome (sized keys marks order updates) feed s o
       answers-many-updates g = answers-left Left.ManyUpdates g
 
-      pub answers-trips : (n : ℕ) → r ≡ Left.Trips n
+      pub answers-trips : (n : ℕ) {next : ℕ} → r ≡ Left.Trips n next
           → answered (λ n. held s o (index keys′ marks′ order′ n)) (16 + n) ≡ outcome (sized keys marks order updates)
           feed s o
-      answers-trips n g =
+      answers-trips n {next} g =
           let i : 16 + n - 16 ≡ n = omega arith in
           (λ j. cond (le-ltb (16 + n) 16 (omega arith) j) (refused (16 + n))
-          (left (held s o (index keys′ marks′ order′ (i j))))) ∙ answers-left (Left.Trips n) g
+          (left (held s o (index keys′ marks′ order′ (i j))))) ∙ answers-left (Left.Trips n next) g

@@ -450,6 +450,6 @@ pub extern "C" fn trips_index(
     match decode_index::leave(keys, marks, order, updates, feed, s, old, 0) {
         Left::ManyTrips => 7,
         Left::ManyUpdates => 7,
-        Left::Trips(n) => FOUND + n,
+        Left::Trips(n, _) => FOUND + n,
     }
 }

@@ -74,6 +74,17 @@ fn key_order(keys: &[u8], marks: &[u32], n: usize, len: usize, slot: usize) -> O
     )
 }
 
+// Where to look next: at the last key first, since keys mostly come in order, and then in the middle.
+fn probe(lo: usize, hi: usize, n: usize) -> usize
+    requires { ⌜ lo < hi ⌝ }
+    ensures { λ r. ⌜ (lo ≤ r) × (r < hi) ⌝ }
+{
+    if hi == n {
+        return hi - 1;
+    }
+    lo + (hi - lo) / 2
+}
+
 // How many keys stand before the key in slot n: found by halving.
 fn rank(keys: &[u8], marks: &[u32], order: &[u32], n: usize, len: usize) -> usize
     requires { ⌜ SoundIndex (now keys) (now marks) (now order) n ⌝ }
@@ -84,7 +95,7 @@ fn rank(keys: &[u8], marks: &[u32], order: &[u32], n: usize, len: usize) -> usiz
     let mut lo: usize = 0;
     let mut hi = n;
     while lo < hi {
-        let mid = lo + (hi - lo) / 2;
+        let mid = probe(lo, hi, n);
         let slot = word(order, mid);
         if is_more(key_order(keys, marks, n, len, slot)) {
             lo = mid + 1;

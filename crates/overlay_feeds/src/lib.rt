@@ -2,7 +2,7 @@
 use formats_write::OptionalSigned;
 use slices::Order;
 ghost use Rattle.overlay_feeds.specs.promises.Head.{ReadsHead};
-ghost use Rattle.overlay_feeds.specs.promises.Parts.{ReadsParts};
+ghost use Rattle.overlay_feeds.specs.promises.Parts.{ReadsFront, ReadsBack, ReadsParts};
 ghost use Rattle.overlay_feeds.specs.promises.Place.{Compares, FindsFeed};
 
 // The version, the place of the count of feeds, the count, and the place of the first feed.
@@ -27,7 +27,30 @@ pub fn read_head(s: &[u8]) -> Head
     }
 }
 
-// Of a feed: its timestamp, its count and the count's place, the places of its trips, vehicles and alerts, its end.
+// Of a feed: its timestamp, its count and the count's place, the place of its trips.
+pub struct Front {
+    pub timestamp: OptionalSigned,
+    pub counted: usize,
+    pub count: u64,
+    pub trips: usize,
+}
+
+// The front of the feed whose id ends at `at`.
+pub fn read_front(s: &[u8], at: usize) -> Front
+    ensures { λ r. ⌜ ReadsFront (now (s .entry)) at r ⌝ }
+{
+    let timestamp = formats_read::optional_signed(s, at);
+    let counted = formats_skip::past_optional_number(s, at);
+    let n = formats_read::number(s, counted);
+    Front {
+        timestamp,
+        counted,
+        count: n.value,
+        trips: n.next,
+    }
+}
+
+// The same, the places of its vehicles and alerts, its end.
 pub struct Parts {
     pub timestamp: OptionalSigned,
     pub counted: usize,
@@ -38,26 +61,31 @@ pub struct Parts {
     pub end: usize,
 }
 
-// The parts of the feed whose id ends at `at`.
-pub fn read_parts(s: &[u8], at: usize) -> Parts
-    ensures { λ r. ⌜ ReadsParts (now (s .entry)) at r ⌝ }
+// The parts of the feed with this front, whose trips end at `vehicles`.
+pub fn read_back(s: &[u8], front: Front, vehicles: usize) -> Parts
+    ensures { λ r. ⌜ ReadsBack (now (s .entry)) front vehicles r ⌝ }
 {
-    let timestamp = formats_read::optional_signed(s, at);
-    let counted = formats_skip::past_optional_number(s, at);
-    let n = formats_read::number(s, counted);
-    let trips = n.next;
-    let vehicles = decode_skip::past_trips(s, trips);
+    let timestamp = front.timestamp;
     let alerts = overlay_skip::past_vehicles(s, vehicles);
     let end = alerts_skip::past_alerts(s, alerts);
     Parts {
         timestamp,
-        counted,
-        count: n.value,
-        trips,
+        counted: front.counted,
+        count: front.count,
+        trips: front.trips,
         vehicles,
         alerts,
         end,
     }
+}
+
+// The parts of the feed whose id ends at `at`.
+pub fn read_parts(s: &[u8], at: usize) -> Parts
+    ensures { λ r. ⌜ ReadsParts (now (s .entry)) at r ⌝ }
+{
+    let front = read_front(s, at);
+    let vehicles = decode_skip::past_trips(s, front.trips);
+    read_back(s, front, vehicles)
 }
 
 // The order of a text and the one that stands at `at`.

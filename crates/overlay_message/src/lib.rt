@@ -4,8 +4,10 @@ use decode_index::Left;
 use formats_write::OptionalSigned;
 use formats_write::Put;
 use overlay_feeds::FeedPlace;
+use overlay_feeds::Front;
 use overlay_feeds::Parts;
 use realtime_views::Timestamp;
+ghost use mathlib.Core.Bool.{cond};
 ghost use mathlib.Core.Path.{_≡_};
 ghost use mathlib.Core.Option.{some};
 ghost use Prim.Native.Nat.{ℕ, _≤_};
@@ -176,7 +178,18 @@ fn write_state(
     overlay_frame::closing(new, w2, old, to, end)
 }
 
-// What the message s leaves of the feed at p goes into the state; or its trips pass a limit of question 7.
+// Where the state goes on behind its feed: where that ends, or, where there is none, where it goes in.
+fn behind(known: bool, stop: usize, from: usize) -> usize
+    ensures { λ r. ⌜ r ≡ cond known stop from ⌝ }
+{
+    if known {
+        return stop;
+    }
+    from
+}
+
+// What the message s leaves of the feed with this front goes into the state, where it is known or isn't there yet; or
+// its trips pass a limit of question 7.
 fn change(
     new: &mut [u8],
     keys: &mut [u8],
@@ -188,23 +201,25 @@ fn change(
     old: &[u8],
     end: usize,
     home: &[u8],
-    p: Parts,
+    front: Front,
     from: usize,
-    to: usize,
+    known: bool,
     count: u64,
 ) -> Put
     requires { ⌜ Lent (now keys) (now marks) (now order) × (length (now updates) ≡ updatesLength) ⌝ }
     requires { ⌜ (length (now feed) ≤ mostFeed) × (length (now s) ≤ mostMessage) ⌝ }
     requires { ⌜ JudgedMessage (now s) ⌝ }
-    requires { ⌜ Old (now home) (p .trips) ⌝ }
+    requires { ⌜ Old (now home) (front .trips) ⌝ }
     ensures { λ r. ⌜
         Exchanges (now (new .entry)) (now (new .exit)) r (now (feed .entry)) (now (s .entry)) (now (old .entry)) end
-        (now (home .entry)) p from to count ⌝ }
+        (now (home .entry)) front from known count ⌝ }
 {
-    match decode_index::leave(keys, marks, order, updates, feed, s, home, p.trips) {
+    match decode_index::leave(keys, marks, order, updates, feed, s, home, front.trips) {
         Left::ManyTrips => Put::Full,
         Left::ManyUpdates => Put::Full,
-        Left::Trips(n) => {
+        Left::Trips(n, vehicles) => {
+            let p = overlay_feeds::read_back(home, front, vehicles);
+            let to = behind(known, p.end, from);
             write_state(
                 new,
                 updates,
@@ -247,7 +262,7 @@ fn change_known(
     ensures { λ r. ⌜
         Leads (now (new .entry)) (now (new .exit)) r (now (feed .entry)) (now (s .entry)) (now (old .entry)) ⌝ }
 {
-    let p = overlay_feeds::read_parts(old, body);
+    let front = overlay_feeds::read_front(old, body);
     let count = overlay_feeds::read_head(old).count;
     change(
         new,
@@ -260,9 +275,9 @@ fn change_known(
         old,
         end,
         old,
-        p,
+        front,
         from,
-        p.end,
+        true,
         count,
     )
 }
@@ -291,7 +306,7 @@ fn change_new(
     if count >= MOST_FEEDS {
         return Put::Full;
     }
-    let p = overlay_feeds::read_parts(&NO_FEED, 0);
+    let front = overlay_feeds::read_front(&NO_FEED, 0);
     change(
         new,
         keys,
@@ -303,9 +318,9 @@ fn change_new(
         old,
         end,
         &NO_FEED,
-        p,
+        front,
         from,
-        from,
+        false,
         count + 1,
     )
 }

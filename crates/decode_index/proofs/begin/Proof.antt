@@ -20,8 +20,9 @@ returns c =
 
 returns-2 : tie.Need-returns-2
 returns-2 c =
-    let start = to-start-from-else1 c in
-    begun-none (sound-none (start .pre .0)) (c .if1 .left)
+    let else1 = c .before in
+    let start = to-start-from-else1 else1 in
+    begun-none (sound-none (start .pre .0)) (else1 .if1 .left) (c .past-trips .ensures)
 
 pub begin-spec : {M : Type 1} → statement M
 begin-spec =
@@ -32,4 +33,5 @@ begin-spec =
     (λ c. search needs)
     (λ c. search needs)
     returns
+    (λ c κs. search needs)
     returns-2)

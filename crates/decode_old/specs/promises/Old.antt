@@ -8,6 +8,7 @@ use Rattle.decode.specs.Sizes.{mostTrips, keyBytes, mostOld, beyond}
 use Rattle.basics.specs.Lists.{All}
 use Rattle.formats.specs.Format.{list, Value}
 use Rattle.formats_read.specs.promises.Here.{Here}
+use Rattle.formats_skip.specs.promises.Passes.{Passes}
 use Rattle.decode.specs.Trip.{trip, tripEntry}
 use Rattle.maps.specs.Map.{puts}
 use Rattle.maps.specs.Order.{texts}
@@ -32,14 +33,15 @@ pub record OldRecord (o : List ℕ) (p : Place) : Type 0 where
   pub forward : p .0 ≤ p .1
   pub here : Here trip o (p .0 - beyond) (p .1 - beyond) (oldAt o p)
 
--- THE OLD TRIPS HAVE JOINED: the index holds them, whatever the message, and nothing else. Those of a state ascend, and
--- then `puts texts v []` is v
-pub record Joined (o : List ℕ) (at : ℕ) (keys marks order : List ℕ) (r : ℕ) : Type 0 where
+-- THE OLD TRIPS HAVE JOINED: the index holds them, whatever the message, and nothing else; they end at `next`. Those of
+-- a state ascend, and then `puts texts v []` is v
+pub record Joined (o : List ℕ) (at : ℕ) (keys marks order : List ℕ) (r next : ℕ) : Type 0 where
   pub sound : SoundIndex keys marks order r
   pub few : r ≤ mostTrips
   pub old : All (λ e. OldRecord o (e .1)) (index keys marks order r)
   pub of : (v : Trips) (q : ℕ) → Here (list mostTrips tripEntry) o at q v
       → (s : List ℕ) → held s o (index keys marks order r) ≡ puts texts v []
+  pub passes : Passes (list mostTrips tripEntry) o at next
 
 -- one of them stands at p
 pub record Entry (o : List ℕ) (p : ℕ) : Type 0 where

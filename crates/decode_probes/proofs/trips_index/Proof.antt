@@ -59,8 +59,7 @@ add-result c =
     record {
       fits = omega (
         arith,
-        at-leave .leave .ensures .sound (at-n .n .given .0 .0)
-            (at-n .n .given .1) .counted,
+        at-leave .leave .ensures .sound (at-n .n .given .1) .counted,
       );
     }
 

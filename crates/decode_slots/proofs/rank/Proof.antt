@@ -1,7 +1,7 @@
 -- `decode_slots::rank`: the rank lies between `lo` and `hi`. Assumes nothing.
 use mathlib.Core.Path.{_≡_}
 use mathlib.Core.Bool.{true, false}
-use Prim.Native.Nat.{_+_, _-_, _/_, _≤_, _<_}
+use Prim.Native.Nat.{_-_, _≤_, _<_}
 use native.Mathlib.Omega.{arith}
 use lib.ListN.{getD}
 use Rattle.slices.specs.Lists.{lexOf}
@@ -37,16 +37,17 @@ loop-holds c =
 
 word-requires : tie.Need-word-requires Inv-loop μ-loop
 word-requires c κs =
-    let start = to-start (c .before) in
-    omega (arith, start .pre .0 .ordered, start .pre .0 .counted)
+    let start = to-start (c .before .before) in
+    omega (arith, c .probe .ensures, start .pre .0 .ordered, start .pre .0 .counted)
 
 key-order-requires : tie.Need-key-order-requires Inv-loop μ-loop
 key-order-requires c κs =
-    let turn = c .before .before in
-    let start = to-start turn in
+    let at-probe = c .before in
+    let start = to-start (at-probe .before .before) in
     let S = start .pre .0 in
     let a = start .args in
-    let mid = turn .loop .lo + (turn .loop .hi - turn .loop .lo) / 2 in
+    let mid = at-probe .probe .result in
+    let in-range = at-probe .probe .ensures in
     let h = slot-below (a .keys .now) (a .marks .now) (a .order .now) (a .n) S mid (omega arith) in
     let j : c .word .result < a .n = omega (arith, c .word .ensures) in
     let l = S .lengths (c .word .result) j in
@@ -54,22 +55,24 @@ key-order-requires c κs =
 
 loop-again : tie.Need-loop-again Inv-loop μ-loop
 loop-again c =
-    let turn = c .before .before .before .before .before in
-    let start = to-start turn in
+    let at-probe = c .before .before .before .before in
+    let start = to-start (at-probe .before .before) in
     let a = start .args in
     let k = keyIn (a .keys .now) (a .n) (a .len) in
-    let mid = turn .loop .lo + (turn .loop .hi - turn .loop .lo) / 2 in
+    let mid = at-probe .probe .result in
+    let in-range = at-probe .probe .ensures in
     let e : isMore (lexOf k (slotKey (a .keys .now) (a .marks .now) (getD (a .order .now) mid 0))) ≡ true = cc in
     let h = rank-more (a .keys .now) (a .marks .now) (a .order .now) (a .n) (start .pre .0) k mid (omega arith) e in
     (omega arith, omega arith, omega arith)
 
 loop-again-2 : tie.Need-loop-again-2 Inv-loop μ-loop
 loop-again-2 c =
-    let turn = c .before .before .before .before .before in
-    let start = to-start turn in
+    let at-probe = c .before .before .before .before in
+    let start = to-start (at-probe .before .before) in
     let a = start .args in
     let k = keyIn (a .keys .now) (a .n) (a .len) in
-    let mid = turn .loop .lo + (turn .loop .hi - turn .loop .lo) / 2 in
+    let mid = at-probe .probe .result in
+    let in-range = at-probe .probe .ensures in
     let e : isMore (lexOf k (slotKey (a .keys .now) (a .marks .now) (getD (a .order .now) mid 0))) ≡ false = cc in
     let h = rank-else (a .keys .now) (a .marks .now) (a .order .now) (a .n) (start .pre .0) k mid (omega arith) e in
     (omega arith, omega arith, omega arith)
@@ -81,8 +84,7 @@ rank-spec =
     Inv-loop
     μ-loop
     loop-holds
-    (λ c. omega arith)
-    (λ c. omega arith)
+    (λ c κs. omega arith)
     word-requires
     key-order-requires
     (λ c κs. omega arith)

@@ -12,19 +12,19 @@ returns c =
 
 change-requires : tie.Need-change-requires
 change-requires c κs =
-    let at-read-parts = c .before .before .before .before .before .before in
-    let start-near = at-read-parts .before .before .before .before .before .before in
+    let at-read-front = c .before .before .before .before .before .before in
+    let start-near = at-read-front .before .before .before .before .before .before in
     let start = start-near .before .before .before .before .before .before in
-    (start .pre .0, (start .pre .1 .0, (start .pre .1 .1 .0, new-old (at-read-parts .read-parts .ensures))))
+    (start .pre .0, (start .pre .1 .0, (start .pre .1 .1 .0, new-old (at-read-front .read-front .ensures))))
 
 returns-2 : tie.Need-returns-2
 returns-2 c =
     let at-change = c .before .before .before .before .before .before .before .before .before .before in
-    let at-read-parts = at-change .before .before .before .before .before .before .before in
-    let at-if1 = at-read-parts .before .before in
+    let at-read-front = at-change .before .before .before .before .before .before .before in
+    let at-if1 = at-read-front .before .before in
     let at-read-head = at-if1 .before in
     let start = at-read-head .before .before .before .before .before .before .before .before .before in
-    new-leads (start .pre .1 .1 .1) (at-read-head .read-head .ensures) (at-read-parts .read-parts .ensures)
+    new-leads (start .pre .1 .1 .1) (at-read-head .read-head .ensures) (at-read-front .read-front .ensures)
     (at-if1 .if1 .left) (at-change .change .ensures)
 
 pub change-new-spec : {M : Type 1} → statement M

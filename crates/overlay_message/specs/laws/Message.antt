@@ -1,7 +1,7 @@
 -- Law. The state after a message, by what the index says of its trips and where its feed stands.
 use Prim.Native.Nat.{ℕ, suc, _+_, _≤_, _<_}
 use mathlib.Core.Path.{_≡_, refl, sym, ap, ap₂, subst, _∙_}
-use mathlib.Core.Bool.{true, false, _&&_}
+use mathlib.Core.Bool.{Bool, true, false, cond, _&&_}
 use mathlib.Core.List.{List, [], _∷_}
 use mathlib.Core.Option.{none, some}
 use native.Mathlib.Omega.{arith}
@@ -36,9 +36,10 @@ use Rattle.decode_index.specs.promises.Leaving.{Leaves, Old, viewLeft}
 use Rattle.decode_write.specs.promises.Slots.{Writable}
 use Rattle.overlay.specs.Change.{afterMessage, feedAt, putFeed}
 use Rattle.overlay.specs.State.{Feed, State, feed, feedEntry, overlay, tripsOf, versionOf, feedsOf, noFeed, stateWith}
+use Rattle.overlay_feeds.specs.declared.Front.{Front}
 use Rattle.overlay_feeds.specs.declared.Parts.{Parts}
 use Rattle.overlay_feeds.specs.promises.Head.{ReadsHead}
-use Rattle.overlay_feeds.specs.promises.Parts.{PartsOf, ReadsParts}
+use Rattle.overlay_feeds.specs.promises.Parts.{FrontOf, PartsOf, ReadsFront, ReadsBack}
 use Rattle.overlay_feeds.specs.declared.FeedPlace.{FeedPlace}
 use Rattle.overlay_feeds.specs.promises.Place.{FindsFeed, Placed}
 use Rattle.overlay_frame.specs.promises.Frame.{Spot}
@@ -49,59 +50,63 @@ use Rattle.overlay_message.specs.laws.Sevens.{RestSeven, valid-seven, en
 
 -- ---- what the index says
 
-module _ {f s h keys marks order : List ℕ} {left : Left} (p : Parts)
+module _ {f s h keys marks order : List ℕ} {left : Left} (p : Front)
     (L : Leaves f s h (p .trips) keys marks order left) where
-  pub writable : (n : ℕ) → left ≡ Left.Trips n → Writable s h keys marks order n
-  writable n e = record { sound = L .sound n e; fit = L .fit n e; calm = L .calm n e }
+  pub writable : {n v : ℕ} → left ≡ Left.Trips n v → Writable s h keys marks order n
+  writable e = record { sound = L .sound e; fit = L .fit e; calm = L .calm e }
 
-  module _ {F : Feed} {a e : ℕ} {t : Tree} (P : PartsOf h F a e p) (up : ascending texts (tripsOf F) ≡ true)
+  module _ {F : Feed} {a e : ℕ} {t : Tree} (P : FrontOf h F a e p) (up : ascending texts (tripsOf F) ≡ true)
       (is : tree schema.feed feedMessage s ≡ some t) where
     left-is : viewLeft (λ n. held s h (index keys marks order n)) left ≡ leaving (leaves f t (tripsOf F))
     left-is =
-        L .of (tripsOf F) (p .vehicles) (P .trips-here)
+        L .of (tripsOf F) (P .till) (P .trips-here)
         ∙ ap₂ (λ m T. leaving (leaves f m T)) (ap orEnd is) (puts-itself texts-order (tripsOf F) up)
 
-    left-trips : (n : ℕ) → left ≡ Left.Trips n → leaving (leaves f t (tripsOf F)) ≡ trips
+    left-trips : {n v : ℕ} → left ≡ Left.Trips n v → leaving (leaves f t (tripsOf F)) ≡ trips
         (held s h (index keys marks order n))
-    left-trips n d = sym left-is ∙ ap (viewLeft (λ n. held s h (index keys marks order n))) d
+    left-trips d = sym left-is ∙ ap (viewLeft (λ n. held s h (index keys marks order n))) d
 
-    held-is : (n : ℕ) → left ≡ Left.Trips n → held s h (index keys marks order n) ≡ leaves f t (tripsOf F)
-    held-is n d =
+    held-is : {n v : ℕ} → left ≡ Left.Trips n v → held s h (index keys marks order n) ≡ leaves f t (tripsOf F)
+    held-is {n} d =
         let T = leaves f t (tripsOf F) in
-        let x = left-trips n d in
+        let x = left-trips d in
         let y : leaving T ≡ trips T = leaving-yes T .0 (leaving-seven T ∙ ap isTrips x) in
         let z : trips (held s h (index keys marks order n)) ≡ trips T = sym x ∙ y in
         cc
 
-  module _ {o : List ℕ} {end from to count : ℕ} {l : List ℕ} where
+  module _ {o : List ℕ} {end from count : ℕ} {known : Bool} {l : List ℕ} where
     -- a limit is passed
     too-many : (isTrips (viewLeft (λ n. held s h (index keys marks order n)) left) ≡ false)
-        → Exchanges l l Full f s o end h p from to count
+        → Exchanges l l Full f s o end h p from known count
     too-many d = record {
       of = λ {st} {F} {a} {e} {t} S P up is.
           record { no = λ b. refl; yes = λ b. false-true (sym d ∙ ap isTrips (left-is P up is) ∙ b) };
     }
 
-    pub many-trips : left ≡ Left.ManyTrips → Exchanges l l Full f s o end h p from to count
+    pub many-trips : left ≡ Left.ManyTrips → Exchanges l l Full f s o end h p from known count
     many-trips e = too-many (ap (λ x. isTrips (viewLeft (λ n. held s h (index keys marks order n)) x)) e)
 
-    pub many-updates : left ≡ Left.ManyUpdates → Exchanges l l Full f s o end h p from to count
+    pub many-updates : left ≡ Left.ManyUpdates → Exchanges l l Full f s o end h p from known count
     many-updates e = too-many (ap (λ x. isTrips (viewLeft (λ n. held s h (index keys marks order n)) x)) e)
 
     -- the trips are written
-    pub exchanged : {m : List ℕ} {r : Put} (n : ℕ) → left ≡ Left.Trips n
-        → ((st : State) (F : Feed) (a e : ℕ) (t : Tree) → Spot o end st f from to count → PartsOf h F a e p
+    pub exchanged : {m : List ℕ} {r : Put} {n v to : ℕ} {q : Parts} → left ≡ Left.Trips n v → ReadsBack h p v q
+        → to ≡ cond known (q .end) from
+        → ((st : State) (F : Feed) (a e : ℕ) (t : Tree) → Spot o end st f from to count → PartsOf h F a e q
         → tree schema.feed feedMessage s ≡ some t
         → Wrote l m r (write overlay
         (putFeed f (feedAfter f t F (held s h (index keys marks order n))) (versionOf st) st)))
-        → Exchanges l m r f s o end h p from to count
-    exchanged {m} {r} n d w = record {
+        → Exchanges l m r f s o end h p from known count
+    exchanged {m} {r} d B i w = record {
       of = λ {st} {F} {a} {e} {t} S P up is.
+          let Q = B .to P (L .passes d) in
+          let j = i ∙ ap (λ e. cond known e from) (Q .end-is) in
+          let S′ = subst (λ to. Spot o end st f from to count) (sym j) S in
           record {
-            no = λ b. false-true (sym b ∙ ap isTrips (left-trips P up is n d));
+            no = λ b. false-true (sym b ∙ ap isTrips (left-trips P up is d));
             yes = λ b.
                 subst (λ T. Wrote l m r (write overlay (putFeed f (feedAfter f t F T) (versionOf st) st)))
-                (held-is P up is n d) (w st F a e t S P is);
+                (held-is P up is d) (w st F a e t S′ Q is);
           };
     }
 
@@ -169,16 +174,16 @@ module _ {o : List ℕ} {end : ℕ} {f : List ℕ} {from body : ℕ} (K : Known 
   held-feed : HeldFeed (f, K .place .it)
   held-feed = feed-found st (K .opened .valid) f (K .place .it) (K .place .got)
 
-  module _ {p : Parts} (R : ReadsParts o body p) where
-    parts : PartsOf o (K .place .it) body (K .place .till) p
-    parts = R .to (K .place .feed-here)
+  module _ {p : Front} (R : ReadsFront o body p) where
+    front : FrontOf o (K .place .it) body (K .place .till) p
+    front = R .to (K .place .feed-here)
 
     pub known-old : Old o (p .trips)
     known-old = record {
       stands = record {
         trips = tripsOf (K .place .it);
-        end = p .vehicles;
-        here = parts .trips-here;
+        end = front .till;
+        here = front .trips-here;
         few = held-feed .tripsFew;
         short = short-keys held-feed;
         small = K .small;
@@ -192,10 +197,9 @@ module _ {o : List ℕ} {end : ℕ} {f : List ℕ} {from body : ℕ} (K : Known 
           H .to (K .opened .here) .count-is ∙ sym (ap length (K .place .joined))
           ∙ length-append (K .place .front) ((f, K .place .it) ∷ K .place .back) ∙ omega arith
 
-      abbrev known-spot : Spot o end st f from (p .end) count
+      abbrev known-spot : Spot o end st f from (K .place .till) count
       known-spot =
           let G = H .to (K .opened .here) in
-          let e = parts .end-is in
           record {
             whole = K .opened .here;
             first = first;
@@ -203,13 +207,13 @@ module _ {o : List ℕ} {end : ℕ} {f : List ℕ} {from body : ℕ} (K : Known 
             back = K .place .back;
             listed = G .feeds-here;
             before = K .place .passed first (G .feeds-here);
-            behind = rw e (K .place .ahead);
+            behind = K .place .ahead;
             puts = K .place .puts;
             many = known-count;
           }
 
       pub known-leads : {l m : List ℕ} {r : Put} {s : List ℕ}
-          → Exchanges l m r f s o end o p from (p .end) count → Leads l m r f s o
+          → Exchanges l m r f s o end o p from true count → Leads l m r f s o
       known-leads {l} {m} {r} {s} X = record {
         of = λ {st = st′} {t} e is.
             let d : st ≡ st′ = some-same (sym (K .opened .is) ∙ e) in
@@ -220,7 +224,7 @@ module _ {o : List ℕ} {end : ℕ} {f : List ℕ} {from body : ℕ} (K : Known 
             let A = after-few known-spot (feed-known f st (K .place .it) (K .place .got))
             (feed-rest f (K .place .it) (z .0))
             (y .0) (z .1) t (omega (arith, H .to (K .opened .here) .count-is, feeds-few st (K .opened .valid)))
-            (X .of known-spot parts (held-feed .tripsUp) is) in
+            (X .of known-spot front (held-feed .tripsUp) is) in
             subst (λ st. Answers (ok 7 overlay (afterMessage f t st)) l m r (write overlay (afterMessage f t st))) d A;
       }
 
@@ -232,16 +236,16 @@ nothing = 0 ∷ 0 ∷ 0 ∷ 0 ∷ 0 ∷ []
 nothing-here : Here feed nothing 0 5 noFeed
 nothing-here = whole-here feed nothing noFeed refl
 
-module _ {p : Parts} (R : ReadsParts nothing 0 p) where
-  no-parts : PartsOf nothing noFeed 0 5 p
-  no-parts = R .to nothing-here
+module _ {p : Front} (R : ReadsFront nothing 0 p) where
+  no-front : FrontOf nothing noFeed 0 5 p
+  no-front = R .to nothing-here
 
   pub new-old : Old nothing (p .trips)
   new-old = record {
     stands = record {
       trips = [];
-      end = p .vehicles;
-      here = no-parts .trips-here;
+      end = no-front .till;
+      here = no-front .trips-here;
       few = omega arith;
       short = tt;
       small = omega arith;
@@ -279,13 +283,13 @@ module _ {o : List ℕ} {end : ℕ} {f : List ℕ} {from : ℕ} (U : Unknown o e
       ends-seven (U .place .front) (U .place .back) (feedsOf su) (U .place .joined)
       (valid-seven su (U .opened .valid))
 
-  pub new-leads : {l m : List ℕ} {r : Put} {s : List ℕ} {p : Parts} → ReadsParts nothing 0 p → count < 4
-      → Exchanges l m r f s o end nothing p from from (count + 1) → Leads l m r f s o
+  pub new-leads : {l m : List ℕ} {r : Put} {s : List ℕ} {p : Front} → ReadsFront nothing 0 p → count < 4
+      → Exchanges l m r f s o end nothing p from false (count + 1) → Leads l m r f s o
   new-leads {l} {m} {r} {s} R h X = record {
     of = λ {st = st′} {t} e is.
         let d : su ≡ st′ = some-same (sym (U .opened .is) ∙ e) in
         let A = after-few new-spot (feed-new f su (U .place .got)) (refl, refl) (ends .0) (ends .1) t (omega arith)
-        (X .of new-spot (no-parts R) refl is) in
+        (X .of new-spot (no-front R) refl is) in
         subst (λ st. Answers (ok 7 overlay (afterMessage f t st)) l m r (write overlay (afterMessage f t st))) d A;
   }
 

@@ -1,7 +1,7 @@
 -- Promise. What writing a message's feed into a state answers: it passes a limit, has no room, or is written.
 use Prim.Native.Nat.{ℕ, _≤_}
 use mathlib.Core.Path.{_≡_}
-use mathlib.Core.Bool.{Bool, true, false}
+use mathlib.Core.Bool.{Bool, true, false, cond}
 use mathlib.Core.List.{List}
 use mathlib.Core.Option.{Option, some, Option·map}
 use lib.IntN.{ℤ}
@@ -25,8 +25,8 @@ use Rattle.decode_index.specs.laws.Seven.{isTrips}
 use Rattle.overlay.specs.Change.{afterMessage, putFeed}
 use Rattle.overlay.specs.Image.{stateOf}
 use Rattle.overlay.specs.State.{Feed, State, feedWith, overlay, timestampOf, tripsOf, vehiclesOf, alertsOf, versionOf}
-use Rattle.overlay_feeds.specs.declared.Parts.{Parts}
-use Rattle.overlay_feeds.specs.promises.Parts.{PartsOf}
+use Rattle.overlay_feeds.specs.declared.Front.{Front}
+use Rattle.overlay_feeds.specs.promises.Parts.{FrontOf}
 use Rattle.overlay_feeds.specs.promises.Place.{FeedAt, FeedMissing}
 use Rattle.overlay_frame.specs.promises.Frame.{Spot}
 use Rattle.overlay_open.specs.promises.Held.{Open}
@@ -45,12 +45,12 @@ pub record Answers (b : Bool) (l m : List ℕ) (r : Put) (x : List ℕ) : Type 0
   pub no : b ≡ false → r ≡ Full
   pub yes : b ≡ true → Wrote l m r x
 
--- the feed whose parts stand in h at p, with the trips that the message s leaves it, between `from` and `to` in the
--- state that stands in o up to `end`
-pub record Exchanges (l m : List ℕ) (r : Put) (f s o : List ℕ) (end : ℕ) (h : List ℕ) (p : Parts)
-    (from to count : ℕ) : Type 0 where
-  pub of : {st : State} {F : Feed} {a e : ℕ} {t : Tree} → Spot o end st f from to count → PartsOf h F a e p
-      → ascending texts (tripsOf F) ≡ true → tree schema.feed feedMessage s ≡ some t
+-- the feed whose front is p in h, with the trips that the message s leaves it, in the state that stands in o up to
+-- `end`: from `from` on, up to where it ends if it is known
+pub record Exchanges (l m : List ℕ) (r : Put) (f s o : List ℕ) (end : ℕ) (h : List ℕ) (p : Front) (from : ℕ)
+    (known : Bool) (count : ℕ) : Type 0 where
+  pub of : {st : State} {F : Feed} {a e : ℕ} {t : Tree} → Spot o end st f from (cond known e from) count
+      → FrontOf h F a e p → ascending texts (tripsOf F) ≡ true → tree schema.feed feedMessage s ≡ some t
       → Answers (isTrips (leaving (leaves f t (tripsOf F)))) l m r
       (write overlay (putFeed f (feedAfter f t F (leaves f t (tripsOf F))) (versionOf st) st))
 
