@@ -8,6 +8,7 @@ ghost use mathlib.Core.Bool.{_||_};
 ghost use Rattle.basics.specs.Lists.{any};
 ghost use Rattle.basics.specs.Texts.{same};
 ghost use Rattle.alerts.specs.Index.{idKeys};
+ghost use Rattle.alerts_ids.specs.promises.Cuts.{LastOf};
 ghost use Rattle.alerts_search.specs.promises.Ids.{meetsTrip, meetsId, meetsStop, hitsTripId, hitsStopId};
 ghost use Rattle.alerts_search.specs.promises.Ids.{hitsRouteId, answerOf, Asked};
 
@@ -21,14 +22,15 @@ pub enum Ask {
     HitsStops,
 }
 
-// Whether k is one of the keys of an id: the id, or what stands past its last ':', if there is something.
-fn key_in(k: &[u8], x: &[u8]) -> bool
+// Whether k is one of the keys of an id: the id, or what stands past its last ':', which is at c, if there is
+// something.
+fn key_in(k: &[u8], x: &[u8], c: usize) -> bool
+    requires { ⌜ LastOf 58 (now x) c ⌝ }
     ensures { λ r. ⌜ r ≡ any (same (now (k .entry))) (idKeys (now (x .entry))) ⌝ }
 {
     if slices::same(k, x) {
         return true;
     }
-    let c = last_of(x, b':');
     if x.len() <= c {
         return false;
     }
@@ -43,15 +45,16 @@ fn key_in(k: &[u8], x: &[u8]) -> bool
 fn meets_id(k: &[u8], x: &[u8]) -> bool
     ensures { λ r. ⌜ r ≡ meetsId (now (k .entry)) (now (x .entry)) ⌝ }
 {
-    if key_in(k, x) {
+    let c = last_of(x, b':');
+    if key_in(k, x, c) {
         return true;
     }
-    let c = last_of(k, b':');
-    if k.len() <= c {
+    let d = last_of(k, b':');
+    if k.len() <= d {
         return false;
     }
-    let t = c + 1;
-    key_in(&k[t..], x)
+    let t = d + 1;
+    key_in(&k[t..], x, c)
 }
 
 fn meets_stop(x: &[u8], y: &[u8], id: &[u8]) -> bool

@@ -5,8 +5,7 @@ use formats_check::Span;
 use formats_check::flag;
 use formats_check::number_at;
 use formats_check::printable_at;
-use overlay_trip::optional_delay;
-use overlay_trip::optional_number32;
+use overlay_trip::optional_word;
 ghost use mathlib.Core.List.{[], _∷_};
 ghost use Rattle.decode.specs.Key.{decimalOf};
 ghost use Rattle.overlay_keys.specs.promises.Piece.{Inside, Piece};
@@ -165,7 +164,7 @@ fn incomplete(feed: &[u8], s: &[u8], a: usize, e: usize, b: usize, d: usize) -> 
     let Span::At(x, y) = printable_at(64, s, d) else {
         return false;
     };
-    let Skip::At(z) = optional_number32(s, y) else {
+    let Skip::At(z) = optional_word(s, y) else {
         return false;
     };
     let Span::At(u, v) = printable_at(16, s, z) else {
@@ -205,7 +204,7 @@ fn longer(feed: &[u8], s: &[u8], a: usize, e: usize) -> bool
     requires { ⌜ Inside (now s) a e ⌝ }
     ensures { λ r. ⌜ Longer (now (feed .entry)) (now (s .entry)) a e r ⌝ }
 {
-    let Skip::At(p) = optional_delay(s, e) else {
+    let Skip::At(p) = optional_word(s, e) else {
         return false;
     };
     let Skip::At(q) = flag(s, p) else {

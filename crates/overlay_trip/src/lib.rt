@@ -14,9 +14,10 @@ ghost use Rattle.formats_check.specs.promises.Checked.{Checked, Fine, Tested};
 ghost use Rattle.formats_check.specs.laws.Rising.{Rises, ascend};
 ghost use Rattle.overlay_trip.specs.laws.Trip.{timeGood, routeGood, tripGood};
 
-// Any 32 bits, by how a signed number is written.
-fn delay(s: &[u8], at: usize) -> Skip
+// Any 32 bits: a delay, by how a signed number is written, or a number.
+fn word(s: &[u8], at: usize) -> Skip
     ensures { λ r. ⌜ Fine delay (now (s .entry)) at r ⌝ }
+    ensures { λ r. ⌜ Fine number32 (now (s .entry)) at r ⌝ }
 {
     let Numeral::Got(n, p) = number_at(s, at) else {
         return Skip::Broken;
@@ -42,8 +43,9 @@ pub fn instant(s: &[u8], at: usize) -> Skip
     Skip::At(p)
 }
 
-pub fn optional_delay(s: &[u8], at: usize) -> Skip
+pub fn optional_word(s: &[u8], at: usize) -> Skip
     ensures { λ r. ⌜ Fine (optional delay) (now (s .entry)) at r ⌝ }
+    ensures { λ r. ⌜ Fine (optional number32) (now (s .entry)) at r ⌝ }
 {
     if s.len() <= at {
         return Skip::Broken;
@@ -53,7 +55,7 @@ pub fn optional_delay(s: &[u8], at: usize) -> Skip
         return Skip::At(at + 1);
     }
     if c == 1 {
-        return delay(s, at + 1);
+        return word(s, at + 1);
     }
     Skip::Broken
 }
@@ -78,7 +80,7 @@ fn optional_instant(s: &[u8], at: usize) -> Skip
 fn departure(s: &[u8], at: usize) -> Skip
     ensures { λ r. ⌜ Fine (optional delay & optional instant & small 1) (now (s .entry)) at r ⌝ }
 {
-    let Skip::At(p) = optional_delay(s, at) else {
+    let Skip::At(p) = optional_word(s, at) else {
         return Skip::Broken;
     };
     let Skip::At(q) = optional_instant(s, p) else {
@@ -91,7 +93,7 @@ fn arrival(s: &[u8], at: usize) -> Skip
     ensures { λ r. ⌜ Fine (optional delay & optional instant & optional delay & optional instant & small 1)
         (now (s .entry)) at r ⌝ }
 {
-    let Skip::At(p) = optional_delay(s, at) else {
+    let Skip::At(p) = optional_word(s, at) else {
         return Skip::Broken;
     };
     let Skip::At(q) = optional_instant(s, p) else {
@@ -151,34 +153,6 @@ fn updates(s: &[u8], at: usize) -> Skip
     updates_from(n, s, p)
 }
 
-fn number32(s: &[u8], at: usize) -> Skip
-    ensures { λ r. ⌜ Fine number32 (now (s .entry)) at r ⌝ }
-{
-    let Numeral::Got(n, p) = number_at(s, at) else {
-        return Skip::Broken;
-    };
-    if 4294967295 < n {
-        return Skip::Broken;
-    }
-    Skip::At(p)
-}
-
-pub fn optional_number32(s: &[u8], at: usize) -> Skip
-    ensures { λ r. ⌜ Fine (optional number32) (now (s .entry)) at r ⌝ }
-{
-    if s.len() <= at {
-        return Skip::Broken;
-    }
-    let c = s[at];
-    if c == 0 {
-        return Skip::At(at + 1);
-    }
-    if c == 1 {
-        return number32(s, at + 1);
-    }
-    Skip::Broken
-}
-
 // The record of a trip from its start time on, from its route on, and whole.
 fn from_time(s: &[u8], at: usize) -> Skip
     ensures { λ r. ⌜ Tested (time & list 128 (number32 & stopUpdate)) timeGood (now (s .entry)) at r ⌝ }
@@ -196,7 +170,7 @@ fn from_route(s: &[u8], at: usize) -> Skip
     let Skip::At(p) = printable(64, s, at) else {
         return Skip::Broken;
     };
-    let Skip::At(q) = optional_number32(s, p) else {
+    let Skip::At(q) = optional_word(s, p) else {
         return Skip::Broken;
     };
     from_time(s, q)
@@ -205,7 +179,7 @@ fn from_route(s: &[u8], at: usize) -> Skip
 pub fn trip(s: &[u8], at: usize) -> Skip
     ensures { λ r. ⌜ Tested trip tripGood (now (s .entry)) at r ⌝ }
 {
-    let Skip::At(p) = optional_delay(s, at) else {
+    let Skip::At(p) = optional_word(s, at) else {
         return Skip::Broken;
     };
     let Skip::At(q) = flag(s, p) else {

@@ -2,11 +2,8 @@
 // keyed by it.
 use overlay_seek::Found;
 use vehicle_place::VehiclePlace;
-ghost use Rattle.decode.specs.Trip.{id};
-ghost use Rattle.overlay.specs.State.{vehicle};
-ghost use Rattle.overlay_seek.specs.promises.Answers.{Seeks};
-ghost use Rattle.overlay_vehicle.specs.promises.Vehicle.{MakesTrip, riding, keyed};
-ghost use Rattle.overlay_vehicle.specs.promises.Vehicle.{FindsVehicle, ReadsVehicle, SeesVehicle};
+ghost use Rattle.overlay_vehicle.specs.promises.Vehicle.{MakesTrip, Seen, FindsVehicle, ReadsVehicle};
+ghost use Rattle.overlay_vehicle.specs.promises.Vehicle.{SeesVehicle};
 
 pub enum OptionalPlace {
     Absent,
@@ -26,49 +23,39 @@ fn makes_trip(s: &[u8], at: usize, trip: &[u8]) -> bool
     overlay_seek::is_text(s, at + 1, trip)
 }
 
-// Of the vehicles at `at` the first that makes a trip.
-fn by_trip(s: &[u8], at: usize, trip: &[u8]) -> Found
-    ensures { λ r. ⌜ Seeks id vehicle (riding (now (trip .entry))) (now (s .entry)) at r ⌝ }
+// The first vehicle that is keyed by a trip's id, if one was seen; else the one at p, whose id ends at m, if it is.
+fn or_keyed(seen: Found, s: &[u8], p: usize, m: usize, trip: &[u8]) -> Found
+    ensures { λ r. ⌜ Seen seen (now (s .entry)) p m (now (trip .entry)) r ⌝ }
+{
+    match seen {
+        Found::At(q) => Found::At(q),
+        Found::Missing => {
+            if overlay_seek::is_text(s, p, trip) {
+                return Found::At(m);
+            }
+            Found::Missing
+        }
+    }
+}
+
+// Of the vehicles at `at` that of a trip, in one pass.
+pub fn find_vehicle(s: &[u8], at: usize, trip: &[u8]) -> Found
+    ensures { λ r. ⌜ FindsVehicle (now (s .entry)) at (now (trip .entry)) r ⌝ }
 {
     let c = formats_read::number(s, at);
     let mut p = c.next;
     let mut left = c.value;
+    let mut seen = Found::Missing;
     while 0 < left {
         let m = formats_skip::past_text(s, p);
         if makes_trip(s, m, trip) {
             return Found::At(m);
         }
+        seen = or_keyed(seen, s, p, m, trip);
         p = overlay_skip::past_vehicle(s, m);
         left -= 1;
     }
-    Found::Missing
-}
-
-// Of the vehicles at `at` the one that is keyed by a trip's id.
-fn by_key(s: &[u8], at: usize, trip: &[u8]) -> Found
-    ensures { λ r. ⌜ Seeks id vehicle (keyed (now (trip .entry))) (now (s .entry)) at r ⌝ }
-{
-    let c = formats_read::number(s, at);
-    let mut p = c.next;
-    let mut left = c.value;
-    while 0 < left {
-        if overlay_seek::is_text(s, p, trip) {
-            return Found::At(formats_skip::past_text(s, p));
-        }
-        p = overlay_skip::past_vehicle_entry(s, p);
-        left -= 1;
-    }
-    Found::Missing
-}
-
-// Of the vehicles at `at` that of a trip.
-pub fn find_vehicle(s: &[u8], at: usize, trip: &[u8]) -> Found
-    ensures { λ r. ⌜ FindsVehicle (now (s .entry)) at (now (trip .entry)) r ⌝ }
-{
-    match by_trip(s, at, trip) {
-        Found::At(p) => Found::At(p),
-        Found::Missing => by_key(s, at, trip),
-    }
+    seen
 }
 
 // The place of the vehicle at `at`.

@@ -1,8 +1,7 @@
 // How a call leaves its output: what it wrote and then zeros, or zeros alone where it is refused.
 use formats_write::Put;
 ghost use mathlib.Core.Path.{_≡_};
-ghost use Prim.Native.Nat.{_<_};
-ghost use lib.ListN.{length, set, replicate};
+ghost use lib.ListN.{length, replicate};
 ghost use Rattle.panel_output.specs.promises.Ending.{endingOf, putEnding, Cleared, Finished};
 
 // A call is refused by the question of this number, or it has written its output up to a place.
@@ -53,34 +52,13 @@ pub fn finish(out: &mut [u8], e: Ending) -> u32
     }
 }
 
-// Zero at i, written only where there is another number: memory never written stays unwritten.
-fn clear16_at(s: &mut [u16], i: usize)
-    requires { ⌜ i < length (now s) ⌝ }
-    ensures { λ _. ⌜ now (s .exit) ≡ set (now (s .entry)) i 0 ⌝ }
-{
-    if s[i] == 0 {
-        return;
-    }
-    s[i] = 0;
-}
-
-fn clear32_at(s: &mut [u32], i: usize)
-    requires { ⌜ i < length (now s) ⌝ }
-    ensures { λ _. ⌜ now (s .exit) ≡ set (now (s .entry)) i 0 ⌝ }
-{
-    if s[i] == 0 {
-        return;
-    }
-    s[i] = 0;
-}
-
 // All elements of a working slice become 0.
 pub fn clear16(s: &mut [u16])
     ensures { λ _. ⌜ now (s .exit) ≡ replicate (length (now (s .entry))) 0 ⌝ }
 {
     let mut i = 0;
     while i < s.len() {
-        clear16_at(s, i);
+        s[i] = 0;
         i += 1;
     }
 }
@@ -90,7 +68,7 @@ pub fn clear32(s: &mut [u32])
 {
     let mut i = 0;
     while i < s.len() {
-        clear32_at(s, i);
+        s[i] = 0;
         i += 1;
     }
 }

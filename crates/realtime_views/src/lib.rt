@@ -400,8 +400,7 @@ fn trip_from(d: Scalars, u: Scalars) -> Trip
 }
 
 // A number that may be absent: `given` is 0 or 1. Plain words, where an enum would be copied with the bytes between
-// its parts,
-// which takes longer than the reading.
+// its parts, which takes longer than the reading.
 pub struct Number {
     pub given: u64,
     pub value: u64,

@@ -218,15 +218,15 @@ module _ {s : List ℕ} {p : ℕ} {short mode : List ℕ} {h : Hit} {old w : Lis
   decided-told {r} {u} {new} {text} {w′} {w″} C f T = record {
     kept = T .kept ∙ C .kept;
     words = T .words ∙ C .words;
-    says = λ S. rw (C .kept) at (T .says (now S));
+    says = λ S. rw (C .kept) at (T .says (later S));
     is = λ S {a} x l.
         let room = rw (← C .kept) at (l .name) in
         go (not (is-rail-like-mode mode && road (roadBlob a))) (textFits a short) (C .is S x (l .road))
-        (T .is (now S) x room);
+        (T .is (later S) x room);
   }
     where
-      now : WordsSay (length old) s p w → WordsSay (length new) s p w′
-      now S = rw (C .kept) (C .says S)
+      later : WordsSay (length old) s p w → WordsSay (length new) s p w′
+      later S = rw (C .kept) (C .says S)
 
       go : (n g : Bool) → r ≡ n → u ≡ h .trip || h .stop || h .route && g
           → u ≡ n && (h .trip || h .stop || h .route && g)

@@ -16,8 +16,8 @@ enum-told c = search needs
 returns : tie.Need-returns
 returns c = search incomplete-route
 
-optional-number32-requires : tie.Need-optional-number32-requires
-optional-number32-requires c κs = search needs
+optional-word-requires : tie.Need-optional-word-requires
+optional-word-requires c κs = search needs
 
 enum-known-z : tie.Need-enum-known-z
 enum-known-z c = search needs
@@ -54,7 +54,7 @@ incomplete-spec =
     enum-known-x
     enum-told
     returns
-    optional-number32-requires
+    optional-word-requires
     enum-known-z
     enum-told-2
     returns-2

@@ -4,8 +4,8 @@ use borrow.Author.Needs.{needs}
 use Rattle.overlay_keys.proofs.longer.Statement.{statement}
 use Rattle.overlay_keys.proofs.longer.Tie as tie
 
-optional-delay-requires : tie.Need-optional-delay-requires
-optional-delay-requires c κs = search needs
+optional-word-requires : tie.Need-optional-word-requires
+optional-word-requires c κs = search needs
 
 enum-known-p : tie.Need-enum-known-p
 enum-known-p c = search needs
@@ -56,7 +56,7 @@ pub longer-spec : {M : Type 1} → statement M
 longer-spec =
     tie.close
     (tie.spec
-    optional-delay-requires
+    optional-word-requires
     enum-known-p
     enum-told
     returns

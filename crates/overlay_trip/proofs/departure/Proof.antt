@@ -3,8 +3,8 @@ use borrow.Author.Needs.{needs}
 use Rattle.overlay_trip.proofs.departure.Statement.{statement}
 use Rattle.overlay_trip.proofs.departure.Tie as tie
 
-optional-delay-requires : tie.Need-optional-delay-requires
-optional-delay-requires c κs = search needs
+optional-word-requires : tie.Need-optional-word-requires
+optional-word-requires c κs = search needs
 
 enum-known-p : tie.Need-enum-known-p
 enum-known-p c = search needs
@@ -37,7 +37,7 @@ pub departure-spec : {M : Type 1} → statement M
 departure-spec =
     tie.close
     (tie.spec
-    optional-delay-requires
+    optional-word-requires
     enum-known-p
     enum-told
     returns

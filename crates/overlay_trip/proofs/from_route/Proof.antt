@@ -15,8 +15,8 @@ enum-told c = search needs
 returns : tie.Need-returns
 returns c = search behind-no
 
-optional-number32-requires : tie.Need-optional-number32-requires
-optional-number32-requires c κs = search needs
+optional-word-requires : tie.Need-optional-word-requires
+optional-word-requires c κs = search needs
 
 enum-known-q : tie.Need-enum-known-q
 enum-known-q c = search needs
@@ -41,7 +41,7 @@ from-route-spec =
     enum-known-p
     enum-told
     returns
-    optional-number32-requires
+    optional-word-requires
     enum-known-q
     enum-told-2
     returns-2

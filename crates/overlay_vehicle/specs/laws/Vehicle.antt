@@ -1,6 +1,6 @@
 -- Law. A feed's vehicles sought where they stand, and one of them read.
-use mathlib.Core.Path.{_≡_, sym, ap, _∙_}
-use mathlib.Core.Bool.{Bool, true, false}
+use mathlib.Core.Path.{_≡_, refl, sym, ap, _∙_}
+use mathlib.Core.Bool.{Bool, true, false, cond}
 use mathlib.Core.List.{List}
 use Prim.Native.Nat.{ℕ, _+_, _-_, _≤_, _<_}
 use native.Mathlib.Omega.{arith}
@@ -23,12 +23,15 @@ use Rattle.overlay_seek.specs.declared.Found.the-variants.{At, Missing}
 use Rattle.overlay_seek.specs.promises.Answers.{Tests, IsText, Seeks}
 use Rattle.overlay_seek.specs.laws.Answers.{reworded, first-found, second-found}
 use Rattle.overlay_seek.specs.laws.First.{get-text}
-use Rattle.overlay_seek.specs.laws.Seek.{Seeking, seek-on, seek-hit}
+use Rattle.overlay_seek.specs.laws.Seek.{Seeking, seek-start, seek-on, seek-hit, seek-miss}
 use Rattle.vehicle_place.specs.declared.VehiclePlace.{VehiclePlace}
 use Rattle.vehicle_place.specs.promises.Place.{ReadsPlace}
 use Rattle.overlay_vehicle.specs.declared.OptionalPlace.the-variants.{Absent, Present}
-use Rattle.overlay_vehicle.specs.promises.Vehicle.{MakesTrip, riding, keyed, FindsVehicle, ReadsVehicle}
+use Rattle.overlay_vehicle.specs.promises.Vehicle.{MakesTrip, riding, keyed, Seen, FindsVehicle, ReadsVehicle}
 use Rattle.overlay_vehicle.specs.promises.Vehicle.{SeesVehicle}
+
+no-place : {q : ℕ} → _≡_ {A = Found} Missing (At q) → ⊥
+no-place e = let z : _≡_ {A = ℕ} 0 1 = cc in omega arith
 
 -- the trip id of a vehicle, which may be absent
 module _ {s : List ℕ} {p : ℕ} {x : List ℕ} where
@@ -74,23 +77,63 @@ module _ {s x : List ℕ} {p : ℕ} {r : Bool} (I : IsText s p x r) where
   keyed-told : Tests vehicleEntry (keyed x) s p r
   keyed-told = record { to = λ h. I .to (halves h .first) }
 
-  module _ {a n left m : ℕ} (S : Seeking vehicleEntry (keyed x) s a n p left) (z : 0 < left) where
-    pub keyed-hit : {at : ℕ} → r ≡ true → Passes (text 0 any) s p m → ReadsNumber s at n a
-        → Seeks id vehicle (keyed x) s at (At m)
-    keyed-hit e P N = seek-hit S N z keyed-told e (any-text P)
+  module _ {seen : Found} (j : seen ≡ Missing) {m : ℕ} where
+    pub seen-here : r ≡ true → Seen seen s p m x (At m)
+    seen-here e = record { stays = λ h. absurd (no-place (sym j ∙ h)); asks = λ h. (r, I, rw e refl) }
 
-    pub keyed-on : r ≡ false → Passes vehicleEntry s p m → Seeking vehicleEntry (keyed x) s a n m (left - 1)
-    keyed-on e Q = seek-on S z keyed-told e Q
+    pub seen-not : r ≡ false → Seen seen s p m x Missing
+    seen-not e = record { stays = λ h. absurd (no-place (sym j ∙ h)); asks = λ h. (r, I, rw e refl) }
+
+pub seen-before : {seen : Found} {s x : List ℕ} {p m q : ℕ} → seen ≡ At q → Seen seen s p m x (At q)
+seen-before j = record { stays = λ h. sym j ∙ h; asks = λ h. absurd (no-place (sym h ∙ j)) }
+
+-- n vehicles from a on: what was seen of x as a key, where `left` are left from p on
+pub record Keying (s : List ℕ) (at : ℕ) (x : List ℕ) (a n p left : ℕ) (seen : Found) : Type 0 where
+  pub none-yet : seen ≡ Missing → Seeking vehicleEntry (keyed x) s a n p left
+  pub one : {m : ℕ} → seen ≡ At m → ReadsNumber s at n a → Seeks id vehicle (keyed x) s at (At m)
+
+pub keying-start : {s : List ℕ} {at : ℕ} {x : List ℕ} {a n : ℕ} → Keying s at x a n a n Missing
+keying-start = record { none-yet = λ e. seek-start; one = λ e. absurd (no-place e) }
+
+module _ {s x : List ℕ} {at a n p left m e : ℕ} {seen r : Found} (K : Keying s at x a n p left seen) (z : 0 < left)
+    (P : Passes (text 0 any) s p m) (Q : Passes vehicle s m e) (S : Seen seen s p m x r) where
+  asked : seen ≡ Missing → (t : Bool) → IsText s p x t → r ≡ cond t (At m) Missing → Keying s at x a n e (left - 1) r
+  asked h true I i = record {
+    none-yet = λ j. absurd (no-place (sym j ∙ i));
+    one = λ j N. rw (sym i ∙ j) at (seek-hit (K .none-yet h) N z (keyed-told I) refl (any-text P));
+  }
+  asked h false I i = record {
+    none-yet = λ j. seek-on (K .none-yet h) z (keyed-told I) refl (pair (any-text P) Q);
+    one = λ j. absurd (no-place (sym i ∙ j));
+  }
+
+  pub keying-on : Keying s at x a n e (left - 1) r
+  keying-on = go seen refl
+    where
+      go : (f : Found) → seen ≡ f → Keying s at x a n e (left - 1) r
+      go Missing h = let y = S .asks h in asked h (y .0) (y .1) (y .2)
+      go (At q) h = record {
+        none-yet = λ j. absurd (no-place (sym j ∙ S .stays h));
+        one = λ j N. rw (sym (S .stays h) ∙ j) at (K .one h N);
+      }
 
 -- by the trip id, else by the key
-module _ {s x : List ℕ} {p : ℕ} {k : Found} (A : Seeks id vehicle (riding x) s p k) where
-  pub trip-found : {q : ℕ} → k ≡ At q → FindsVehicle s p x (At q)
+module _ {s x : List ℕ} {at a n p left : ℕ} (S : Seeking vehicleEntry (riding x) s a n p left)
+    (N : ReadsNumber s at n a) where
+  pub trip-found : {m : ℕ} {r : Bool} → 0 < left → Passes (text 0 any) s p m → MakesTrip s m x r → r ≡ true
+      → FindsVehicle s at x (At m)
   unfolding vehicle-for-trip
-  trip-found e = record { to = λ {vs} h. first-found _ (A .to h) e }
+  trip-found z P M e = record { to = λ {vs} h. first-found _ (riding-hit P z S M e N .to h) refl }
 
-  pub trip-missing : {r : Found} → k ≡ Missing → Seeks id vehicle (keyed x) s p r → FindsVehicle s p x r
+  pub trip-missing : {seen : Found} → left ≤ 0 → Keying s at x a n p left seen → FindsVehicle s at x seen
   unfolding vehicle-for-trip
-  trip-missing e B = record { to = λ {vs} h. second-found (A .to h) e (reworded (get-text x vs) (B .to h)) }
+  trip-missing {seen} z K = record {
+    to = λ {vs} h. second-found (seek-miss S N z .to h) refl (reworded (get-text x vs) (go seen refl .to h));
+  }
+    where
+      go : (f : Found) → seen ≡ f → Seeks id vehicle (keyed x) s at seen
+      go Missing e = rw e (seek-miss (K .none-yet e) N z)
+      go (At m) e = rw e (K .one e N)
 
 -- the place of a vehicle
 module _ {s : List ℕ} {p a b c : ℕ} {r : VehiclePlace} where

@@ -1,6 +1,6 @@
 -- Promise. The vehicle of a trip among a feed's, and its place by value.
 use mathlib.Core.Path.{_≡_}
-use mathlib.Core.Bool.{Bool}
+use mathlib.Core.Bool.{Bool, cond}
 use mathlib.Core.List.{List}
 use mathlib.Core.Option.{Option, none, some}
 use Prim.Native.Nat.{ℕ, _^_, _<_}
@@ -11,7 +11,8 @@ use Rattle.formats_read.specs.promises.Here.{Here}
 use Rattle.overlay.specs.Lookup.{vehicle-for-trip}
 use Rattle.overlay.specs.State.{Vehicle, Vehicles, vehicle, vehicleEntry, tripOf, latitudeOf, longitudeOf, updatedOf}
 use Rattle.overlay_seek.specs.declared.Found.{Found}
-use Rattle.overlay_seek.specs.promises.Answers.{Answers}
+use Rattle.overlay_seek.specs.declared.Found.the-variants.{At, Missing}
+use Rattle.overlay_seek.specs.promises.Answers.{Answers, IsText}
 use Rattle.vehicle_place.specs.declared.VehiclePlace.{VehiclePlace}
 use Rattle.vehicle_place.specs.promises.Place.{placeOf}
 use Rattle.overlay_vehicle.specs.declared.OptionalPlace.{OptionalPlace}
@@ -30,6 +31,11 @@ riding x e = makes x (e .1)
 
 abbrev pub keyed : List ℕ → List ℕ × Vehicle → Bool
 keyed x e = same (e .0) x
+
+-- what was seen of x as a key stays; else r is m, if x is the key at p
+pub record Seen (seen : Found) (s : List ℕ) (p m : ℕ) (x : List ℕ) (r : Found) : Type 0 where
+  pub stays : {q : ℕ} → seen ≡ At q → r ≡ At q
+  pub asks : seen ≡ Missing → (t : Bool) × IsText s p x t × (r ≡ cond t (At m) Missing)
 
 -- of the vehicles at p the one of trip x
 pub record FindsVehicle (s : List ℕ) (p : ℕ) (x : List ℕ) (r : Found) : Type 0 where

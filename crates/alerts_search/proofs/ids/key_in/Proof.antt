@@ -10,7 +10,6 @@ key-in-spec =
     (tie.spec
     (λ c κs. search needs)
     (λ c. search (key-same))
-    (λ c κs. search needs)
     (λ c. search (key-whole))
     (λ c. search needs)
     (λ c. search (key-empty))

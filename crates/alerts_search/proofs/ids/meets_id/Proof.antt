@@ -9,6 +9,7 @@ meets-id-spec =
     tie.close
     (tie.spec
     (λ c κs. search needs)
+    (λ c κs. search needs)
     (λ c. search (id-whole))
     (λ c κs. search needs)
     (λ c. search (id-no-tail))
