@@ -6,6 +6,7 @@
 mod calls;
 mod card;
 mod form;
+mod large;
 mod overlay;
 mod panel;
 mod paris;

@@ -1,5 +1,6 @@
 //! Cards and raw records as a person reads them, in the words of the program `ride`.
 use crate::card::{Card, Leg, MiddleStop, Status, Transit};
+use crate::large::large;
 use crate::paris::time_of_day;
 use crate::report::Report;
 use crate::sheets::{Alert, Vehicle};
@@ -35,10 +36,28 @@ impl Display for Status {
     }
 }
 
+/// In minutes where they are whole.
+fn delay(seconds: i64) -> String {
+    let length = match seconds.unsigned_abs() {
+        whole if whole % 60 == 0 => format!("{} min", whole / 60),
+        other => format!("{other} s"),
+    };
+    match seconds {
+        0 => " (on time)".into(),
+        1.. => format!(" ({length} late)"),
+        _ => format!(" ({length} early)"),
+    }
+}
+
+/// `{:#}` has the status in large.
 impl Display for Card {
     fn fmt(&self, f: &mut Formatter) -> Result {
+        match f.alternate() {
+            true => write!(f, "{}", large(&self.status.to_string()))?,
+            false => write!(f, "  [ {} ]", self.status)?,
+        }
         let (from, to) = (time_of_day(self.departure), time_of_day(self.arrival));
-        writeln!(f, "  [ {} ]  {from} - {to}, {} min", self.status, self.duration / 60)?;
+        writeln!(f, "  {from} - {to}, {} min", self.duration / 60)?;
         self.headers.iter().try_for_each(|header| writeln!(f, "  ! {}", clean(header)))?;
         self.legs.iter().try_for_each(|leg| write!(f, "{leg}"))
     }
@@ -64,17 +83,33 @@ impl Display for Transit {
         named(f, " to ", given(&self.to))?;
         named(f, "\n    scheduled ", Some(time_of_day(self.scheduled_departure)))?;
         named(f, " - ", Some(time_of_day(self.scheduled_arrival)))?;
-        named(f, "\n    expected  ", self.realtime_departure.map(time_of_day))?;
-        named(f, " - ", self.realtime_arrival.map(time_of_day))?;
-        named(f, "", self.departure_delay.map(|delay| format!(" (late {delay} s)")))?;
-        named(f, "", self.arrival_delay.map(|delay| format!(" (late {delay} s)")))?;
-        named(f, "\n    ", self.cancelled.then_some("CANCELLED"))?;
-        named(f, "\n    the train is at ", self.latitude.map(degrees))?;
+        expected(f, self)?;
+        named(f, "\n    the vehicle is at ", self.latitude.map(degrees))?;
         named(f, ", ", self.longitude.map(degrees))?;
         named(f, ", seen ", self.updated.map(time_of_day))?;
         writeln!(f)?;
-        self.middle_stops.iter().try_for_each(|stop| write!(f, "{stop}"))
+        self.middle_stops.iter().try_for_each(|stop| match self.cancelled {
+            true => write!(f, "{}", missed(stop)),
+            false => write!(f, "{stop}"),
+        })
     }
+}
+
+/// The two expected times, each with its delay. A train that is cancelled is expected nowhere, whatever they say.
+fn expected(f: &mut Formatter, leg: &Transit) -> Result {
+    if leg.cancelled {
+        return write!(f, "\n    CANCELLED");
+    }
+    named(f, "\n    expected", leg.realtime_departure.or(leg.realtime_arrival).map(|_| " "))?;
+    named(f, " ", leg.realtime_departure.map(time_of_day))?;
+    named(f, "", leg.departure_delay.map(delay))?;
+    named(f, " - ", leg.realtime_arrival.map(time_of_day))?;
+    named(f, "", leg.arrival_delay.map(delay))
+}
+
+/// A stop to which no train comes.
+fn missed(stop: &MiddleStop) -> MiddleStop {
+    MiddleStop { realtime_arrival: None, realtime_departure: None, ..stop.clone() }
 }
 
 impl Display for MiddleStop {

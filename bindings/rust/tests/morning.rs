@@ -40,7 +40,7 @@ fn step(panel: &mut Panel, words: &mut std::str::Lines) -> Option<String> {
         }
         "card" => {
             let before = Card::decode(&file(next())).unwrap();
-            format!("card: accepted\nbefore:\n{before}now:\n{}", panel.card(&before).unwrap())
+            format!("card: accepted\nbefore:\n{before}now:\n{:#}", panel.card(&before).unwrap())
         }
         "records" => format!("records\n{}", panel.state().unwrap()),
         _ => panic!("no step {call}"),

@@ -1,13 +1,14 @@
 // A card as it stands on a panel: status, times, notices, and each leg.
+use crate::large::say_large;
 use crate::parts::clock;
-use crate::parts::flag;
 use crate::parts::named;
 use crate::parts::optional_clock;
 use crate::parts::optional_degrees;
 use crate::parts::optional_number;
-use crate::parts::optional_signed;
 use crate::parts::past;
+use crate::parts::past_optional;
 use crate::parts::say;
+use crate::parts::say_delay;
 use crate::parts::say_number;
 use crate::parts::set;
 use crate::parts::text;
@@ -18,26 +19,37 @@ const NOTICE: u8 = 0;
 
 const MIDDLE: u8 = 1;
 
-fn say_status(n: u64) {
-    match n {
-        0 => say(b"SCHEDULED"),
-        1 => say(b"ON TIME"),
-        2 => say(b"DISRUPTED"),
-        3 => say(b"DELAYED"),
-        4 => say(b"CANCELLED"),
-        _ => say(b"?"),
+const MISSED: u8 = 2; // a middle stop to which no train comes
+
+// A status as a headline, or in a line.
+fn headline(large: bool, text: &[u8]) {
+    if large {
+        say_large(text);
+    } else {
+        say(b"  [ ");
+        say(text);
+        say(b" ]");
     }
 }
 
-// The delay at `at`, in seconds, where it is there.
-fn delay(s: &[u8], at: usize) -> usize {
-    if set(s, at) {
-        say(b" (late ");
-        let p = optional_signed(s, at, b"");
-        say(b" s)");
-        return p;
+fn say_status(large: bool, n: u64) {
+    match n {
+        0 => headline(large, b"SCHEDULED"),
+        1 => headline(large, b"ON TIME"),
+        2 => headline(large, b"DISRUPTED"),
+        3 => headline(large, b"DELAYED"),
+        4 => headline(large, b"CANCELLED"),
+        _ => headline(large, b"?"),
     }
-    past(s, at)
+}
+
+// The delay at `at`, where it is there.
+fn delay(s: &[u8], at: usize) {
+    if set(s, at) {
+        say(b" (");
+        say_delay(formats_read::number(s, past(s, at)).value);
+        say(b")");
+    }
 }
 
 fn notice(s: &[u8], at: usize) -> usize {
@@ -47,23 +59,36 @@ fn notice(s: &[u8], at: usize) -> usize {
     p
 }
 
-// A middle stop: both scheduled times, and those that are expected.
-fn middle(s: &[u8], at: usize) -> usize {
+// A middle stop with both scheduled times.
+fn stop(s: &[u8], at: usize) -> usize {
     say(b"      by ");
     let p = text(s, at);
     let q = clock(s, p, b" ");
-    let r = clock(s, q, b" - ");
-    let u = optional_clock(s, r, b", expected ");
-    let v = optional_clock(s, u, b" to ");
+    clock(s, q, b" - ")
+}
+
+// With those that are expected.
+fn middle(s: &[u8], at: usize) -> usize {
+    let p = stop(s, at);
+    let q = optional_clock(s, p, b", expected ");
+    let r = optional_clock(s, q, b" to ");
     say(b"\n");
-    v
+    r
+}
+
+// Of a train that is cancelled nothing is expected.
+fn missed(s: &[u8], at: usize) -> usize {
+    let p = stop(s, at);
+    say(b"\n");
+    past_optional(s, past_optional(s, p))
 }
 
 fn leaf(kind: u8, s: &[u8], at: usize) -> usize {
-    if kind == NOTICE {
-        return notice(s, at);
+    match kind {
+        NOTICE => notice(s, at),
+        MIDDLE => middle(s, at),
+        _ => missed(s, at),
     }
-    middle(s, at)
 }
 
 fn leaves(kind: u8, s: &[u8], at: usize) -> usize {
@@ -88,6 +113,23 @@ fn route(s: &[u8], at: usize) -> usize {
     named(s, w, b" to ")
 }
 
+// The two expected times, each with its delay. A train that is cancelled is expected nowhere, whatever they say.
+fn expected(s: &[u8], at: usize, cancelled: bool) {
+    if cancelled {
+        say(b"\n    CANCELLED");
+    } else {
+        let arrival = past_optional(s, at);
+        let departure_delay = past_optional(s, arrival);
+        if set(s, at) || set(s, arrival) {
+            say(b"\n    expected ");
+        }
+        optional_clock(s, at, b" ");
+        delay(s, departure_delay);
+        optional_clock(s, arrival, b" - ");
+        delay(s, past_optional(s, departure_delay));
+    }
+}
+
 // A transit leg: line and stops; scheduled and expected times with delays; cancelled; the vehicle; middle stops.
 fn transit(s: &[u8], at: usize) -> usize {
     say(b"  ");
@@ -96,17 +138,16 @@ fn transit(s: &[u8], at: usize) -> usize {
     let b = formats_read::number(s, a).next;
     let c = clock(s, b, b"\n    scheduled ");
     let d = clock(s, c, b" - ");
-    let e = optional_clock(s, d, b"\n    expected  ");
-    let f = optional_clock(s, e, b" - ");
-    let g = delay(s, f);
-    let h = delay(s, g);
-    let i = flag(s, h, b"\n    CANCELLED");
-    let j = optional_degrees(s, i, b"\n    the train is at ");
-    let k = optional_degrees(s, j, b", ");
-    let l = optional_clock(s, k, b", seen ");
+    let e = past_optional(s, past_optional(s, d));
+    let f = past_optional(s, past_optional(s, e));
+    let cancelled = set(s, f);
+    expected(s, d, cancelled);
+    let g = optional_degrees(s, past(s, f), b"\n    the vehicle is at ");
+    let h = optional_degrees(s, g, b", ");
+    let i = optional_clock(s, h, b", seen ");
     say(b"\n");
-    let m = leaves(MIDDLE, s, l);
-    formats_read::text(s, m).to
+    let j = leaves(if cancelled { MISSED } else { MIDDLE }, s, i);
+    formats_read::text(s, j).to
 }
 
 fn leg(s: &[u8], at: usize) -> usize {
@@ -129,15 +170,13 @@ fn legs(s: &[u8], at: usize) -> usize {
     p
 }
 
-// The card that stands at the start of s.
-pub fn card(s: &[u8]) {
+// The card that stands at the start of s, with its status in large or not.
+pub fn card(s: &[u8], large: bool) {
     let departure: Numbered = formats_read::number(s, past(s, 0));
     let arrival: Numbered = formats_read::number(s, departure.next);
     let duration: Numbered = formats_read::number(s, arrival.next);
     let status: Numbered = formats_read::number(s, duration.next);
-    say(b"  [ ");
-    say_status(status.value);
-    say(b" ]");
+    say_status(large, status.value);
     let p = clock(s, past(s, 0), b"  ");
     clock(s, p, b" - ");
     say(b", ");

@@ -45,6 +45,30 @@ pub fn say_clock(code: u64) {
     }
 }
 
+// How long something takes: in minutes where they are whole.
+fn say_seconds(n: u64) {
+    if n % 60 == 0 {
+        say_number(n / 60);
+        say(b" min");
+    } else {
+        say_number(n);
+        say(b" s");
+    }
+}
+
+// A delay, by how its seconds are written.
+pub fn say_delay(code: u64) {
+    if code == 0 {
+        say(b"on time");
+    } else if code % 2 == 0 {
+        say_seconds(code / 2);
+        say(b" late");
+    } else {
+        say_seconds(code / 2 + 1);
+        say(b" early");
+    }
+}
+
 // The bytes of a text.
 pub fn text(s: &[u8], at: usize) -> usize {
     let t: Span = formats_read::text(s, at);
@@ -91,6 +115,15 @@ pub fn clock(s: &[u8], at: usize, name: &[u8]) -> usize {
     say(name);
     say_clock(n.value);
     n.next
+}
+
+// The place past a number that may be absent.
+pub fn past_optional(s: &[u8], at: usize) -> usize {
+    let p = past(s, at);
+    if set(s, at) {
+        return formats_read::number(s, p).next;
+    }
+    p
 }
 
 // The same where it is there.

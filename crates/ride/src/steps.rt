@@ -163,7 +163,7 @@ fn card_call(old: &[u8], s: &[u8], out: &mut [u8]) -> u32 {
     )
 }
 
-// A card is shown as it arrives and as it is finished.
+// A card is shown as it arrives, and as it is finished with its status in large.
 fn card(at: usize, old: &[u8]) -> Turn {
     let next = later(at, 2);
     let mut file = memory::file();
@@ -177,9 +177,9 @@ fn card(at: usize, old: &[u8]) -> Turn {
     tell(b"card", b"", number);
     if number == 0 {
         say(b"before:\n");
-        panel_show::card::card(&file[..n]);
+        panel_show::card::card(&file[..n], false);
         say(b"now:\n");
-        panel_show::card::card(&out);
+        panel_show::card::card(&out, true);
     }
     Turn { wrote: false, next }
 }

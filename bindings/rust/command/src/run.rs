@@ -4,7 +4,7 @@ use crate::fault::{answer, Fault};
 use crate::store::Store;
 use crate::{input, json, panel};
 use mipsuqal::{AlertSheet, Card, Form, Panel, Refusal, VehicleSheet};
-use std::io::Write;
+use std::io::{IsTerminal, Write};
 use std::path::Path;
 
 pub fn run(asked: &Asked) -> Result<(), Fault> {
@@ -83,7 +83,9 @@ fn card(asked: &Asked, file: &Path) -> Result<(), Fault> {
         return print(&finished);
     }
     let card = Card::decode(&finished).expect("a finished card has its form");
-    show(asked, &card, &card.to_string())
+    // A person looks at a terminal, and a program at what it is piped into.
+    let words = if std::io::stdout().is_terminal() { format!("{card:#}") } else { card.to_string() };
+    show(asked, &card, &words)
 }
 
 fn records(asked: &Asked, trip: &str) -> Result<(), Fault> {

@@ -14,13 +14,19 @@ struct Ride {
 
 impl Ride {
     fn start(name: &str) -> Ride {
+        Ride::with(name, &[], |at| vec!["panel".into(), at.path("in"), "--clock".into(), CLOCK.into()])
+    }
+
+    /// The command in a terminal: behind `before`, with the words after it.
+    fn with(name: &str, before: &[&str], after: impl Fn(&Scratch) -> Vec<String>) -> Ride {
         let at = Scratch::new(name);
         fs::create_dir(at.0.join("in")).unwrap();
         let ride = Ride { socket: format!("mipsuqal-{name}-{}", std::process::id()), at };
-        let panel =
-            [env!("CARGO_BIN_EXE_mipsuqal"), "--state", &ride.at.path("state"), "panel", &ride.at.path("in")];
-        let words =
-            [&["new-session", "-d", "-x", "80", "-y", "40", "--"], &panel[..], &["--clock", CLOCK]].concat();
+        let (state, after) = (ride.at.path("state"), after(&ride.at));
+        let mut words = vec!["new-session", "-d", "-x", "80", "-y", "40", "--"];
+        words.extend(before);
+        words.extend([env!("CARGO_BIN_EXE_mipsuqal"), "--state", &state]);
+        words.extend(after.iter().map(String::as_str));
         ride.tmux(&words);
         ride
     }
@@ -76,6 +82,14 @@ impl Drop for Ride {
 }
 
 #[test]
+fn a_card_in_a_terminal_has_its_status_in_large() {
+    let stays = ["sh", "-c", "\"$@\"; sleep 30", "sh"];
+    let ride = Ride::with("large", &stays, |_| vec!["card".into(), morning("journey.card")]);
+    ride.sees("   ####  #### #   # ##### ####  #   # #     ##### ####\n");
+    ride.sees("\n  07:02:00 - 08:26:00, 84 min\n");
+}
+
+#[test]
 fn a_ride() {
     let ride = Ride::start("ride");
     ride.sees("no card yet");
@@ -96,7 +110,7 @@ fn a_ride() {
     ride.keys(&["m"]);
     ride.sees("by city:CIT 08:06:00");
     ride.keys(&["t"]);
-    ride.sees("the train is at 49.16690, 2.42170");
+    ride.sees("the vehicle is at 49.16690, 2.42170");
     ride.keys(&["M", "t", "t"]);
     let records = ride.sees("raw records behind north:H-1207");
     assert!(records.contains("1 stop LUZ, departure late 240, departure at 1794809640"), "{records}");
