@@ -17,6 +17,8 @@ pub mod guarded;
 pub mod host;
 pub mod largest;
 pub mod layout;
+#[cfg(feature = "port")]
+pub mod lent;
 pub mod literal;
 pub mod messages;
 pub mod panel;

@@ -1,190 +1,8 @@
 //! The port's compiled calls on states.
 use crate::layout::{used, zeros};
+use crate::lent::{self, exported, feed, for_tests, Calls, Slice};
 use crate::panel::Call;
-use crate::turns::{Turn, CARD, CARD_WORK, MESSAGE_WORK, REPORT};
-
-/// The calls of a library, each with its name there.
-macro_rules! library {
-    (
-        $(#[$about:meta])* $name:ident: $fresh:ident, $message:ident, $alert_sheet:ident, $vehicle_sheet:ident,
-        $card:ident, $report:ident
-    ) => {
-        extern "C" {
-            fn $fresh(new: *mut u8, new_length: usize) -> u32;
-            fn $message(
-                old: *const u8,
-                old_length: usize,
-                feed: *const u8,
-                feed_length: usize,
-                message: *const u8,
-                length: usize,
-                new: *mut u8,
-                new_length: usize,
-                keys: *mut u8,
-                keys_length: usize,
-                marks: *mut u32,
-                marks_length: usize,
-                order: *mut u32,
-                order_length: usize,
-                updates: *mut u32,
-                updates_length: usize,
-            ) -> u32;
-            fn $alert_sheet(
-                old: *const u8,
-                old_length: usize,
-                feed: *const u8,
-                feed_length: usize,
-                sheet: *const u8,
-                length: usize,
-                new: *mut u8,
-                new_length: usize,
-            ) -> u32;
-            fn $vehicle_sheet(
-                old: *const u8,
-                old_length: usize,
-                feed: *const u8,
-                feed_length: usize,
-                sheet: *const u8,
-                length: usize,
-                clock: i64,
-                new: *mut u8,
-                new_length: usize,
-            ) -> u32;
-            fn $card(
-                old: *const u8,
-                old_length: usize,
-                card: *const u8,
-                length: usize,
-                out: *mut u8,
-                out_length: usize,
-                candidates: *mut u16,
-                candidates_length: usize,
-                met: *mut u16,
-                met_length: usize,
-                text: *mut u8,
-                text_length: usize,
-                froms: *mut u32,
-                froms_length: usize,
-                tos: *mut u32,
-                tos_length: usize,
-                places: *mut u32,
-                places_length: usize,
-                noted: *mut u32,
-                noted_length: usize,
-                known: *mut u32,
-                known_length: usize,
-            ) -> u32;
-            fn $report(
-                old: *const u8,
-                old_length: usize,
-                feed: *const u8,
-                feed_length: usize,
-                out: *mut u8,
-                out_length: usize,
-            ) -> u32;
-        }
-
-        $(#[$about])*
-        fn $name(call: &Call, old: &[u8], new: &mut [u8], lent: &mut Lent) -> u32 {
-            let Lent { card: finished, report, message_work, card_work } = lent;
-            let (from, length) = (old.as_ptr(), old.len());
-            let (to, room) = (new.as_mut_ptr(), new.len());
-            unsafe {
-                match call {
-                    Call::Fresh => $fresh(to, room),
-                    Call::Message { feed, message } => {
-                        let MessageWork { keys, marks, order, updates } = message_work;
-                        $message(
-                            from,
-                            length,
-                            feed.as_ptr(),
-                            feed.len(),
-                            message.as_ptr(),
-                            message.len(),
-                            to,
-                            room,
-                            keys.as_mut_ptr(),
-                            keys.len(),
-                            marks.as_mut_ptr(),
-                            marks.len(),
-                            order.as_mut_ptr(),
-                            order.len(),
-                            updates.as_mut_ptr(),
-                            updates.len(),
-                        )
-                    }
-                    Call::AlertSheet { feed, sheet } => $alert_sheet(
-                        from,
-                        length,
-                        feed.as_ptr(),
-                        feed.len(),
-                        sheet.as_ptr(),
-                        sheet.len(),
-                        to,
-                        room,
-                    ),
-                    Call::VehicleSheet { feed, sheet, clock } => $vehicle_sheet(
-                        from,
-                        length,
-                        feed.as_ptr(),
-                        feed.len(),
-                        sheet.as_ptr(),
-                        sheet.len(),
-                        *clock,
-                        to,
-                        room,
-                    ),
-                    Call::Card { card } => {
-                        let CardWork { candidates, met, text, froms, tos, places, noted, known } = card_work;
-                        $card(
-                            from,
-                            length,
-                            card.as_ptr(),
-                            card.len(),
-                            finished.as_mut_ptr(),
-                            finished.len(),
-                            candidates.as_mut_ptr(),
-                            candidates.len(),
-                            met.as_mut_ptr(),
-                            met.len(),
-                            text.as_mut_ptr(),
-                            text.len(),
-                            froms.as_mut_ptr(),
-                            froms.len(),
-                            tos.as_mut_ptr(),
-                            tos.len(),
-                            places.as_mut_ptr(),
-                            places.len(),
-                            noted.as_mut_ptr(),
-                            noted.len(),
-                            known.as_mut_ptr(),
-                            known.len(),
-                        )
-                    }
-                    Call::Report { feed } => $report(
-                        from,
-                        length,
-                        feed.as_ptr(),
-                        feed.len(),
-                        report.as_mut_ptr(),
-                        report.len(),
-                    ),
-                }
-            }
-        }
-    };
-}
-
-library!(
-    /// The calls for tests, over overlays of any length.
-    of_any_length: states_fresh, states_message, states_alert_sheet, states_vehicle_sheet, states_card, states_report
-);
-
-library!(
-    /// The panel's own calls, over overlays of the published length.
-    of_published_length: mipsuqal_fresh, mipsuqal_message, mipsuqal_alert_sheet, mipsuqal_vehicle_sheet, mipsuqal_card,
-    mipsuqal_report
-);
+use crate::turns::{input, Turn, CARD, CARD_WORK, MESSAGE_WORK, REPORT};
 
 extern "C" {
     fn states_open(buffer: *const u8, length: usize) -> usize;
@@ -202,6 +20,7 @@ pub trait Buffer {
     fn spoil(&mut self);
     fn is_zeros(&self) -> bool;
     fn lengthen(&mut self, by: isize);
+    fn lend(&mut self) -> Slice;
 }
 
 /// A longer buffer is a long one.
@@ -227,6 +46,10 @@ macro_rules! buffers {
 
             fn lengthen(&mut self, by: isize) {
                 self.resize(self.len().wrapping_add_signed(by), 0);
+            }
+
+            fn lend(&mut self) -> Slice {
+                Slice { start: self.as_mut_ptr().cast(), length: self.len() }
             }
         })*
     };
@@ -287,8 +110,6 @@ impl Default for Lent {
     }
 }
 
-type Library = fn(&Call, &[u8], &mut [u8], &mut Lent) -> u32;
-
 /// What befalls a call's buffers and number after it: for faults that a comparison has to find.
 pub type Fault = fn(&mut States, &Call, u32) -> u32;
 
@@ -298,7 +119,7 @@ pub struct States {
     /// Which of the two is the overlay that the last accepted writing call left.
     left: usize,
     pub lent: Lent,
-    library: Library,
+    calls: Calls,
     pub fault: Option<Fault>,
 }
 
@@ -306,12 +127,12 @@ impl States {
     /// Overlays of so many bytes, no one of them made yet. Memory that no call writes stays unwritten.
     pub fn of(length: usize) -> Self {
         let overlays = [vec![0; length], vec![0; length]];
-        States { overlays, left: 0, lent: Lent::default(), library: of_any_length, fault: None }
+        States { overlays, left: 0, lent: Lent::default(), calls: for_tests, fault: None }
     }
 
     /// Overlays of so many bytes for the panel's own calls.
     pub fn of_panel(length: usize) -> Self {
-        States { library: of_published_length, ..States::of(length) }
+        States { calls: exported, ..States::of(length) }
     }
 
     /// Other overlays, of so many bytes.
@@ -336,9 +157,14 @@ impl States {
 
     /// A call, whatever the buffers hold.
     pub fn call(&mut self, call: &Call) -> u32 {
-        let States { overlays: [one, other], left, lent, library, .. } = self;
-        let (old, new) = if *left == 0 { (one, other) } else { (other, one) };
-        let number = library(call, old, new, lent);
+        let read = |bytes: &[u8]| Slice { start: bytes.as_ptr().cast_mut(), length: bytes.len() };
+        let lent = lent::Lent {
+            old: read(self.overlay()),
+            feed: read(feed(call)),
+            input: read(input(call)),
+            written: self.buffers(call).into_iter().map(Buffer::lend).collect(),
+        };
+        let number = unsafe { (self.calls)(call, &lent) };
         let number = self.fault.map_or(number, |fault| fault(self, call, number));
         if number == 0 && writes(call) {
             self.left = 1 - self.left;

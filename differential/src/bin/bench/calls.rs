@@ -13,6 +13,9 @@ use differential::turns::{input, OVERLAY};
 use std::hint::black_box;
 
 const MIB: usize = 1 << 20;
+/// Overlays hardly longer than what is in use: passes over zeros are not what the rows are about.
+const FEW_TRIPS: usize = MIB;
+const MANY_TRIPS: usize = MIB + MIB / 4;
 
 /// Milliseconds of the original for a call: its own functions, and turning values that are read before into its types;
 /// of a card back, too.
@@ -113,14 +116,14 @@ fn row(what: &str, length: usize, runs: usize, before: &[Call], call: &Call, aga
 
 fn messages() {
     let [few, many] = [full(0..500), full(0..1_000)].map(|message| to_feed(FEED, &message));
-    row("message: FULL, 500 trips with 20 updates, onto none", 2 * MIB, 200, &[], &few, None);
-    row("the same onto themselves", 2 * MIB, 200, &[few.clone()], &few, None);
-    let made = row("message: FULL, 1,000 trips with 20 updates, onto none", 4 * MIB, 60, &[], &many, None);
+    row("message: FULL, 500 trips with 20 updates, onto none", FEW_TRIPS, 200, &[], &few, None);
+    row("the same onto themselves", FEW_TRIPS, 200, &[few.clone()], &few, None);
+    let made = row("message: FULL, 1,000 trips with 20 updates, onto none", MANY_TRIPS, 60, &[], &many, None);
     let one = to_feed(FEED, &one_trip());
     let before = [many];
-    row("message: DIFFERENTIAL, one trip, onto these 1,000", 4 * MIB, 100, &before, &one, None);
+    row("message: DIFFERENTIAL, one trip, onto these 1,000", MANY_TRIPS, 100, &before, &one, None);
     let what = "the same, the original's time that of the message of 1,000";
-    row(what, 4 * MIB, 100, &before, &one, Some(made.original));
+    row(what, MANY_TRIPS, 100, &before, &one, Some(made.original));
 }
 
 /// Alert sheets, vehicle sheets, cards, report and fresh overlay on a state that messages and sheets made.
@@ -129,16 +132,16 @@ fn others() {
     let alerts = alerts_call(FEED, usual_alerts(50));
     let vehicles = vehicles_call(FEED, usual_vehicles(500), NOON);
     let before = [trips, alerts, vehicles];
-    row("alert sheet of 50, onto 500 trips", 2 * MIB, 100, &before[..1], &before[1], None);
-    row("vehicle sheet of 500, onto 500 trips and 50 alerts", 2 * MIB, 100, &before[..2], &before[2], None);
-    row("the same onto itself", 2 * MIB, 100, &before, &before[2], None);
+    row("alert sheet of 50, onto 500 trips", FEW_TRIPS, 100, &before[..1], &before[1], None);
+    row("vehicle sheet of 500, onto 500 trips and 50 alerts", FEW_TRIPS, 100, &before[..2], &before[2], None);
+    row("the same onto itself", FEW_TRIPS, 100, &before, &before[2], None);
     let card = usual_card(&before);
-    row("card: 4 legs, 10 middle stops each; 500 trips, 50 alerts", 2 * MIB, 100, &before, &card, None);
+    row("card: 4 legs, 10 middle stops each; 500 trips, 50 alerts", FEW_TRIPS, 100, &before, &card, None);
     let alone = enriching(&before, &card);
     let what = "the same, the original's `enrich_with_realtime` alone";
-    row(what, 2 * MIB, 100, &before, &card, Some(alone));
-    row("report", 2 * MIB, 100, &before, &Call::Report { feed: FEED.into() }, None);
-    row("fresh", 2 * MIB, 100, &before, &Call::Fresh, None);
+    row(what, FEW_TRIPS, 100, &before, &card, Some(alone));
+    row("report", FEW_TRIPS, 100, &before, &Call::Report { feed: FEED.into() }, None);
+    row("fresh", FEW_TRIPS, 100, &before, &Call::Fresh, None);
     let before = [to_feed(FEED, &worst_trips()), alerts_call(FEED, worst_alerts())];
     let what = "card: 16 legs, 64 middle stops each; 2,048 trips, 256 alerts, the worst";
     row(what, 2 * MIB, 5, &before, &worst_card(), None);

@@ -1,6 +1,6 @@
 //! Faults put around the calls, each of which the judge has to find.
-use crate::lent::{for_tests, widths, Calls, Lent};
 use crate::memory::bytes;
+use differential::lent::{for_tests, widths, Calls, Lent};
 use differential::panel::Call;
 use differential::states::writes;
 

@@ -1,11 +1,11 @@
 //! One call on lent memory, and what holds of every call: its number and output are those of the second reading, a
 //! refused call's output and every working slice are zeros, and what it reads stays.
-use crate::lent::{feed, kind, widths, Calls, Lent, NAMES};
 use crate::memory::{bytes, Memory};
 use crate::watch::moved;
 use differential::after::{after, Given};
 use differential::form::{Form, Reader};
 use differential::layout::{held, used, zeros, Overlay};
+use differential::lent::{feed, kind, widths, Calls, Lent, NAMES};
 use differential::panel::Call;
 use differential::papers::{Card, Leg, Transit};
 use differential::random::Random;

@@ -4,19 +4,18 @@
 mod damage;
 mod faults;
 mod judge;
-mod lent;
 mod memory;
 mod shape;
 mod watch;
 
 use damage::{changed, hurt};
 use differential::gens::history;
+use differential::lent::{exported, for_tests, Calls};
 use differential::panel::Call;
 use differential::random::Random;
 use differential::turns::{input, OVERLAY};
 use faults::{past_the_end, FAULTS};
 use judge::{Judge, Old};
-use lent::{exported, for_tests, Calls};
 use memory::{Memory, Side};
 use std::process::Command;
 

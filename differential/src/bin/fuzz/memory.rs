@@ -1,6 +1,6 @@
 //! The memory that calls are lent: each slice of its own, with pages that no one may touch next to it, or on the heap.
-use crate::lent::{feed, widths, Lent, Slice};
 use differential::guarded::{mapped, PAGE};
+use differential::lent::{feed, widths, Lent, Slice};
 use differential::panel::Call;
 use differential::questions::LONGEST_INPUT;
 use differential::turns::{input, lengths};

@@ -1,5 +1,5 @@
 //! The port's compiled calls on memory that someone else has laid out.
-use differential::panel::Call;
+use crate::panel::Call;
 
 /// A lent slice: where it begins, and how many elements it has.
 #[derive(Clone, Copy)]
