@@ -1,6 +1,6 @@
 // Quick passes over the parts of an overlay, as formats_skip has them over leaves.
 ghost use Rattle.formats.specs.Format.{list};
-ghost use Rattle.formats_skip.specs.promises.Passes.{Passes, Leads};
+ghost use Rattle.formats_skip.specs.promises.Passes.{Passes};
 ghost use Rattle.overlay.specs.State.{vehicle, vehicleEntry, feed, feedEntry};
 
 pub fn past_vehicle(s: &[u8], at: usize) -> usize
@@ -31,14 +31,6 @@ pub fn past_vehicles(s: &[u8], at: usize) -> usize
         left -= 1;
     }
     p
-}
-
-// The place of a feed's trips, in front of which stand its timestamp and its count.
-pub fn trips_place(s: &[u8], at: usize) -> usize
-    ensures { λ r. ⌜ Leads 2 feed (now (s .entry)) at r ⌝ }
-{
-    let p = formats_skip::past_optional_number(s, at);
-    formats_skip::past_number(s, p)
 }
 
 // A feed without its id.

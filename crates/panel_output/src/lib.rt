@@ -66,9 +66,5 @@ pub fn clear16(s: &mut [u16])
 pub fn clear32(s: &mut [u32])
     ensures { λ _. ⌜ now (s .exit) ≡ replicate (length (now (s .entry))) 0 ⌝ }
 {
-    let mut i = 0;
-    while i < s.len() {
-        s[i] = 0;
-        i += 1;
-    }
+    slices::fill32(s, 0);
 }

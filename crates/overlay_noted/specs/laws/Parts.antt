@@ -1,11 +1,11 @@
 -- Law. One number put, and a feed's four.
-use mathlib.Core.Path.{_≡_, refl, sym, _∙_, ap}
+use mathlib.Core.Path.{_≡_, refl, ap, _∙_}
 use mathlib.Core.List.{List, [], _∷_}
 use Prim.Native.Nat.{ℕ, zero, suc, _+_, _*_, _%_, _≤_, _<_}
 use native.Mathlib.Omega.{arith}
 use lib.ListN.{length, getD, set, length-set}
 use lib.Seq.{getD-set-same, getD-set-other}
-use Rattle.overlay_noted.specs.promises.Noted.{placesLength}
+use Rattle.decode.specs.Sizes.{mostOld}
 use Rattle.overlay_noted.specs.promises.Noting.{Put, PartsPut}
 
 set-past : (l : List ℕ) (i w : ℕ) → length l ≤ i → l ≡ set l i w
@@ -27,7 +27,7 @@ module _ {l : List ℕ} {i p : ℕ} {m : List ℕ} (Q : Put l i p m) where
   pub put-else : (j : ℕ) → (j ≡ i → ⊥) → getD m j 0 ≡ getD l j 0
   put-else j h = ap (λ n. getD n j 0) (Q .is) ∙ getD-set-other l i j (Q .word) 0 h
 
-  pub put-same : i < length m → p ≤ 4000000000 → getD m i 0 ≡ p
+  pub put-same : i < length m → p ≤ mostOld → getD m i 0 ≡ p
   put-same h k =
       ap (λ n. getD n i 0) (Q .is) ∙ getD-set-same l i (Q .word) 0 (omega (arith, put-kept)) ∙ Q .low k
 

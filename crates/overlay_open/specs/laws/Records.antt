@@ -3,7 +3,6 @@ use mathlib.Core.Path.{_≡_, refl, sym, _∙_}
 use mathlib.Core.List.{List}
 use Prim.Native.Nat.{ℕ, _*_, _<_}
 use native.Mathlib.Omega.{arith}
-use lib.ListN.{length}
 use Rattle.formats.specs.Class.{token}
 use Rattle.formats.specs.Format.{Format, list, optional, _&_, Value}
 use Rattle.formats.specs.declared.Numeral.{Numeral}
@@ -23,7 +22,7 @@ use Rattle.formats_read.specs.laws.Lists.{listed}
 use Rattle.formats_skip.specs.promises.Passes.{Passes}
 use Rattle.decode.specs.Trip.{tripEntry}
 use Rattle.overlay.specs.State.{timestamp, feed, vehicleEntry}
-use Rattle.overlay_noted.specs.promises.Noting.{Unless, Fits, TripsPut, PartsPut}
+use Rattle.overlay_noted.specs.promises.Noting.{Unless, TripsPut, PartsPut}
 use Rattle.overlay_noted.specs.laws.Places.{trips-kept}
 use Rattle.overlay_noted.specs.laws.Passes.{checked-passes, tested-passes, number-passes, begins, behind, skip-so}
 use Rattle.overlay_noted.specs.laws.Passes.{unless-map, fits-as}
