@@ -5,4 +5,4 @@ use Rattle.panel_sized.specs.Lengths.{lengths}
 
 -- the overlay's, a card's, a report's, those of a message's working buffers and of a card's
 abbrev pub publishedLengths : List ℕ
-publishedLengths = lengths .overlay ∷ lengths .card ∷ 25 ∷ (lengths .messageWork ++ lengths .cardWork)
+publishedLengths = lengths .overlay ∷ lengths .card ∷ 25 ∷ (lengths .work .message ++ lengths .work .card)

@@ -51,10 +51,10 @@ asMany due w = lengthsFrom 0 due w
 abbrev pub callBy : Lengths → ℕ → List ℕ → List ℕ → ℤ → ℕ → List ℕ → Call
 callBy L kind f bytes clock out work =
     cond (eqb kind 0) (fresh out)
-    (cond (eqb kind 1) (message f bytes out (asMany (L .messageWork) work))
-    (cond (eqb kind 2) (alertSheet f bytes out (asMany (L .alertWork) work))
-    (cond (eqb kind 3) (vehicleSheet f bytes clock out (asMany (L .vehicleWork) work))
-    (cond (eqb kind 4) (card bytes out (asMany (L .cardWork) work)) (report f out)))))
+    (cond (eqb kind 1) (message f bytes out (asMany (L .work .message) work))
+    (cond (eqb kind 2) (alertSheet f bytes out (asMany (L .work .alertSheet) work))
+    (cond (eqb kind 3) (vehicleSheet f bytes clock out (asMany (L .work .vehicleSheet) work))
+    (cond (eqb kind 4) (card bytes out (asMany (L .work .card) work)) (report f out)))))
 
 abbrev pub callOf : Lengths → Value callForm → Call
 callOf L v = callBy L (v .0) (v .1 .0) (v .1 .1 .0) (v .1 .1 .1 .0) (v .1 .1 .1 .1 .0) (v .1 .1 .1 .1 .1)

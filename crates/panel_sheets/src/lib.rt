@@ -8,7 +8,8 @@ ghost use mathlib.Core.List.{List};
 ghost use Prim.Native.Nat.{ℕ};
 ghost use lib.IntN.{ℤ};
 ghost use lib.ListN.{length};
-ghost use Rattle.panel.specs.Questions.{Lengths, lengthsOk, alertSheetOf, vehicleSheetOf};
+ghost use Rattle.panel.specs.Questions.{Lengths, lengthsOk};
+ghost use Rattle.panel.specs.promises.Ends.{alertSheetOf, vehicleSheetOf};
 ghost use Rattle.panel_output.specs.promises.Ending.{outcomeOf};
 ghost use Rattle.panel_questions.specs.promises.Numbers.{ClockIs};
 ghost use Rattle.panel_sheets.specs.promises.Calls.{Gives};
@@ -17,7 +18,7 @@ ghost use Rattle.panel_sheets.specs.promises.Calls.{Gives};
 fn alert_ending(old: &[u8], feed: &[u8], sheet: &[u8], new: &mut [u8]) -> Ending
     ensures { λ r. ⌜
         ((L : Lengths) (work : List ℕ)
-        → lengthsOk L (now (old .entry)) (length (now (new .entry))) (L .overlay) work (L .alertWork) ≡ true
+        → lengthsOk L (now (old .entry)) (length (now (new .entry))) (L .overlay) work (L .work .alertSheet) ≡ true
         → outcomeOf (now (new .exit)) r
         ≡ alertSheetOf L (now (old .entry)) (now (feed .entry)) (now (sheet .entry)) (length (now (new .entry)))
         work) ⌝ }
@@ -37,7 +38,7 @@ fn alert_ending(old: &[u8], feed: &[u8], sheet: &[u8], new: &mut [u8]) -> Ending
 pub fn alert_sheet(old: &[u8], feed: &[u8], sheet: &[u8], new: &mut [u8]) -> u32
     ensures { λ r. ⌜
         ((L : Lengths) (work : List ℕ)
-        → lengthsOk L (now (old .entry)) (length (now (new .entry))) (L .overlay) work (L .alertWork) ≡ true
+        → lengthsOk L (now (old .entry)) (length (now (new .entry))) (L .overlay) work (L .work .alertSheet) ≡ true
         → Gives (length (now (new .entry)))
         (alertSheetOf L (now (old .entry)) (now (feed .entry)) (now (sheet .entry)) (length (now (new .entry))) work) r
         (now (new .exit))) ⌝ }
@@ -50,7 +51,7 @@ pub fn alert_sheet(old: &[u8], feed: &[u8], sheet: &[u8], new: &mut [u8]) -> u32
 fn vehicle_ending(old: &[u8], feed: &[u8], sheet: &[u8], clock: Clock, new: &mut [u8]) -> Ending
     ensures { λ r. ⌜
         ((L : Lengths) (work : List ℕ) (t : ℤ)
-        → lengthsOk L (now (old .entry)) (length (now (new .entry))) (L .overlay) work (L .vehicleWork) ≡ true
+        → lengthsOk L (now (old .entry)) (length (now (new .entry))) (L .overlay) work (L .work .vehicleSheet) ≡ true
         → ClockIs t (clock .fine) (clock .limit)
         → outcomeOf (now (new .exit)) r
         ≡ vehicleSheetOf L (now (old .entry)) (now (feed .entry)) (now (sheet .entry)) t (length (now (new .entry)))
@@ -71,7 +72,7 @@ fn vehicle_ending(old: &[u8], feed: &[u8], sheet: &[u8], clock: Clock, new: &mut
 pub fn vehicle_sheet(old: &[u8], feed: &[u8], sheet: &[u8], clock: i64, new: &mut [u8]) -> u32
     ensures { λ r. ⌜
         ((L : Lengths) (work : List ℕ)
-        → lengthsOk L (now (old .entry)) (length (now (new .entry))) (L .overlay) work (L .vehicleWork) ≡ true
+        → lengthsOk L (now (old .entry)) (length (now (new .entry))) (L .overlay) work (L .work .vehicleSheet) ≡ true
         → Gives (length (now (new .entry)))
         (vehicleSheetOf L (now (old .entry)) (now (feed .entry)) (now (sheet .entry)) clock (length (now (new .entry)))
         work) r (now (new .exit))) ⌝ }

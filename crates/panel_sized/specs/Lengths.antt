@@ -2,22 +2,28 @@
 use Prim.Native.Nat.{ℕ}
 use mathlib.Core.List.{List, [], _∷_}
 use Rattle.overlay.specs.Buffer.{published}
-use Rattle.panel.specs.Questions.{Lengths}
+use Rattle.panel.specs.Questions.{Working, Lengths}
 
 -- a card call's working buffers: candidates and marks, text, where labels begin and end, places of alerts and of
 -- trips, what is known of alerts
 abbrev pub cardWork : List ℕ
 cardWork = 256 ∷ 256 ∷ 2626 ∷ 1025 ∷ 1025 ∷ 256 ∷ 8208 ∷ 4096 ∷ []
 
+-- THE TABLE of working buffers; a message's: keys, marks and order of its records, updates of one
+abbrev pub working : Working
+working = record {
+  message = 280713 ∷ 6147 ∷ 2049 ∷ 387 ∷ [];
+  alertSheet = [];
+  vehicleSheet = [];
+  card = cardWork;
+}
+
 -- those of the calls over an overlay of n bytes
 abbrev pub sized : ℕ → Lengths
 sized n = record {
   overlay = n;
   card = 65536;
-  messageWork = 280713 ∷ 6147 ∷ 2049 ∷ 387 ∷ [];
-  alertWork = [];
-  vehicleWork = [];
-  cardWork = cardWork;
+  work = working;
 }
 
 -- THE PUBLISHED LENGTHS

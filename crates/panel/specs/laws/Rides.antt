@@ -4,7 +4,6 @@ use mathlib.Core.Path.{_≡_, refl, ap, _∙_}
 use mathlib.Core.Bool.{true}
 use mathlib.Core.List.{[]}
 use mathlib.Core.Option.{some}
-use native.Mathlib.Omega.{arith}
 use lib.Dec.{leb}
 use lib.ListN.{length}
 use borrow.Author.Tests.{eq-eqb, le-leb}
@@ -28,16 +27,21 @@ use Rattle.journey.specs.Card.{card as cardForm}
 use Rattle.journey.specs.Times as times
 use Rattle.journey.specs.Enrich as enrich
 use Rattle.panel.specs.Questions as questions
+use Rattle.panel.specs.Fresh.{freshAsks}
+use Rattle.panel.specs.Message.{treeAsks, messageAsks}
+use Rattle.panel.specs.Card.{finished, arrivingAsks, cardAsks}
+use Rattle.panel.specs.promises.Ends.{arrivingOutcome}
 use Rattle.panel.specs.Questions.{Lengths}
 use Rattle.panel.specs.Outcome.{accepted, need, needSome}
 use Rattle.panel.specs.Calls.{fresh, card, gives, freshOverlay, run}
 use Rattle.panel.specs.Rides.{Rides, emptyCard, keyed, tripsFrom, table}
 use Rattle.basics.specs.Rows.{Holds}
+use Rattle.panel.specs.laws.Fresh.{empty-held}
 use Rattle.panel.specs.laws.Sizes.{out-long}
 
 table-holds : Holds table
-unfolding table tripsFrom run questions.freshOf questions.messageOf questions.treeOutcome questions.cardCallOf
-    questions.arrivingOutcome questions.finished questions.whole
+unfolding table tripsFrom run freshAsks messageAsks treeAsks cardAsks
+    arrivingAsks finished questions.whole
     image.stateOf image.filled image.room valid.valid valid.within valid.feedValid shown change.afterMessage
     change.feedAt change.putFeed
     leaves.leaves leaves.entries leaves.countWithoutAt
@@ -52,19 +56,15 @@ unfolding table tripsFrom run questions.freshOf questions.messageOf questions.tr
     isSummer leapDay yearFrom monthFrom
 table-holds = (refl, (refl, (refl, (refl, (refl, (refl, (refl, (refl, (refl, (refl, tt))))))))))
 
-empty-held : valid.Held noState
-unfolding valid.valid valid.within
-empty-held = record { fits = (tt, (omega arith, (omega arith, tt))); valid = refl }
-
 -- ---- the first row at every length
 
 module _ (L : Lengths) where
-  lengths-yes : questions.lengthsOk L (freshOverlay L) (L .card) (L .card) (L .cardWork) (L .cardWork) ≡ true
+  lengths-yes : questions.lengthsOk L (freshOverlay L) (L .card) (L .card) (L .work .card) (L .work .card) ≡ true
   lengths-yes =
       rw (
         eq-eqb (length (freshOverlay L)) (L .overlay) (out-long L [] (fresh (L .overlay))),
         eq-eqb (L .card) (L .card) refl,
-        same-refl (L .cardWork),
+        same-refl (L .work .card),
       )
       refl
 
@@ -74,7 +74,7 @@ module _ (L : Lengths) where
     roomy = le-leb 3 (L .overlay) wide
 
     fresh-image : freshOverlay L ≡ image.image (L .overlay) noState
-    unfolding questions.freshOf image.image
+    unfolding freshAsks image.image
     fresh-image = rw (eq-eqb (L .overlay) (L .overlay) refl, roomy) refl
 
     fresh-state : image.stateOf (freshOverlay L) ≡ some noState
@@ -83,16 +83,16 @@ module _ (L : Lengths) where
   -- what stands behind the second question
   arriving-same : 15 ≤ L .card
       → need (leb (length emptyCard) 65536) 3
-      (needSome (questions.whole cardForm emptyCard) 4 (questions.arrivingOutcome L noState)) ≡ accepted emptyCard
-  unfolding questions.whole questions.arrivingOutcome questions.finished shown enrich.enrich-with-realtime
+      (needSome (questions.whole cardForm emptyCard) 4 (arrivingOutcome L noState)) ≡ accepted emptyCard
+  unfolding questions.whole arrivingAsks finished shown enrich.enrich-with-realtime
       enrich.enrichTransit enrich.enrichMiddle
       enrich.status-of enrich.labels-of enrich.headers-of enrich.cancels enrich.late enrich.disrupted enrich.live
       enrich.alerts-of
   arriving-same long = rw (le-leb 15 (L .card) long) refl
 
   empty-same : 3 ≤ L .overlay → 15 ≤ L .card
-      → gives L (freshOverlay L) (card emptyCard (L .card) (L .cardWork)) .out ≡ image.filled (L .card) emptyCard
-  unfolding questions.cardCallOf
+      → gives L (freshOverlay L) (card emptyCard (L .card) (L .work .card)) .out ≡ image.filled (L .card) emptyCard
+  unfolding cardAsks
   empty-same wide long = rw (lengths-yes, fresh-state wide, arriving-same long) refl
 
 -- ---- the state of the last row

@@ -2,13 +2,15 @@
 use mathlib.Core.Path.{_≡_, refl, sym, ap, ap₂, _∙_}
 use mathlib.Core.List.{List, [], _∷_}
 use Prim.Native.Nat.{ℕ}
-use Rattle.panel.specs.Calls.{Call, Gave, gives, overlayAfter, freshOverlay, run, numbersGiven}
-use Rattle.panel.specs.Book.{noBook, History}
+use Rattle.panel.specs.Calls.{Call, fresh, Gave, gives, overlayAfter, freshOverlay, run, numbersGiven}
+use Rattle.panel.specs.Rule.{noBook}
+use Rattle.panel.specs.Book.{History}
 use Rattle.panel.specs.Gained.{AlikeAll}
 use Rattle.panel.specs.Demand3.{Demand3}
 use Rattle.panel.specs.laws.Gained.{history-gains}
 use Rattle.panel.specs.laws.History.{history}
 use Rattle.panel_sized.specs.Lengths.{lengths}
+use Rattle.panel_sized.specs.Given.{Given}
 use Rattle.panel_sized.specs.laws.Lengths.{demand-3-compiled}
 use Rattle.panel_calls.specs.History.{Made, Holds}
 
@@ -22,6 +24,18 @@ made-run old (c ∷ cs) (g ∷ gs) h =
     let e : g ≡ gives lengths old c = h .0 .is in
     ap₂ _∷_ e
     (made-run (overlayAfter old c g) cs gs (h .1) ∙ ap (λ g. run lengths (overlayAfter old c g) cs) e)
+
+-- and there are such calls, of every list: what the definitions give
+pub run-made : (old : List ℕ) (cs : List Call) → Made old cs (run lengths old cs)
+unfolding run
+run-made old [] = tt
+run-made old (c ∷ cs) =
+    (record { is = refl }, run-made (overlayAfter old c (gives lengths old c)) cs)
+
+-- a fresh call's promise is over no overlay, and so over any
+pub fresh-over : (old : List ℕ) {n number : ℕ} {out : List ℕ} {work : List (List ℕ)}
+    → Given lengths [] (fresh n) number out work → Given lengths old (fresh n) number out work
+fresh-over old g = record { is = g .is }
 
 -- the two halves at the published lengths
 pub history-published : (cs : List Call) → History lengths (freshOverlay lengths) noBook cs

@@ -42,7 +42,9 @@ use Rattle.journey_survey.specs.declared.CardSurvey.{CardSurvey}
 use Rattle.journey_survey.specs.promises.Surveyed.{Surveyed}
 use Rattle.journey_enrich.specs.promises.Enrich.{Enriches}
 use Rattle.panel.specs.Outcome.{refused, need, needSome}
-use Rattle.panel.specs.Questions.{Lengths, whole, lengthsOk, finished, arrivingOutcome, cardCallOf}
+use Rattle.panel.specs.Questions.{Lengths, whole, lengthsOk}
+use Rattle.panel.specs.Card.{finished, arrivingAsks, cardAsks}
+use Rattle.panel.specs.promises.Ends.{arrivingOutcome, cardCallOf}
 use Rattle.panel_output.specs.declared.Ending.{Ending}
 use Rattle.panel_output.specs.declared.Ending.the-variants.{Refused}
 use Rattle.panel_output.specs.laws.Ending.{written-as}
@@ -131,7 +133,7 @@ card-begins o c e z = let x = halves (card-here (fine o c e z .passes)) .first i
 
 module _ {o c l m : List ℕ} {n : ℕ} (e : n ≡ askedNumber o c) where
   pub asked-no : (n ≡ 0 → ⊥) → CardEnds o c l m (Refused n)
-  unfolding arrivingOutcome
+  unfolding arrivingAsks
   asked-no z = record { is = λ L d. go L (stateOf o) e }
     where
       go : (L : Lengths) (s : Option State) → n ≡ cond (isSome s) (cardNumber c) 2
@@ -141,7 +143,7 @@ module _ {o c l m : List ℕ} {n : ℕ} (e : n ≡ askedNumber o c) where
       go L (some s) i = refused-so c _ _ i z
 
   pub card-ends : {w : Put} {r : Ending} → n ≡ 0 → FinishesCard o c l m w → r ≡ endingOf 8 w → CardEnds o c l m r
-  unfolding arrivingOutcome finished
+  unfolding arrivingAsks finished
   card-ends z F i = record {
     is = λ L d.
         let Y = fine o c e z in
@@ -153,7 +155,7 @@ module _ {o c l m : List ℕ} {n : ℕ} (e : n ≡ askedNumber o c) where
 
 -- THE CALL, where question 1 has the answer yes
 pub card-is : {o c l m : List ℕ} {r : Ending} → CardEnds o c l m r → (L : Lengths) (work : List ℕ)
-    → L .card ≡ length l → lengthsOk L o (length l) (L .card) work (L .cardWork) ≡ true
+    → L .card ≡ length l → lengthsOk L o (length l) (L .card) work (L .work .card) ≡ true
     → outcomeOf m r ≡ cardCallOf L o c (length l) work
-unfolding cardCallOf
+unfolding cardAsks
 card-is E L work e q = E .is L e ∙ sym (rw q refl)

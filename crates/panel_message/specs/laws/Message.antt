@@ -25,7 +25,9 @@ use Rattle.overlay.specs.Change.{afterMessage}
 use Rattle.overlay_open.specs.promises.Held.{Open}
 use Rattle.overlay_message.specs.promises.Message.{Answers, Leads}
 use Rattle.panel.specs.Outcome.{Outcome, refused, accepted, need, needSome}
-use Rattle.panel.specs.Questions.{Lengths, feedOk, lengthsOk, changedState, treeOutcome, messageOf}
+use Rattle.panel.specs.Questions.{Lengths, feedOk, lengthsOk}
+use Rattle.panel.specs.Message.{messageAsks, treeAsks}
+use Rattle.panel.specs.promises.Ends.{changedState, messageOf}
 use Rattle.panel_output.specs.declared.Ending.{Ending}
 use Rattle.panel_output.specs.declared.Ending.the-variants.{Refused}
 use Rattle.panel_output.specs.laws.Ending.{written-outcome}
@@ -108,39 +110,39 @@ no-state e = record { is = λ L d. rw e refl }
 
 pub asked-no : {o f m l n : List ℕ} {end q : ℕ} → Open o end → q ≡ messageNumber f m → (q ≡ 0 → ⊥)
     → MessageEnds o f m l n (Refused q)
-unfolding treeOutcome
-asked-no {f} {m} {q} O e z = record {
+unfolding treeAsks
+asked-no {o} {f} {m} {q} O e z = record {
   is = λ L d.
       rw (O .is)
-      (chain-refused f (λ t. changedState (L .overlay) (afterMessage f t (O .state))) (leb (length m) 1048576)
+      (chain-refused f (λ t. changedState L o (afterMessage f t (O .state))) (leb (length m) 1048576)
       (tree feed feedMessage m) q e z);
 }
 
-changed-outcome : {l n : List ℕ} {w : Put} (s : State) → Answers (ok 7 overlay s) l n w (write overlay s)
-    → outcomeOf n (putEnding w) ≡ changedState (length l) s
+changed-outcome : (L : Lengths) (o : List ℕ) {l n : List ℕ} {w : Put} (s : State) → L .overlay ≡ length l
+    → Answers (ok 7 overlay s) l n w (write overlay s) → outcomeOf n (putEnding w) ≡ changedState L o s
 unfolding room
-changed-outcome {l} {n} {w} s A = go (ok 7 overlay s) refl
+changed-outcome L o {l} {n} {w} s d A = go (ok 7 overlay s) refl
   where
     go : (b : Bool) → ok 7 overlay s ≡ b
         → outcomeOf n (putEnding w)
-        ≡ need (b && leb (length (write overlay s)) (length l)) 7 (accepted (write overlay s))
-    go true e = written-outcome (A .yes e)
+        ≡ need (b && leb (length (write overlay s)) (L .overlay)) 7 (accepted (write overlay s))
+    go true e = rw d (written-outcome (A .yes e))
     go false e = ap (λ w. outcomeOf n (putEnding w)) (A .no e)
 
 pub message-ends : {o f m l n : List ℕ} {end : ℕ} {w : Put} {r : Ending} → Open o end → Passed f m
     → Leads l n w f m o → r ≡ putEnding w → MessageEnds o f m l n r
-unfolding treeOutcome
-message-ends {f} {m} {l} {n} {r} O P A e = record {
+unfolding treeAsks
+message-ends {o} {f} {m} {l} {n} {r} O P A e = record {
   is = λ L d.
-      ap (outcomeOf n) e ∙ changed-outcome (afterMessage f (P .message) (O .state)) (A .of (O .is) (P .read))
-      ∙ sym (rw (O .is, P .short, P .read, P .named, P .texts, P .numbers, d) refl);
+      ap (outcomeOf n) e ∙ changed-outcome L o (afterMessage f (P .message) (O .state)) d (A .of (O .is) (P .read))
+      ∙ sym (rw (O .is, P .short, P .read, P .named, P .texts, P .numbers) refl);
 }
 
 -- THE CALL, where question 1 has the answer yes
 pub message-is : {o f m l n : List ℕ} {r : Ending} → MessageEnds o f m l n r → (L : Lengths) (work : List ℕ)
-    → L .overlay ≡ length l → lengthsOk L o (length l) (L .overlay) work (L .messageWork) ≡ true
+    → L .overlay ≡ length l → lengthsOk L o (length l) (L .overlay) work (L .work .message) ≡ true
     → outcomeOf n r ≡ messageOf L o f m (length l) work
-unfolding messageOf
+unfolding messageAsks
 message-is E L work e q = E .is L e ∙ sym (rw q refl)
 
 -- ---- the number, by the tests that the code makes

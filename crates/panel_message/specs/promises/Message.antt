@@ -11,7 +11,8 @@ use Rattle.realtime.specs.Judge.{rules, asked}
 use Rattle.realtime.specs.declared.Verdict.{Verdict}
 use Rattle.overlay.specs.Image.{stateOf}
 use Rattle.panel.specs.Outcome.{need, needSome}
-use Rattle.panel.specs.Questions.{Lengths, feedOk, treeOutcome}
+use Rattle.panel.specs.Questions.{Lengths, feedOk}
+use Rattle.panel.specs.promises.Ends.{treeOutcome}
 use Rattle.panel_output.specs.declared.Ending.{Ending}
 use Rattle.panel_output.specs.promises.Ending.{outcomeOf}
 
@@ -31,4 +32,4 @@ messageNumber f m =
 pub record MessageEnds (o f m l n : List ℕ) (r : Ending) : Type 0 where
   pub is : (L : Lengths) → L .overlay ≡ length l
       → outcomeOf n r ≡ needSome (stateOf o) 2 (λ s.
-      need (leb (length m) 1048576) 3 (needSome (tree feed feedMessage m) 4 (treeOutcome L f s)))
+      need (leb (length m) 1048576) 3 (needSome (tree feed feedMessage m) 4 (treeOutcome L o f s)))

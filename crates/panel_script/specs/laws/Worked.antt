@@ -9,7 +9,9 @@ use Rattle.overlay.specs.Valid.{valid, within}
 use Rattle.overlay.specs.Report.{report as reportOn}
 use Rattle.overlay.specs.Change.{feedAt}
 use Rattle.panel.specs.Outcome.{accepted}
-use Rattle.panel.specs.Questions.{Lengths, whole, freshOf, reportOf}
+use Rattle.panel.specs.Questions.{Lengths, whole}
+use Rattle.panel.specs.Fresh.{freshAsks}
+use Rattle.panel.specs.Report.{reportAsks}
 use Rattle.panel.specs.Calls.{fresh, message, report, run}
 use Rattle.panel_script.specs.Script.{Lent, callsOf, sizeOf, callsIn}
 use Rattle.panel_script.specs.Tells.{tellAll, tells, replayOf}
@@ -18,10 +20,7 @@ abbrev small : Lengths
 small = record {
   overlay = 16;
   card = 64;
-  messageWork = 4 ∷ 3 ∷ 2 ∷ 1 ∷ [];
-  alertWork = [];
-  vehicleWork = [];
-  cardWork = [];
+  work = record { message = 4 ∷ 3 ∷ 2 ∷ 1 ∷ []; alertSheet = []; vehicleSheet = []; card = [] };
 }
 
 abbrev lent : Lent
@@ -58,6 +57,6 @@ no-kind = refl
 
 -- what is told: both are accepted, and the report is of version 0, count 0 and no timestamp
 two-told : replayOf small lent two ≡ accepted (0 ∷ 0 ∷ replicate 25 0)
-unfolding replayOf callsIn whole callsOf sizeOf tells tellAll run freshOf reportOf filled room stateOf valid within
+unfolding replayOf callsIn whole callsOf sizeOf tells tellAll run freshAsks reportAsks filled room stateOf valid within
     reportOn feedAt
 two-told = refl

@@ -19,12 +19,15 @@ use Rattle.overlay.specs.laws.Within.{unjudged}
 use Rattle.overlay_bodies.specs.promises.Bodies.{AlertsIn}
 use Rattle.overlay_sheets.specs.promises.Sheets.{Changes}
 use Rattle.panel.specs.Outcome.{Outcome, refused, need, needSome}
-use Rattle.panel.specs.Questions.{Lengths, whole, feedOk, lengthsOk, changedState, alertsOutcome, alertSheetOf}
+use Rattle.panel.specs.Questions.{Lengths, whole, feedOk, lengthsOk}
+use Rattle.panel.specs.AlertSheet.{alertSheetAsks, alertsAsk}
+use Rattle.panel.specs.promises.Ends.{changedState, alertsOutcome, alertSheetOf}
+use Rattle.panel.specs.laws.Lawful.{due-is}
 use Rattle.panel_output.specs.declared.Ending.{Ending}
 use Rattle.panel_output.specs.promises.Ending.{outcomeOf, putEnding}
 use Rattle.panel_questions.specs.promises.Numbers.{formed, alertNumber}
 use Rattle.panel_questions.specs.laws.Whole.{all-read}
-use Rattle.panel_sheets.specs.laws.Changed.{changed-outcome, due-is, alerts-over}
+use Rattle.panel_sheets.specs.laws.Changed.{changed-outcome, alerts-over}
 
 -- a sheet that is whole: its alerts
 alerts-in : (sheet : List ℕ) (v : Value alertSheet) → whole alertSheet sheet ≡ some v → AlertsIn sheet (v .1)
@@ -52,50 +55,50 @@ value-fine true true true false e = absurd (omega (arith, e))
 value-fine true true true true e = record { feed = refl; fifth = refl; seventh = refl }
 
 module _ (L : Lengths) (old f sheet : List ℕ) (new : ℕ) (work : List ℕ)
-    (h : lengthsOk L old new (L .overlay) work (L .alertWork) ≡ true) where
+    (h : lengthsOk L old new (L .overlay) work (L .work .alertSheet) ≡ true) where
   abbrev asks : State → Outcome
-  asks s = need (leb (length sheet) 1048576) 3 (needSome (whole alertSheet sheet) 4 (alertsOutcome L f s))
+  asks s = need (leb (length sheet) 1048576) 3 (needSome (whole alertSheet sheet) 4 (alertsOutcome L old f s))
 
   -- QUESTION 2
   pub alerts-closed : stateOf old ≡ none → refused 2 ≡ alertSheetOf L old f sheet new work
-  unfolding alertSheetOf
+  unfolding alertSheetAsks
   alerts-closed e = rw (h, e) refl
 
   alerts-open : {s : State} → stateOf old ≡ some s → alertSheetOf L old f sheet new work ≡ asks s
-  unfolding alertSheetOf
+  unfolding alertSheetAsks
   alerts-open e = rw (h, e) refl
 
   -- QUESTIONS 3 TO 7, of the sheet
   module _ {n : ℕ} (N : n ≡ alertNumber f sheet) {s : State} (i : stateOf old ≡ some s) where
     pub alerts-refused : (n ≡ 0 → ⊥) → refused n ≡ alertSheetOf L old f sheet new work
-    unfolding alertNumber alertsOutcome
+    unfolding alertNumber alertsAsk
     alerts-refused z = sym (alerts-open i ∙ go (leb (length sheet) 1048576) (whole alertSheet sheet) N)
       where
         go : (b : Bool) (o : Option (Value alertSheet))
             → n ≡ cond b (formed o (λ v. cond (feedOk f) (verdict alertSheet v) 5)) 3
-            → need b 3 (needSome o 4 (alertsOutcome L f s)) ≡ refused n
+            → need b 3 (needSome o 4 (alertsOutcome L old f s)) ≡ refused n
         go false o e = ap refused (sym e)
         go true none e = ap refused (sym e)
         go true (some v) e =
             value-refused (feedOk f) (ok 5 alertSheet v) (ok 6 alertSheet v) (ok 7 alertSheet v)
-            (changedState (L .overlay) (afterAlerts f (v .1) s)) (unjudged 6 alertSheet refl v)
-            (λ k. alerts-over (L .overlay) f (v .1) s k) e z
+            (changedState L old (afterAlerts f (v .1) s)) (unjudged 6 alertSheet refl v)
+            (λ k. alerts-over L old f (v .1) s k) e z
 
     -- or all are answered by yes
     pub record Sheet : Type 0 where
       pub alerts : List Alert
       pub stand : AlertsIn sheet alerts
       pub few : ok 7 (list 256 alert) alerts ≡ true
-      pub is : alertSheetOf L old f sheet new work ≡ changedState (L .overlay) (afterAlerts f alerts s)
+      pub is : alertSheetOf L old f sheet new work ≡ changedState L old (afterAlerts f alerts s)
 
     pub alerts-asked : n ≡ 0 → Sheet
-    unfolding alertNumber alertsOutcome
+    unfolding alertNumber alertsAsk
     alerts-asked z =
         go (leb (length sheet) 1048576) (whole alertSheet sheet) refl (sym z ∙ N) (alerts-open i)
       where
         go : (b : Bool) (o : Option (Value alertSheet)) → whole alertSheet sheet ≡ o
             → 0 ≡ cond b (formed o (λ v. cond (feedOk f) (verdict alertSheet v) 5)) 3
-            → alertSheetOf L old f sheet new work ≡ need b 3 (needSome o 4 (alertsOutcome L f s)) → Sheet
+            → alertSheetOf L old f sheet new work ≡ need b 3 (needSome o 4 (alertsOutcome L old f s)) → Sheet
         go false o w e k = absurd (omega (arith, e))
         go true none w e k = absurd (omega (arith, e))
         go true (some v) w e k =
@@ -113,6 +116,7 @@ module _ (L : Lengths) (old f sheet : List ℕ) (new : ℕ) (work : List ℕ)
         → r ≡ putEnding q → outcomeOf m r ≡ alertSheetOf L old f sheet new work
     alerts-accepted {m} z k C e =
         let S = alerts-asked z in
-        let d = due-is L old new (L .overlay) work (L .alertWork) h in
-        ap (outcomeOf m) e ∙ changed-outcome (afterAlerts f (S .alerts) s) (C (S .alerts) (S .stand) (S .few))
-        ∙ ap (λ n. changedState n (afterAlerts f (S .alerts) s)) (sym k ∙ d) ∙ sym (S .is)
+        let d = due-is L old new (L .overlay) work (L .work .alertSheet) h in
+        ap (outcomeOf m) e
+        ∙ changed-outcome L old (afterAlerts f (S .alerts) s) (sym k ∙ d) (C (S .alerts) (S .stand) (S .few))
+        ∙ sym (S .is)

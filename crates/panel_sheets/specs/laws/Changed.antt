@@ -3,10 +3,8 @@ use mathlib.Core.Path.{_≡_, refl, sym, ap, _∙_}
 use mathlib.Core.Bool.{Bool, true, false, _&&_}
 use mathlib.Core.List.{List, [], _∷_}
 use Prim.Native.Nat.{ℕ}
-use lib.Dec.{leb, eqb}
-use borrow.Author.Tests.{eqb-true}
+use lib.Dec.{leb}
 use lib.ListN.{length}
-use Rattle.basics.specs.Texts.{same}
 use Rattle.basics.specs.Lists.{all}
 use Rattle.basics.specs.laws.Booleans.{both-true, false-true}
 use Rattle.slices.specs.declared.Order.{Order}
@@ -26,19 +24,12 @@ use Rattle.overlay.specs.Change.{feedAt, putFeed, afterAlerts}
 use Rattle.overlay_bodies.specs.promises.Bodies.{withAlerts}
 use Rattle.overlay_sheets.specs.promises.Sheets.{Changes}
 use Rattle.panel.specs.Outcome.{Outcome, refused, accepted, need, numberOf, bytesOf}
-use Rattle.panel.specs.Questions.{Lengths, lengthsOk, changedState}
+use Rattle.panel.specs.Questions.{Lengths}
+use Rattle.panel.specs.promises.Ends.{changedState}
 use Rattle.panel_output.specs.declared.Ending.{Ending}
 use Rattle.panel_output.specs.promises.Ending.{outcomeOf, putEnding, Finished}
 use Rattle.panel_output.specs.laws.Ending.{written-outcome}
 use Rattle.panel_sheets.specs.promises.Calls.{Gives}
-
--- QUESTION 1 holds: the output is as long as it is due
-pub due-is : (L : Lengths) (old : List ℕ) (out due : ℕ) (work workDue : List ℕ)
-    → lengthsOk L old out due work workDue ≡ true → out ≡ due
-due-is L old out due work workDue h =
-    eqb-true out due
-    (both-true (eqb out due) (same work workDue)
-    (both-true (eqb (length old) (L .overlay)) (eqb out due && same work workDue) h .1) .0)
 
 -- a call that ends so gives the outcome
 pub gives : {o : Outcome} {l m : List ℕ} {e : Ending} {r : ℕ} (n : ℕ) → length l ≡ n → outcomeOf l e ≡ o
@@ -49,15 +40,15 @@ gives {l} {e} n k d F = record {
 }
 
 -- what is written, or not, is the outcome
-pub changed-outcome : {l m : List ℕ} {q : Put} (s : State) → Changes l m q s
-    → outcomeOf m (putEnding q) ≡ changedState (length l) s
+pub changed-outcome : (L : Lengths) (old : List ℕ) {l m : List ℕ} {q : Put} (s : State) → length l ≡ L .overlay
+    → Changes l m q s → outcomeOf m (putEnding q) ≡ changedState L old s
 unfolding room
-changed-outcome {l} {m} {q} s C = go (ok 7 overlay s) refl
+changed-outcome L old {l} {m} {q} s d C = go (ok 7 overlay s) refl
   where
     go : (b : Bool) → ok 7 overlay s ≡ b
         → outcomeOf m (putEnding q)
-        ≡ need (b && leb (length (write overlay s)) (length l)) 7 (accepted (write overlay s))
-    go true e = written-outcome (C .few e)
+        ≡ need (b && leb (length (write overlay s)) (L .overlay)) 7 (accepted (write overlay s))
+    go true e = rw (sym d) (written-outcome (C .few e))
     go false e = ap (λ q. outcomeOf m (putEnding q)) (C .many e)
 
 -- what holds of every entry after a put holds of the one that was put
@@ -87,13 +78,13 @@ alerts-of F vs h =
     (both-true (ok 7 (optional timestamp) (timestampOf F)) (t && (v && a)) h .1) .1) .1
 
 -- a sheet with too many alerts, or ids, is too much for every state
-pub alerts-over : (n : ℕ) (f : List ℕ) (vs : List Alert) (s : State) → ok 7 (list 256 alert) vs ≡ false
-    → changedState n (afterAlerts f vs s) ≡ refused 7
+pub alerts-over : (L : Lengths) (old f : List ℕ) (vs : List Alert) (s : State) → ok 7 (list 256 alert) vs ≡ false
+    → changedState L old (afterAlerts f vs s) ≡ refused 7
 unfolding afterAlerts
-alerts-over n f vs s h = go (ok 7 overlay (afterAlerts f vs s)) refl
+alerts-over L old f vs s h = go (ok 7 overlay (afterAlerts f vs s)) refl
   where
     go : (b : Bool) → ok 7 overlay (afterAlerts f vs s) ≡ b
-        → need (b && room n (afterAlerts f vs s)) 7 (accepted (write overlay (afterAlerts f vs s))) ≡ refused 7
+        → need (b && room (L .overlay) (afterAlerts f vs s)) 7 (accepted (write overlay (afterAlerts f vs s))) ≡ refused 7
     go true e =
         false-true (sym h ∙ alerts-of (feedAt f s) vs (feed-seven f (withAlerts (feedAt f s) vs) (versionOf s) s e))
     go false e = refl

@@ -23,13 +23,15 @@ use Rattle.overlay.specs.Change.{afterVehicles}
 use Rattle.overlay_bodies.specs.promises.Bodies.{VehiclesAlone}
 use Rattle.overlay_sheets.specs.promises.Sheets.{Changes}
 use Rattle.panel.specs.Outcome.{Outcome, refused, need, needSome}
-use Rattle.panel.specs.Questions.{Lengths, whole, feedOk, lengthsOk, changedState, keysAscend, vehiclesIn}
-use Rattle.panel.specs.Questions.{vehiclesOutcome, vehicleSheetOf}
+use Rattle.panel.specs.Questions.{Lengths, whole, feedOk, lengthsOk}
+use Rattle.panel.specs.VehicleSheet.{keysAscend, vehiclesIn, vehicleSheetAsks, vehiclesAsk}
+use Rattle.panel.specs.promises.Ends.{changedState, vehiclesOutcome, vehicleSheetOf}
+use Rattle.panel.specs.laws.Lawful.{due-is}
 use Rattle.panel_output.specs.declared.Ending.{Ending}
 use Rattle.panel_output.specs.promises.Ending.{outcomeOf, putEnding}
 use Rattle.panel_questions.specs.promises.Numbers.{formed, timed, vehicleNumber, ClockIs}
 use Rattle.panel_questions.specs.laws.Whole.{some-is, all-read}
-use Rattle.panel_sheets.specs.laws.Changed.{changed-outcome, due-is}
+use Rattle.panel_sheets.specs.laws.Changed.{changed-outcome}
 
 -- a sheet that is whole and whose keys ascend: its vehicles
 module _ (sheet : List ℕ) (v : Value vehicleSheet) where
@@ -81,17 +83,17 @@ value-fine true true true false true e = record { feed = refl; fifth = refl; six
 value-fine true true true false false e = absurd (omega (arith, e))
 
 module _ (L : Lengths) (old f sheet : List ℕ) (clock : ℤ) (new : ℕ) (work : List ℕ)
-    (h : lengthsOk L old new (L .overlay) work (L .vehicleWork) ≡ true) where
+    (h : lengthsOk L old new (L .overlay) work (L .work .vehicleSheet) ≡ true) where
   abbrev asks : State → Outcome
-  asks s = need (leb (length sheet) 1048576) 3 (needSome (vehiclesIn sheet) 4 (vehiclesOutcome L f clock s))
+  asks s = need (leb (length sheet) 1048576) 3 (needSome (vehiclesIn sheet) 4 (vehiclesOutcome L old f clock s))
 
   -- QUESTION 2
   pub vehicles-closed : stateOf old ≡ none → refused 2 ≡ vehicleSheetOf L old f sheet clock new work
-  unfolding vehicleSheetOf
+  unfolding vehicleSheetAsks
   vehicles-closed e = rw (h, e) refl
 
   vehicles-open : {s : State} → stateOf old ≡ some s → vehicleSheetOf L old f sheet clock new work ≡ asks s
-  unfolding vehicleSheetOf
+  unfolding vehicleSheetAsks
   vehicles-open e = rw (h, e) refl
 
   -- QUESTIONS 3 TO 6
@@ -101,35 +103,35 @@ module _ (L : Lengths) (old f sheet : List ℕ) (clock : ℤ) (new : ℕ) (work 
     numbered = N ∙ ap (vehicleNumber f sheet) (T .six)
 
     pub vehicles-refused : (n ≡ 0 → ⊥) → refused n ≡ vehicleSheetOf L old f sheet clock new work
-    unfolding vehicleNumber vehiclesOutcome
+    unfolding vehicleNumber vehiclesAsk
     vehicles-refused z = sym (vehicles-open i ∙ go (leb (length sheet) 1048576) (vehiclesIn sheet) numbered)
       where
         go : (b : Bool) (o : Option (Value vehicleSheet))
             → n ≡ cond b
             (formed o (λ v. cond (feedOk f) (timed (verdict vehicleSheet v) (ok 6 instant clock)) 5)) 3
-            → need b 3 (needSome o 4 (vehiclesOutcome L f clock s)) ≡ refused n
+            → need b 3 (needSome o 4 (vehiclesOutcome L old f clock s)) ≡ refused n
         go false o e = ap refused (sym e)
         go true none e = ap refused (sym e)
         go true (some v) e =
             value-refused (feedOk f) (ok 5 vehicleSheet v) (ok 6 vehicleSheet v) (ok 7 vehicleSheet v)
-            (ok 6 instant clock) (changedState (L .overlay) (afterVehicles f (v .1) clock s)) e z
+            (ok 6 instant clock) (changedState L old (afterVehicles f (v .1) clock s)) e z
 
     -- or all are answered by yes
     record Sheet : Type 0 where
       vehicles : Vehicles
       stand : VehiclesAlone sheet vehicles
       limited : zag limit ≡ clock -ℤ pos 900
-      is : vehicleSheetOf L old f sheet clock new work ≡ changedState (L .overlay) (afterVehicles f vehicles clock s)
+      is : vehicleSheetOf L old f sheet clock new work ≡ changedState L old (afterVehicles f vehicles clock s)
 
     vehicles-asked : n ≡ 0 → Sheet
-    unfolding vehicleNumber vehiclesOutcome
+    unfolding vehicleNumber vehiclesAsk
     vehicles-asked z =
         go (leb (length sheet) 1048576) (vehiclesIn sheet) refl (sym z ∙ numbered) (vehicles-open i)
       where
         go : (b : Bool) (o : Option (Value vehicleSheet)) → vehiclesIn sheet ≡ o
             → 0 ≡ cond b
             (formed o (λ v. cond (feedOk f) (timed (verdict vehicleSheet v) (ok 6 instant clock)) 5)) 3
-            → vehicleSheetOf L old f sheet clock new work ≡ need b 3 (needSome o 4 (vehiclesOutcome L f clock s))
+            → vehicleSheetOf L old f sheet clock new work ≡ need b 3 (needSome o 4 (vehiclesOutcome L old f clock s))
             → Sheet
         go false o w e k = absurd (omega (arith, e))
         go true none w e k = absurd (omega (arith, e))
@@ -150,7 +152,7 @@ module _ (L : Lengths) (old f sheet : List ℕ) (clock : ℤ) (new : ℕ) (work 
         → r ≡ putEnding q → outcomeOf m r ≡ vehicleSheetOf L old f sheet clock new work
     vehicles-accepted {m} z k C e =
         let S = vehicles-asked z in
-        let d = due-is L old new (L .overlay) work (L .vehicleWork) h in
+        let d = due-is L old new (L .overlay) work (L .work .vehicleSheet) h in
         let s′ = afterVehicles f (S .vehicles) clock s in
-        ap (outcomeOf m) e ∙ changed-outcome s′ (C (S .vehicles) (S .limited) (S .stand))
-        ∙ ap (λ n. changedState n s′) (sym k ∙ d) ∙ sym (S .is)
+        ap (outcomeOf m) e ∙ changed-outcome L old s′ (sym k ∙ d) (C (S .vehicles) (S .limited) (S .stand))
+        ∙ sym (S .is)

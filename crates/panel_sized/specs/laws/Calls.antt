@@ -9,7 +9,12 @@ use lib.ListN.{length, replicate}
 use borrow.Author.Tests.{ne-eqb, eqb-true}
 use Rattle.basics.specs.laws.Booleans.{both-true}
 use Rattle.panel.specs.Outcome.{numberOf, bytesOf}
-use Rattle.panel.specs.Questions.{Lengths, lengthsOk, freshOf, alertSheetOf, vehicleSheetOf, reportOf}
+use Rattle.panel.specs.Questions.{Lengths, lengthsOk}
+use Rattle.panel.specs.AlertSheet.{alertSheetAsks}
+use Rattle.panel.specs.Fresh.{freshAsks}
+use Rattle.panel.specs.Report.{reportAsks}
+use Rattle.panel.specs.VehicleSheet.{vehicleSheetAsks}
+use Rattle.panel.specs.promises.Ends.{alertSheetOf, vehicleSheetOf}
 use Rattle.panel.specs.Calls.{Call, ends, outOf, workOf}
 use Rattle.panel.specs.Calls as calls
 use Rattle.panel_output.specs.declared.Ending.{Ending}
@@ -53,22 +58,22 @@ sizes n old out due {t} h = two (eqb (length old) n) (eqb out due) t h
 module _ {n : ℕ} {old f sheet : List ℕ} {new : ℕ} where
   pub alerts-unsized : {l : List ℕ} → alikeSized n old new n ≡ false
       → Ends (sized n) old (calls.alertSheet f sheet new []) l (Refused 1)
-  unfolding alertSheetOf
+  unfolding alertSheetAsks
   alerts-unsized h = record { is = rw (sizes n old new n h) refl }
 
   pub alerts-given : {r : ℕ} {out : List ℕ} → alikeSized n old new n ≡ true
-      → ((L : Lengths) (work : List ℕ) → lengthsOk L old new (L .overlay) work (L .alertWork) ≡ true
+      → ((L : Lengths) (work : List ℕ) → lengthsOk L old new (L .overlay) work (L .work .alertSheet) ≡ true
       → Gives new (alertSheetOf L old f sheet new work) r out)
       → Given (sized n) old (calls.alertSheet f sheet new []) r out []
   alerts-given h G = let g = G (sized n) [] (sizes n old new n h) in given (g .number) (g .bytes) refl
 
   pub vehicles-unsized : {clock : ℤ} {l : List ℕ} → alikeSized n old new n ≡ false
       → Ends (sized n) old (calls.vehicleSheet f sheet clock new []) l (Refused 1)
-  unfolding vehicleSheetOf
+  unfolding vehicleSheetAsks
   vehicles-unsized h = record { is = rw (sizes n old new n h) refl }
 
   pub vehicles-given : {clock : ℤ} {r : ℕ} {out : List ℕ} → alikeSized n old new n ≡ true
-      → ((L : Lengths) (work : List ℕ) → lengthsOk L old new (L .overlay) work (L .vehicleWork) ≡ true
+      → ((L : Lengths) (work : List ℕ) → lengthsOk L old new (L .overlay) work (L .work .vehicleSheet) ≡ true
       → Gives new (vehicleSheetOf L old f sheet clock new work) r out)
       → Given (sized n) old (calls.vehicleSheet f sheet clock new []) r out []
   vehicles-given h G = let g = G (sized n) [] (sizes n old new n h) in given (g .number) (g .bytes) refl
@@ -81,18 +86,18 @@ report-long n old out h = eqb-true out 25 (both-true (eqb (length old) n) (eqb o
 module _ {n : ℕ} {old f : List ℕ} {out : ℕ} where
   pub report-unsized : {l : List ℕ} → alikeSized n old out 25 ≡ false
       → Ends (sized n) old (calls.report f out) l (Refused 1)
-  unfolding reportOf
+  unfolding reportAsks
   report-unsized h = record { is = rw (sizes n old out 25 h) refl }
 
   pub report-ends : {l : List ℕ} {e : Ending} → alikeSized n old out 25 ≡ true → ReportEnds old f l e
       → Ends (sized n) old (calls.report f out) l e
-  unfolding reportOf
+  unfolding reportAsks
   report-ends h E = record { is = E .is ∙ sym (rw (sizes n old out 25 h) refl) }
 
 -- ---- a fresh overlay
 
 pub fresh-unsized : {n new : ℕ} {old l : List ℕ} → (new ≡ n → ⊥) → Ends (sized n) old (calls.fresh new) l (Refused 1)
-unfolding freshOf
+unfolding freshAsks
 fresh-unsized {n} {new} h = record { is = rw (ne-eqb new n h) refl }
 
 pub fresh-ends : {n : ℕ} {old l m : List ℕ} {e : Ending} → length l ≡ n → FreshEnds l m e

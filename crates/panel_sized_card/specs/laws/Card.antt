@@ -9,7 +9,8 @@ use lib.ListN.{length, replicate}
 use borrow.Author.Tests.{eqb-true}
 use Rattle.basics.specs.laws.Booleans.{both-true, and-yes}
 use Rattle.decode.specs.Sizes.{mostOld}
-use Rattle.panel.specs.Questions.{lengthsOk, cardCallOf}
+use Rattle.panel.specs.Questions.{lengthsOk}
+use Rattle.panel.specs.Card.{cardAsks}
 use Rattle.panel.specs.Calls as calls
 use Rattle.panel_output.specs.declared.Ending.{Ending}
 use Rattle.panel_output.specs.declared.Ending.the-variants.{Refused}
@@ -18,7 +19,7 @@ use Rattle.overlay_noted.specs.promises.Noted.{placesLength}
 use Rattle.journey_alerts.specs.promises.Places.{Lent}
 use Rattle.panel_card.specs.promises.Card.{LentLabels, CardEnds}
 use Rattle.panel_card.specs.laws.Card.{card-is}
-use Rattle.panel_sheets.specs.laws.Changed.{due-is}
+use Rattle.panel.specs.laws.Lawful.{due-is}
 use Rattle.panel_sized.specs.Lengths.{sized, cardWork}
 use Rattle.panel_sized.specs.Given.{Given}
 use Rattle.panel_sized.specs.promises.Ends.{Ends}
@@ -94,7 +95,7 @@ module _ {n : ℕ} {old s : List ℕ} {out a b c d e f g h : ℕ} {w r : Bool} (
     (j : r ≡ cardSized n (length old) out w) where
   pub card-unsized : {m : List ℕ} → r ≡ false
       → Ends (sized n) old (calls.card s out (a ∷ b ∷ c ∷ d ∷ e ∷ f ∷ g ∷ h ∷ [])) m (Refused 1)
-  unfolding cardCallOf
+  unfolding cardAsks
   card-unsized k = record { is = rw (asked n old out a b c d e f g h i j ∙ k) refl }
 
   pub card-ends : {l m : List ℕ} {x : Ending} → r ≡ true → out ≡ length l → CardEnds old s l m x

@@ -10,14 +10,15 @@ use borrow.Author.Tests.{eqb-true}
 use Rattle.basics.specs.laws.Booleans.{both-true}
 use Rattle.decode.specs.Sizes.{keysLength, marksLength, orderLength, updatesLength, mostOld}
 use Rattle.decode_slots.specs.promises.Index.{Lent}
-use Rattle.panel.specs.Questions.{lengthsOk, messageOf}
+use Rattle.panel.specs.Questions.{lengthsOk}
+use Rattle.panel.specs.Message.{messageAsks}
 use Rattle.panel.specs.Calls as calls
 use Rattle.panel_output.specs.declared.Ending.{Ending}
 use Rattle.panel_output.specs.declared.Ending.the-variants.{Refused}
 use Rattle.panel_output.specs.promises.Ending.{Finished}
 use Rattle.panel_message.specs.promises.Message.{MessageEnds}
 use Rattle.panel_message.specs.laws.Message.{message-is}
-use Rattle.panel_sheets.specs.laws.Changed.{due-is}
+use Rattle.panel.specs.laws.Lawful.{due-is}
 use Rattle.panel_sized.specs.Lengths.{sized}
 use Rattle.panel_sized.specs.Given.{Given}
 use Rattle.panel_sized.specs.promises.Ends.{Ends}
@@ -59,7 +60,7 @@ lends n old new keys marks order updates e h m =
 
 -- with the lengths of the new overlay and of the four working slices
 module _ (n : ℕ) (old : List ℕ) (new keys marks order updates : ℕ) where
-  question-1 : lengthsOk (sized n) old new n (keys ∷ marks ∷ order ∷ updates ∷ []) (sized n .messageWork)
+  question-1 : lengthsOk (sized n) old new n (keys ∷ marks ∷ order ∷ updates ∷ []) (sized n .work .message)
       ≡ messageSized n (length old) new keys marks order updates
   question-1 =
       ap (λ b. eqb (length old) n
@@ -69,7 +70,7 @@ module _ (n : ℕ) (old : List ℕ) (new keys marks order updates : ℕ) where
 module _ {n : ℕ} {old f s : List ℕ} {new keys marks order updates : ℕ} where
   pub message-unsized : {m : List ℕ} {b : Bool} → b ≡ messageSized n (length old) new keys marks order updates
       → b ≡ false → Ends (sized n) old (calls.message f s new (keys ∷ marks ∷ order ∷ updates ∷ [])) m (Refused 1)
-  unfolding messageOf
+  unfolding messageAsks
   message-unsized e h = record { is = rw (question-1 n old new keys marks order updates, ← e, h) refl }
 
   pub message-ends : {l m : List ℕ} {b : Bool} {r : Ending}
@@ -78,7 +79,7 @@ module _ {n : ℕ} {old f s : List ℕ} {new keys marks order updates : ℕ} whe
   message-ends {l} e h i E =
       let q = question-1 n old new keys marks order updates ∙ sym e ∙ h in
       let w = keys ∷ marks ∷ order ∷ updates ∷ [] in
-      let d : n ≡ length l = sym (due-is (sized n) old new n w (sized n .messageWork) q) ∙ i in
+      let d : n ≡ length l = sym (due-is (sized n) old new n w (sized n .work .message) q) ∙ i in
       let q′ = rw i at q in
       record { is = message-is E (sized n) w d q′ ∙ rw (← i) refl }
 
