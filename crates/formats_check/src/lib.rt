@@ -171,13 +171,14 @@ pub fn optional_printable(limit: u64, s: &[u8], at: usize) -> Skip
     optional_text(PRINTABLE, limit, s, at)
 }
 
-pub fn flag(s: &[u8], at: usize) -> Skip
-    ensures { λ r. ⌜ Fine (small 1) (now (s .entry)) at r ⌝ }
+// A small number, at most `limit`.
+pub fn at_most(limit: u64, s: &[u8], at: usize) -> Skip
+    ensures { λ r. ⌜ Fine (small limit) (now (s .entry)) at r ⌝ }
 {
     let Numeral::Got(n, p) = number_at(s, at) else {
         return Skip::Broken;
     };
-    if 1 < n {
+    if limit < n {
         return Skip::Broken;
     }
     Skip::At(p)

@@ -2,7 +2,7 @@
 use formats::Numeral;
 use formats::Skip;
 use formats_check::Span;
-use formats_check::flag;
+use formats_check::at_most;
 use formats_check::number_at;
 use formats_check::printable_at;
 use overlay_trip::optional_word;
@@ -207,7 +207,7 @@ fn longer(feed: &[u8], s: &[u8], a: usize, e: usize) -> bool
     let Skip::At(p) = optional_word(s, e) else {
         return false;
     };
-    let Skip::At(q) = flag(s, p) else {
+    let Skip::At(q) = at_most(1, s, p) else {
         return false;
     };
     let Span::At(b, d) = printable_at(16, s, q) else {

@@ -1,7 +1,7 @@
 // The record of a trip by checked reading: its updates, its parts, and the record whole.
 use formats::Numeral;
 use formats::Skip;
-use formats_check::flag;
+use formats_check::at_most;
 use formats_check::number_at;
 use formats_check::number_five;
 use formats_check::number_long;
@@ -86,7 +86,7 @@ fn departure(s: &[u8], at: usize) -> Skip
     let Skip::At(q) = optional_instant(s, p) else {
         return Skip::Broken;
     };
-    flag(s, q)
+    at_most(1, s, q)
 }
 
 fn arrival(s: &[u8], at: usize) -> Skip
@@ -182,7 +182,7 @@ pub fn trip(s: &[u8], at: usize) -> Skip
     let Skip::At(p) = optional_word(s, at) else {
         return Skip::Broken;
     };
-    let Skip::At(q) = flag(s, p) else {
+    let Skip::At(q) = at_most(1, s, p) else {
         return Skip::Broken;
     };
     let Skip::At(u) = printable(16, s, q) else {

@@ -27,8 +27,8 @@ enum-told-2 c = search needs
 returns-2 : tie.Need-returns-2
 returns-2 c = search (then-so, then-no)
 
-flag-requires : tie.Need-flag-requires
-flag-requires c κs = search needs
+at-most-requires : tie.Need-at-most-requires
+at-most-requires c κs = search needs
 
 returns-3 : tie.Need-returns-3
 returns-3 c = search then-so
@@ -45,5 +45,5 @@ departure-spec =
     enum-known-q
     enum-told-2
     returns-2
-    flag-requires
+    at-most-requires
     returns-3)

@@ -1,7 +1,7 @@
 use Rattle.formats_check.specs.laws.Elements.{small-no, small-over, small-so}
 use borrow.Author.Needs.{needs}
-use Rattle.formats_check.proofs.flag.Statement.{statement}
-use Rattle.formats_check.proofs.flag.Tie as tie
+use Rattle.formats_check.proofs.at_most.Statement.{statement}
+use Rattle.formats_check.proofs.at_most.Tie as tie
 
 number-at-requires : tie.Need-number-at-requires
 number-at-requires c κs = search needs
@@ -21,6 +21,6 @@ returns-2 c = search small-over
 returns-3 : tie.Need-returns-3
 returns-3 c = search small-so
 
-pub flag-spec : {M : Type 1} → statement M
-flag-spec =
+pub at-most-spec : {M : Type 1} → statement M
+at-most-spec =
     tie.close (tie.spec number-at-requires enum-known-n enum-told returns returns-2 returns-3)
