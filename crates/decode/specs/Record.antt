@@ -4,7 +4,7 @@ use mathlib.Core.Bool.{Bool, cond}
 use mathlib.Core.List.{List, [], map}
 use Rattle.realtime.specs.Tree.{Tree, sub, rep}
 use Rattle.realtime_views.specs.Views.{trip, stopUpdate}
-use Rattle.decode.specs.Trip.{StopUpdate, Trip}
+use Rattle.decode.specs.Trip.{StopUpdate, Trip, updateWith, tripWith}
 use Rattle.basics.specs.Options.{maybe}
 use Rattle.maps.specs.Map.{puts}
 use Rattle.maps.specs.Order.{numbers}
@@ -15,13 +15,9 @@ bit b = cond b 1 0
 -- what a stop_time_update holds
 unfoldable pub updateIn : Tree → StopUpdate
 updateIn s =
-    let u = stopUpdate s in (
-      u .stop,
-      (
-        maybe (u .arrival .delay),
-        (maybe (u .arrival .time), (maybe (u .departure .delay), (maybe (u .departure .time), bit (u .skipped)))),
-      ),
-    )
+    let u = stopUpdate s in
+    updateWith (u .stop) (maybe (u .arrival .delay)) (maybe (u .arrival .time)) (maybe (u .departure .delay))
+    (maybe (u .departure .time)) (bit (u .skipped))
 
 -- the updates of an entity, a later one at a sequence over an earlier one
 unfoldable pub updatesIn : Tree → List (ℕ × StopUpdate)
@@ -31,4 +27,4 @@ updatesIn e = puts numbers (map {B = ℕ × StopUpdate} (λ s. (stopUpdate s .se
 unfoldable pub tripIn : Tree → Trip
 tripIn e =
     let t = trip e in
-    (maybe (t .delay), (bit (t .cancelled), (t .date, (t .route, (maybe (t .direction), (t .time, updatesIn e))))))
+    tripWith (maybe (t .delay)) (bit (t .cancelled)) (t .date) (t .route) (maybe (t .direction)) (t .time) (updatesIn e)

@@ -82,3 +82,11 @@ module _ (t : Trip) where
 
   abbrev pub updatesOf : List (ℕ × StopUpdate)
   updatesOf = t .1 .1 .1 .1 .1 .1
+
+abbrev pub updateWith : List ℕ → Maybe ℤ → Maybe ℤ → Maybe ℤ → Maybe ℤ → ℕ → StopUpdate
+updateWith stop arrivalDelay arrivalTime departureDelay departureTime skipped =
+    (stop, (arrivalDelay, (arrivalTime, (departureDelay, (departureTime, skipped)))))
+
+abbrev pub tripWith : Maybe ℤ → ℕ → List ℕ → List ℕ → Maybe ℕ → List ℕ → List (ℕ × StopUpdate) → Trip
+tripWith delay cancelled date route direction time updates =
+    (delay, (cancelled, (date, (route, (direction, (time, updates))))))

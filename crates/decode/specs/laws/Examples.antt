@@ -9,7 +9,7 @@ use Rattle.wire.specs.Wire.{digits, varint, key, bytes, lengthDelimited, payloa
 use Rattle.slices.specs.Lists.{lexOf}
 use Rattle.realtime.specs.Tree.{end, num, txt, msg, tree, nest}
 use Rattle.realtime.specs.Schema.{fieldRows, feed}
-use Rattle.decode.specs.Trip.{StopUpdate}
+use Rattle.decode.specs.Trip.{StopUpdate, updateWith, tripWith}
 use Rattle.basics.specs.Options.{Maybe}
 use Rattle.decode.specs.Record.{updateIn, updatesIn, tripIn}
 use Rattle.decode.specs.Key.{incompleteKey, entriesIn}
@@ -18,11 +18,11 @@ use Rattle.decode.specs.laws.Leaves.{left}
 
 -- what a message leaves of the trips of feed f, of which there was one, f:1 with a delay of 7
 abbrev after : List ℕ → Option Trips
-after m = left (0x66 ∷ []) m ((0x31 ∷ [], (inr (pos 7), (0, ([], ([], (inl tt, ([], []))))))) ∷ [])
+after m = left (0x66 ∷ []) m ((0x31 ∷ [], tripWith (inr (pos 7)) 0 [] [] (inl tt) [] []) ∷ [])
 
 -- f:1 alone, with its delay, whether it is cancelled, and its updates
 abbrev one : Maybe ℤ → ℕ → List (ℕ × StopUpdate) → Option Trips
-one d c u = some ((0x31 ∷ [], (d, (c, ([], ([], (inl tt, ([], u))))))) ∷ [])
+one d c u = some ((0x31 ∷ [], tripWith d c [] [] (inl tt) [] u) ∷ [])
 
 -- the empty message clears
 empty : after [] ≡ some []
@@ -76,15 +76,15 @@ merged-delay = refl
 replaced : after
     (0x12 ∷ 0x1b ∷ 0x1a ∷ 0x19 ∷ 0x0a ∷ 0x03 ∷ 0x0a ∷ 0x01 ∷ 0x31 ∷ 0x12 ∷ 0x0a ∷ 0x08 ∷ 0x81 ∷ 0x80 ∷ 0x80 ∷ 0x80
     ∷ 0x10 ∷ 0x12 ∷ 0x02 ∷ 0x08 ∷ 0x09 ∷ 0x12 ∷ 0x06 ∷ 0x08 ∷ 0x01 ∷ 0x12 ∷ 0x02 ∷ 0x08 ∷ 0x05 ∷ [])
-    ≡ one (inl tt) 0 ((1, ([], (inr (pos 5), (inl tt, (inl tt, (inl tt, 0)))))) ∷ [])
+    ≡ one (inl tt) 0 ((1, updateWith [] (inr (pos 5)) (inl tt) (inl tt) (inl tt) 0) ∷ [])
 unfolding lexOf leaves entries entriesIn tripIn updatesIn updateIn tree nest feed fieldRows fields many field value
     payload lengthDelimited bytes key varint digits
 replaced = refl
 
 -- trip id 1 dated 2: both keys, and the count has one. Without a trip id the key is #r=f:7&d=10&sd=&st=
 dated : entriesIn (0x66 ∷ []) (msg 3 3 (msg 1 4 (txt 1 (0x31 ∷ []) (txt 3 (0x32 ∷ []) end)) end) end)
-    ≡ (0x31 ∷ 0x40 ∷ 0x32 ∷ [], (inl tt, (0, (0x32 ∷ [], ([], (inl tt, ([], [])))))))
-    ∷ (0x31 ∷ [], (inl tt, (0, (0x32 ∷ [], ([], (inl tt, ([], []))))))) ∷ []
+    ≡ (0x31 ∷ 0x40 ∷ 0x32 ∷ [], tripWith (inl tt) 0 (0x32 ∷ []) [] (inl tt) [] [])
+    ∷ (0x31 ∷ [], tripWith (inl tt) 0 (0x32 ∷ []) [] (inl tt) [] []) ∷ []
 unfolding entriesIn tripIn updatesIn
 dated = refl
 
@@ -92,7 +92,7 @@ incomplete : entriesIn (0x66 ∷ []) (msg 3 3 (msg 1 4 (txt 5 (0x37 ∷ []) (num
     ≡ (
       0x23 ∷ 0x72 ∷ 0x3d ∷ 0x66 ∷ 0x3a ∷ 0x37 ∷ 0x26 ∷ 0x64 ∷ 0x3d ∷ 0x31 ∷ 0x30
           ∷ 0x26 ∷ 0x73 ∷ 0x64 ∷ 0x3d ∷ 0x26 ∷ 0x73 ∷ 0x74 ∷ 0x3d ∷ [],
-      (inl tt, (0, ([], (0x37 ∷ [], (inr 10, ([], [])))))),
+      tripWith (inl tt) 0 [] (0x37 ∷ []) (inr 10) [] [],
     ) ∷ []
 unfolding entriesIn tripIn updatesIn incompleteKey
 incomplete = refl

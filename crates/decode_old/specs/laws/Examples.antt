@@ -7,7 +7,7 @@ use native.Mathlib.Omega.{arith}
 use lib.IntN.{pos}
 use Rattle.formats.specs.Format.{list}
 use Rattle.formats_read.specs.laws.Here.{whole-here}
-use Rattle.decode.specs.Trip.{tripEntry}
+use Rattle.decode.specs.Trip.{tripEntry, updateWith, tripWith}
 use Rattle.decode.specs.Leaves.{Trips}
 use Rattle.decode_slots.specs.Places.{oldAt, held}
 use Rattle.decode_old.specs.promises.Old.{Stands}
@@ -21,24 +21,12 @@ bytes =
 
 trips : Trips
 trips =
-    (97 ∷ [], (inr (pos 60), (0, ([], ([], (inl tt, ([], [])))))))
+    (97 ∷ [], tripWith (inr (pos 60)) 0 [] [] (inl tt) [] [])
     ∷ (
       98 ∷ [],
-      (
-        inl tt,
-        (
-          1,
-          (
-            [],
-            (
-              [],
-              (inl tt, ([], (5, (83 ∷ [], (inl tt, (inl tt, (inl tt, (inl tt, 1)))))) ∷ [])),
-            ),
-          ),
-        ),
-      ),
-    )
-    ∷ []
+      tripWith (inl tt) 1 [] [] (inl tt) []
+          ((5, updateWith (83 ∷ []) (inl tt) (inl tt) (inl tt) (inl tt) 1) ∷ []),
+    ) ∷ []
 
 stand : Stands bytes 0
 unfolding bytes trips

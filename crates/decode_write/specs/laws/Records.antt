@@ -27,7 +27,7 @@ use Rattle.realtime_views.specs.Views as views
 use Rattle.realtime_views.specs.promises.Views.{TripRead, viewTrip}
 use Rattle.decode.specs.Record.{bit, updatesIn, tripIn}
 use Rattle.decode.specs.Sizes.{mostUpdates, beyond, keyBytes}
-use Rattle.decode.specs.Trip.{StopUpdate, Trip, trip, tripEntry}
+use Rattle.decode.specs.Trip.{StopUpdate, Trip, trip, tripEntry, tripWith}
 use Rattle.decode_slots.specs.Index.{slotEntry}
 use Rattle.decode_slots.specs.Places.{orEnd, recordAt, updateAt, heldAt, isNew, crowded}
 use Rattle.decode_slots.specs.promises.Places.{Readable}
@@ -43,7 +43,7 @@ use Rattle.decode_write.specs.laws.Written.{updatesW}
 -- a record by the view of its trip and its updates
 abbrev tripOf : TripView → List (ℕ × StopUpdate) → Trip
 tripOf t us =
-    (maybe (t .delay), (bit (t .cancelled), (t .date, (t .route, (maybe (t .direction), (t .time, us))))))
+    tripWith (maybe (t .delay)) (bit (t .cancelled)) (t .date) (t .route) (maybe (t .direction)) (t .time) us
 
 -- the texts of a trip that was read lie in the message
 pub texts-lie : {s : List ℕ} {i l : ℕ} {t : read.Trip} → TripRead schema.feed s i l t → TextsLie (length s) t

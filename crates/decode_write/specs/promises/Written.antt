@@ -9,7 +9,7 @@ use Rattle.realtime_views.specs.Views.{EventView, StopView, TripView}
 use Rattle.realtime_views.specs.declared.Trip.{Trip}
 use Rattle.realtime_views.specs.promises.Views.{SpanInside}
 use Rattle.decode.specs.Record.{bit}
-use Rattle.decode.specs.Trip.{StopUpdate}
+use Rattle.decode.specs.Trip.{StopUpdate, updateWith}
 
 abbrev pub signedW : ℤ → List ℕ
 signedW z = numberW (zig z)
@@ -20,19 +20,9 @@ eventW e = optionalW signedW (maybe (e .delay)) ++ optionalW signedW (maybe (e .
 
 -- the stop update of a view
 abbrev pub updateOf : StopView → StopUpdate
-updateOf u = (
-  u .stop,
-  (
-    maybe (u .arrival .delay),
-    (
-      maybe (u .arrival .time),
-      (
-        maybe (u .departure .delay),
-        (maybe (u .departure .time), bit (u .skipped)),
-      ),
-    ),
-  ),
-)
+updateOf u =
+    updateWith (u .stop) (maybe (u .arrival .delay)) (maybe (u .arrival .time)) (maybe (u .departure .delay))
+    (maybe (u .departure .time)) (bit (u .skipped))
 
 -- a record's part before its updates
 abbrev pub headW : TripView → List ℕ

@@ -14,7 +14,7 @@ use Rattle.formats.specs.Format.{Value}
 use Rattle.slices.specs.Lists.{lexOf}
 use Rattle.calendar.specs.Civil.{leapDay, yearFrom, monthFrom}
 use Rattle.calendar.specs.Paris.{isSummer}
-use Rattle.decode.specs.Trip.{Trip, StopUpdate}
+use Rattle.decode.specs.Trip.{Trip, StopUpdate, updateWith, tripWith}
 use Rattle.basics.specs.Options.{Maybe}
 use Rattle.decode.specs.Leaves.{Trips}
 use Rattle.alerts.specs.Text.{text}
@@ -47,14 +47,14 @@ end n = inr (pos (1767266700 + n))
 
 -- an update: its stop; arrival's delay and time, departure's delay and time
 abbrev pub update : String → Maybe ℤ → Maybe ℤ → Maybe ℤ → Maybe ℤ → StopUpdate
-update stop ad at dd dt = (text stop, (ad, (at, (dd, (dt, 0)))))
+update stop ad at dd dt = updateWith (text stop) ad at dd dt 0
 
 abbrev pub skipped : StopUpdate
-skipped = ([], (absent, (absent, (absent, (absent, 1)))))
+skipped = updateWith [] absent absent absent absent 1
 
 -- a record of route R on 1 January 2026: delay, cancelled, updates
 abbrev pub trip : Maybe ℤ → ℕ → List (ℕ × StopUpdate) → Trip
-trip delay cancelled updates = (delay, (cancelled, (text "20260101", (text "R", (absent, ([], updates))))))
+trip delay cancelled updates = tripWith delay cancelled (text "20260101") (text "R") absent [] updates
 
 -- feed f alone
 abbrev pub feedF : Trips → Vehicles → List Alert → Feeds

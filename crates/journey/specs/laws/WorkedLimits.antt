@@ -67,7 +67,9 @@ carded headers legs = (tt, (pos 0, (pos 0, (pos 0, (0, (replicate headers (lette
 
 -- a trip's updates; a feed's trips, vehicles and alerts; a state's feeds
 abbrev pub updated : ℕ → Value trips.trip
-updated n = (inl tt, (0, ([], ([], (inl tt, ([], replicate n (0, ([], (inl tt, (inl tt, (inl tt, (inl tt, 0))))))))))))
+updated n =
+    trips.tripWith (inl tt) 0 [] [] (inl tt) []
+    (replicate n (0, trips.updateWith [] (inl tt) (inl tt) (inl tt) (inl tt) 0))
 
 abbrev pub fed : ℕ → ℕ → ℕ → Value state.feed
 fed n vehicles alerts =

@@ -13,7 +13,7 @@ use Rattle.basics.specs.Lists.{all}
 use Rattle.formats.specs.Format.{small, text, list, optional, constant, _&_, write}
 use Rattle.slices.specs.Lists.{lexOf}
 use Rattle.slices.specs.declared.Order.the-variants.{Less}
-use Rattle.decode.specs.Trip.{tripEntry, Trip, StopUpdate, id, delay, number32, stopUpdate, trip}
+use Rattle.decode.specs.Trip.{tripEntry, Trip, StopUpdate, id, delay, number32, stopUpdate, trip, tripWith}
 use Rattle.maps.specs.Map.{ascending}
 use Rattle.maps.specs.Order.{texts, numbers}
 use Rattle.maps.specs.laws.Order.{cons-before}
@@ -110,7 +110,7 @@ day = replicate 16 97
 -- the trip of route i; and at its incomplete key in feed k
 abbrev pub fullTrip : ℕ → Trip
 fullTrip i =
-    (most (optional delay) refl, (most (small 1) refl, (day, (longName 62 i, (inr 4294967295, (day, updates))))))
+    tripWith (most (optional delay) refl) (most (small 1) refl) day (longName 62 i) (inr 4294967295) day updates
 
 trip-fills : (i : ℕ) → i < 2048 → Fills trip (fullTrip i)
 trip-fills i l =

@@ -10,7 +10,7 @@ use Rattle.basics.specs.Rows.{Row, row, Holds}
 use Rattle.basics.specs.laws.Rows.{_also_}
 use Rattle.slices.specs.Lists.{lexOf}
 use Rattle.realtime.specs.Tree.{Tree, end, num, txt, msg}
-use Rattle.decode.specs.Trip.{Trip, StopUpdate}
+use Rattle.decode.specs.Trip.{Trip, StopUpdate, updateWith, tripWith}
 use Rattle.decode.specs.Record as entities
 use Rattle.decode.specs.Key as keys
 use Rattle.decode.specs.Leaves as leaves
@@ -26,11 +26,11 @@ use Rattle.overlay.specs.laws.WorkedLookup.{at}
 
 -- records that a delay tells apart
 abbrev pub late : ℕ → String → List (ℕ × StopUpdate) → Trip
-late n date updates = (inr (pos n), (0, (text date, ([], (inl tt, ([], updates))))))
+late n date updates = tripWith (inr (pos n)) 0 (text date) [] (inl tt) [] updates
 
 -- an update's stop, and nothing else
 abbrev pub calling : String → StopUpdate
-calling stop = (text stop, (inl tt, (inl tt, (inl tt, (inl tt, 0)))))
+calling stop = updateWith (text stop) (inl tt) (inl tt) (inl tt) (inl tt) 0
 
 -- entities of trip 1: with a delay; with a date too; and deleted. Of trip 2: with three updates, two without a sequence
 abbrev pub one : ℕ → Tree

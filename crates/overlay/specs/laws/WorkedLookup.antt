@@ -12,7 +12,7 @@ use Rattle.basics.specs.Rows.{Row, row, Holds}
 use Rattle.basics.specs.laws.Rows.{_also_}
 use Rattle.slices.specs.Lists.{lexOf}
 use Rattle.realtime.specs.Tree.{Tree, end, num, txt, msg}
-use Rattle.decode.specs.Trip.{Trip, StopUpdate}
+use Rattle.decode.specs.Trip.{Trip, StopUpdate, arrivalDelayOf, updateWith, tripWith}
 use Rattle.basics.specs.Options.{Maybe}
 use Rattle.decode.specs.Record as entities
 use Rattle.decode.specs.Key as keys
@@ -36,7 +36,7 @@ deletedKeys trip = map (λ e. e .0) (keys.entriesIn (text "f") (msg 3 3 (msg 1 4
 
 -- records that a delay tells apart: start date, route, direction
 abbrev pub run : ℕ → String → String → Maybe ℕ → Trip
-run n date route direction = (inr (pos n), (0, (text date, (text route, (direction, ([], []))))))
+run n date route direction = tripWith (inr (pos n)) 0 (text date) (text route) direction [] []
 
 abbrev pub late : ℕ → Trip
 late n = run n "" "" (inl tt)
@@ -80,17 +80,19 @@ routes r q = lookup.route-matches (text r) (text q)
 
 -- feed f's update for a stop, and a card's stop
 abbrev pub stops : String → String → Bool
-stops i stop = lookup.stop-matches (text "f") (text stop) (text i, (inl tt, (inl tt, (inl tt, (inl tt, 0)))))
+stops i stop =
+    lookup.stop-matches (text "f") (text stop) (updateWith (text i) (inl tt) (inl tt) (inl tt) (inl tt) 0)
 
 -- an update's stop and arrival delay; the delay of the update that is found, by sequence and stop
 abbrev pub calling : String → ℕ → StopUpdate
-calling i n = (text i, (inr (pos n), (inl tt, (inl tt, (inl tt, 0)))))
+calling i n = updateWith (text i) (inr (pos n)) (inl tt) (inl tt) (inl tt) 0
 
 abbrev pub three : Trip
-three = (inl tt, (0, ([], ([], (inl tt, ([], (1, calling "Z" 10) ∷ (2, calling "A" 20) ∷ (3, calling "A" 30) ∷ []))))))
+three =
+    tripWith (inl tt) 0 [] [] (inl tt) [] ((1, calling "Z" 10) ∷ (2, calling "A" 20) ∷ (3, calling "A" 30) ∷ [])
 
 abbrev pub delayAt : Maybe ℕ → String → Option (Maybe ℤ)
-delayAt sequence stop = Option·map (λ u. u .1 .0) (lookup.find-stop-update (text "f") sequence (text stop) three)
+delayAt sequence stop = Option·map arrivalDelayOf (lookup.find-stop-update (text "f") sequence (text stop) three)
 
 abbrev pub seen : String → Option Vehicle
 seen trip = lookup.get-vehicle-for-trip feeds (text trip)
