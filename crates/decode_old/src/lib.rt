@@ -1,29 +1,11 @@
 // The old trips of a feed join the index before a message's entities: where the message says what has changed, and not
 // all there is.
-mod table;
-
 use decode::sizes::BEYOND;
-use formats_judge::Judge;
-use table::DEPTH;
-use table::LIST;
-use table::TRIPS;
 ghost use mathlib.Core.Path.{_≡_};
 ghost use Prim.Native.Nat.{_+_, _≤_};
-ghost use lib.ListN.{length};
-ghost use Rattle.formats.specs.Format.{list};
-ghost use Rattle.formats_judge.specs.Judged.{judgeTo};
-ghost use Rattle.decode.specs.Trip.{tripEntry};
 ghost use Rattle.decode_slots.specs.promises.Index.{Open, Lent};
-ghost use Rattle.decode.specs.Sizes.{mostTrips, beyond, mostOld};
+ghost use Rattle.decode.specs.Sizes.{beyond, mostOld};
 ghost use Rattle.decode_old.specs.promises.Old.{Stands, Joined, Entry, FiledEntry};
-
-// The judgement of the trips that stand at `at`: their form, and the first of the questions 5 to 7 that they fail.
-pub fn judge(old: &[u8], at: usize) -> Judge
-    requires { ⌜ at ≤ length (now old) ⌝ }
-    ensures { λ r. ⌜ r ≡ judgeTo (list mostTrips tripEntry) (now (old .entry)) at ⌝ }
-{
-    formats_judge::judge_value(&TRIPS, DEPTH, LIST, old, at)
-}
 
 // A place of the old overlay's bytes, above all those of a message.
 fn old_place(p: usize) -> u32

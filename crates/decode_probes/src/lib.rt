@@ -1,5 +1,7 @@
 // Calls of the readers of trip messages for a C host: the comparison with the original runs them. They ask nothing of
 // their caller.
+mod table;
+
 use decode::sizes::KEYS_LENGTH;
 use decode::sizes::MARKS_LENGTH;
 use decode::sizes::MOST_FEED;
@@ -23,11 +25,16 @@ use realtime_views::StopUpdate;
 use realtime_views::Time;
 use realtime_views::Timestamp;
 use realtime_views::Trip;
+use table::DEPTH;
+use table::LIST;
+use table::TRIPS;
 ghost use mathlib.Core.Path.{_≡_};
 ghost use mathlib.Core.Bool.{false};
 ghost use lib.Dec.{eqb};
 ghost use lib.ListN.{length};
 ghost use Rattle.basics.specs.Texts.{same};
+ghost use Rattle.formats.specs.Format.{list};
+ghost use Rattle.formats_judge.specs.Judged.{judgeTo};
 ghost use Rattle.realtime.specs.Tree.{tree};
 ghost use Rattle.realtime.specs.Schema.{feed, feedMessage, feedEntity, stopTimeUpdate};
 ghost use Rattle.realtime.specs.Judge.{asked, rules};
@@ -35,7 +42,8 @@ ghost use Rattle.realtime_views.specs.Typed.{orZero};
 ghost use Rattle.realtime_views.specs.Views.{header, stopUpdate, trip};
 ghost use Rattle.realtime_views.specs.promises.Views.{SpanInside, spanIn, viewDelay, viewDirection, viewEvent};
 ghost use Rattle.realtime_views.specs.promises.Views.{viewHeader, viewTime, viewTimestamp};
-ghost use Rattle.decode.specs.Sizes.{updatesLength};
+ghost use Rattle.decode.specs.Sizes.{mostTrips, updatesLength};
+ghost use Rattle.decode.specs.Trip.{tripEntry};
 ghost use Rattle.decode_slots.specs.Index.{index};
 ghost use Rattle.decode_slots.specs.Places as places;
 ghost use Rattle.decode_updates.specs.Line.{laid};
@@ -351,6 +359,13 @@ pub extern "C" fn trips_updates(updates: &mut [u32], e: &[u8]) -> usize
     4
 }
 
+// The end of the trips with which old begins, and the first of the questions 5 to 7 that they fail.
+fn judge_old(old: &[u8]) -> Judge
+    ensures { λ r. ⌜ r ≡ judgeTo (list mostTrips tripEntry) (now (old .entry)) 0 ⌝ }
+{
+    formats_judge::judge_value(&TRIPS, DEPTH, LIST, old, 0)
+}
+
 fn is_unfailed(j: Judge) -> bool
     ensures { λ r. ⌜ r ≡ unfailed j ⌝ }
 {
@@ -367,7 +382,7 @@ fn are_old(old: &[u8]) -> bool
     if old.len() > MOST_OLD {
         return false;
     }
-    is_unfailed(decode_old::judge(old, 0))
+    is_unfailed(judge_old(old))
 }
 
 fn is_sized(keys: usize, marks: usize, order: usize, updates: usize) -> bool

@@ -8,11 +8,11 @@ use Rattle.decode_probes.proofs.are_old.Tie as tie
 
 returns-2 : tie.Need-returns-2
 returns-2 c =
-    let at-judge = c .before in
-    let else1 = at-judge .before in
+    let at-judge-old = c .before in
+    let else1 = at-judge-old .before in
     let start = else1 .before .before in
     old-judged (start .args .old .now) (else1 .if1 .left)
-    (c .is-unfailed .ensures ∙ ap unfailed (at-judge .judge .ensures))
+    (c .is-unfailed .ensures ∙ ap unfailed (at-judge-old .judge-old .ensures))
 
 pub are-old-spec : {M : Type 1} → statement M
 are-old-spec =
