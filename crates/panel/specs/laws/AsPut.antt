@@ -62,12 +62,14 @@ read-so l n (some v) k u i = unasked (behind n l) (k v) n (i v) (own-behind n l 
 
 answered : (l : List ℕ) (a : Asks) → once l → InOrder l a → (g : ℕ → Bool)
     → ((m : ℕ) → has m l ≡ true → g m ≡ answer a m) → Each g a
-answered l (ask n b k) u i g h =
-    (h n (i .0) ∙ put-so l n b k u (i .1),
-    answered (behind n l) k (once-behind n l u) (i .1) g (λ m e. h m (stands m n l e) ∙ passed-by l n b k u m e))
-answered l (askSome n o k) u i g h =
-    (h n (i .0) ∙ read-so l n o k u (i .1),
-    λ v e. answered (behind n l) (k v) (once-behind n l u) (i .1 v) g (λ m q. h m (stands m n l q) ∙ rw e refl))
+answered l (ask n b k) u i g h = (
+  h n (i .0) ∙ put-so l n b k u (i .1),
+  answered (behind n l) k (once-behind n l u) (i .1) g (λ m e. h m (stands m n l e) ∙ passed-by l n b k u m e),
+)
+answered l (askSome n o k) u i g h = (
+  h n (i .0) ∙ read-so l n o k u (i .1),
+  λ v e. answered (behind n l) (k v) (once-behind n l u) (i .1 v) g (λ m q. h m (stands m n l q) ∙ rw e refl),
+)
 answered l (accept x) u i g h = tt
 
 -- EVERY QUESTION OF EVERY CALL is answered as it is put
