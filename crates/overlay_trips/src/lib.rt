@@ -9,7 +9,7 @@ ghost use lib.ListN.{length};
 ghost use Rattle.formats.specs.Class.{printable};
 ghost use Rattle.formats.specs.Format.{list};
 ghost use Rattle.formats_check.specs.promises.Checked.{Tested};
-ghost use Rattle.formats_check.specs.laws.Climbing.{Climbs, Entered};
+ghost use Rattle.formats_check.specs.laws.Climbing.{Climbs, Entered, byKey};
 ghost use Rattle.decode.specs.Leaves.{hasByte};
 ghost use Rattle.decode.specs.Sizes.{mostTrips};
 ghost use Rattle.decode.specs.Trip.{tripEntry};
@@ -75,8 +75,8 @@ fn trips_from(
     requires { ⌜ marked ≡ hasByte 64 (now feed) ⌝ }
     requires { ⌜ at ≤ length (now s) ⌝ }
     requires { ⌜ (base ≤ 6144) × (n ≤ mostTrips) ⌝ }
-    ensures { λ r. ⌜ Climbs 137 printable (entryGood (now (feed .entry))) (plain (now (feed .entry))) (isCount c n) n
-        (now (s .entry)) at r ⌝ }
+    ensures { λ r. ⌜ Climbs 137 printable (entryGood (now (feed .entry))) (byKey (plain (now (feed .entry))))
+        (isCount c n) n (now (s .entry)) at r ⌝ }
     ensures { λ r. ⌜ Unless r Skip.Broken (EntriesPut (now (s .entry)) at n base (now (noted .entry))
         (now (noted .exit))) ⌝ }
 {

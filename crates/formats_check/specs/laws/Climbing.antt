@@ -1,4 +1,4 @@
--- Law. Entries by ascending text: the walk knows where the key before stands, and a sum over the keys.
+-- Law. Entries by ascending text: the walk knows where the key before stands, and a sum over the entries.
 use mathlib.Core.Path.{_≡_, refl, sym, ap, _∙_}
 use mathlib.Core.List.{List, [], _∷_}
 use mathlib.Core.Option.{Option, none, some}
@@ -210,13 +210,24 @@ module _ {l : ℕ} {c : Class} {s : List ℕ} {at : ℕ} {r : Span} (S : Spans l
       let i : G .value ≡ take (e - a) (drop a s) = K .bytes (G .value) (G .reads) in
       under-so (K .is) refl (rw i T)
 
--- ENTRIES BY ASCENDING KEY. w is what a key adds to the sum, and d what the sum has to be
-module _ (l : ℕ) (c : Class) {g : Format} (t : Test (text l c & g)) (w : List ℕ → ℕ) (d : ℕ → Bool) where
+-- what an entry adds to a sum: nothing, or what its key says, or what the whole of it says
+pub data Weight (A : Type 0) : Type 0 where
+  weightless : Weight A
+  byKey : (List ℕ → ℕ) → Weight A
+  byEntry : (List ℕ × A → ℕ) → Weight A
+
+abbrev pub weighs : {A : Type 0} → Weight A → List ℕ × A → ℕ
+weighs weightless e = 0
+weighs (byKey u) e = u (e .0)
+weighs (byEntry u) e = u e
+
+-- ENTRIES BY ASCENDING KEY. w is what an entry adds to the sum, and d what the sum has to be
+module _ (l : ℕ) (c : Class) {g : Format} (t : Test (text l c & g)) (w : Weight (Value g)) (d : ℕ → Bool) where
   abbrev pub climb : Walk (Option (List ℕ) × ℕ) (List ℕ × Value g)
   climb =
       record {
         test = λ k e. follows (k .0) (e .0) && holds t e;
-        next = λ k e. (some (e .0), k .1 + w (e .0));
+        next = λ k e. (some (e .0), k .1 + weighs w e);
         last = λ k. d (k .1);
       }
 
@@ -229,10 +240,7 @@ module _ (l : ℕ) (c : Class) {g : Format} (t : Test (text l c & g)) (w : List 
   pub climbing-start : (n : ℕ) (s : List ℕ) (at a e : ℕ) → Climbing n s at (known true s a e) 0 n at
   climbing-start n s at a e = record { is = record { on = λ x w. w } }
 
--- where nothing is summed
-abbrev pub weightless : List ℕ → ℕ
-weightless k = 0
-
+-- any sum will do
 abbrev pub whatever : ℕ → ℕ → Bool
 whatever n m = true
 
@@ -249,8 +257,8 @@ second-no : (a b : Bool) → b ≡ false → (a && b) ≡ false
 second-no true b e = e
 second-no false b e = refl
 
-module _ {l : ℕ} {c : Class} {g : Format} {t : Test (text l c & g)} {w : List ℕ → ℕ} {d : ℕ → Bool} {n : ℕ} {s : List ℕ}
-    {at : ℕ} {k : Option (List ℕ)} {m left p : ℕ} (C : Climbing l c t w d n s at k m left p) where
+module _ {l : ℕ} {c : Class} {g : Format} {t : Test (text l c & g)} {w : Weight (Value g)} {d : ℕ → Bool} {n : ℕ}
+    {s : List ℕ} {at : ℕ} {k : Option (List ℕ)} {m left p : ℕ} (C : Climbing l c t w d n s at k m left p) where
   pub climbing-end : left ≤ 0 → p ≤ length s → d m ≡ true → Climbs l c t w d n s at (skip.At p)
   climbing-end z h f =
       record { is = C .is .on (skip.At p) (walk-end (text l c & g) (climb l c t w d) (k, m) s p left z h f) }
@@ -290,7 +298,7 @@ module _ {l : ℕ} {c : Class} {g : Format} {t : Test (text l c & g)} {w : List 
           let o : follows k (value .value .0) ≡ false = in-order ∙ j in
           no (refused (value .value, drop q s) (value .reads) (rw o refl))
 
-      on : b ≡ true → (y : ℕ) → y ≡ m + w (take (e - a) (drop a s))
+      on : b ≡ true → (y : ℕ) → y ≡ m + weighs w (value .value)
           → Climbing l c t w d n s at (known false s a e) y (left - 1) q
       on j y f =
           let o : follows k (value .value .0) ≡ true = in-order ∙ j in
@@ -303,9 +311,14 @@ module _ {l : ℕ} {c : Class} {g : Format} {t : Test (text l c & g)} {w : List 
             };
           }
 
-      pub climbing-so : b ≡ true → {y : ℕ} → y ≡ w (take (e - a) (drop a s))
-          → Climbing l c t w d n s at (known false s a e) (m + y) (left - 1) q
-      climbing-so j {y} f = on j (m + y) (ap (λ x. m + x) f)
+-- what the key that stands there adds
+module _ {l : ℕ} {c : Class} {g : Format} {t : Test (text l c & g)} {u : List ℕ → ℕ} {d : ℕ → Bool} {n : ℕ}
+    {s : List ℕ} {at : ℕ} {k : Option (List ℕ)} {m left p : ℕ} (C : Climbing l c t (byKey u) d n s at k m left p)
+    (z : 0 < left) {r : Entry} (E : Entered l c t s p r) {a e q : ℕ} (h : r ≡ entry.At a e q) {b : Bool}
+    (i : b ≡ follows k (take (e - a) (drop a s))) where
+  pub climbing-so : b ≡ true → {y : ℕ} → y ≡ u (take (e - a) (drop a s))
+      → Climbing l c t (byKey u) d n s at (known false s a e) (m + y) (left - 1) q
+  climbing-so j {y} f = on C z E h i j (m + y) (ap (λ x. m + x) (f ∙ ap u (sym (is-key C z E h i))))
 
 pub climbing-on : {l : ℕ} {c : Class} {g : Format} {t : Test (text l c & g)} {n : ℕ} {s : List ℕ} {at : ℕ}
     {k : Option (List ℕ)} {left p : ℕ} → Climbing l c t weightless (whatever n) n s at k 0 left p → 0 < left
@@ -315,35 +328,36 @@ pub climbing-on : {l : ℕ} {c : Class} {g : Format} {t : Test (text l c & g)} {
 climbing-on C z E h i j = on C z E h i j 0 refl
 
 -- what a walk finds is that all entries are good and ascend, and what the sum is
-abbrev pub weight : {A : Type 0} → (List ℕ → ℕ) → List (List ℕ × A) → ℕ
+abbrev pub weight : {A : Type 0} → Weight A → List (List ℕ × A) → ℕ
 weight w [] = 0
-weight w (e ∷ v) = w (e .0) + weight w v
+weight w (e ∷ v) = weighs w e + weight w v
 
-module _ (l : ℕ) (c : Class) {g : Format} (t : Test (text l c & g)) (w : List ℕ → ℕ) (d : ℕ → Bool) where
+module _ (l : ℕ) (c : Class) {g : Format} (t : Test (text l c & g)) (w : Weight (Value g)) (d : ℕ → Bool) where
   climbs-above : (k : List ℕ) (m : ℕ) (v : List (List ℕ × Value g))
       → ((all (holds t) v && above texts k v) && d (m + weight w v)) ≡ runs (climb l c t w d) (some k, m) v
   climbs-above k m [] = rw (add-zero m) refl
   climbs-above k m (e ∷ v) =
-      let i : m + (w (e .0) + weight w v) ≡ m + w (e .0) + weight w v = omega arith in
-      ap (λ x. x && d (m + (w (e .0) + weight w v)))
+      let i : m + (weighs w e + weight w v) ≡ m + weighs w e + weight w v = omega arith in
+      ap (λ x. x && d (m + (weighs w e + weight w v)))
       (shuffle (holds t e) (all (holds t) v) (isLess (lexOf k (e .0))) (above texts (e .0) v))
       ∙ and-assoc (isLess (lexOf k (e .0)) && holds t e) (all (holds t) v && above texts (e .0) v)
-      (d (m + (w (e .0) + weight w v)))
+      (d (m + (weighs w e + weight w v)))
       ∙ ap (λ x. (isLess (lexOf k (e .0)) && holds t e) && ((all (holds t) v && above texts (e .0) v) && d x)) i
-      ∙ ap (λ x. (isLess (lexOf k (e .0)) && holds t e) && x) (climbs-above (e .0) (m + w (e .0)) v)
+      ∙ ap (λ x. (isLess (lexOf k (e .0)) && holds t e) && x) (climbs-above (e .0) (m + weighs w e) v)
 
   climbs-all : (v : List (List ℕ × Value g))
       → ((all (holds t) v && ascending texts v) && d (weight w v)) ≡ runs (climb l c t w d) (none, 0) v
   climbs-all [] = refl
   climbs-all (e ∷ v) =
-      let i : w (e .0) + weight w v ≡ 0 + w (e .0) + weight w v = omega arith in
-      ap (λ x. x && d (w (e .0) + weight w v)) (and-assoc (holds t e) (all (holds t) v) (above texts (e .0) v))
-      ∙ and-assoc (holds t e) (all (holds t) v && above texts (e .0) v) (d (w (e .0) + weight w v))
+      let i : weighs w e + weight w v ≡ 0 + weighs w e + weight w v = omega arith in
+      ap (λ x. x && d (weighs w e + weight w v)) (and-assoc (holds t e) (all (holds t) v) (above texts (e .0) v))
+      ∙ and-assoc (holds t e) (all (holds t) v && above texts (e .0) v) (d (weighs w e + weight w v))
       ∙ ap (λ x. holds t e && ((all (holds t) v && above texts (e .0) v) && d x)) i
-      ∙ ap (λ x. holds t e && x) (climbs-above (e .0) (0 + w (e .0)) v)
+      ∙ ap (λ x. holds t e && x) (climbs-above (e .0) (0 + weighs w e) v)
 
 -- at most m entries, each good, ascending by key, and a test of their number and the sum
-module _ (l : ℕ) (c : Class) {g : Format} (t : Test (text l c & g)) (w : List ℕ → ℕ) (d : ℕ → ℕ → Bool) (m : ℕ) where
+module _ (l : ℕ) (c : Class) {g : Format} (t : Test (text l c & g)) (w : Weight (Value g)) (d : ℕ → ℕ → Bool)
+    (m : ℕ) where
   abbrev pub climbsGood : List (List ℕ × Value g) → Bool
   climbsGood v = leb (length v) m && ((all (holds t) v && ascending texts v) && d (length v) (weight w v))
 

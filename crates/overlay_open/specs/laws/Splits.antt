@@ -13,7 +13,7 @@ use Rattle.formats.specs.Class.{Class}
 use Rattle.formats.specs.Format.{Format, text, list}
 use Rattle.formats.specs.Format.{_&_, Value}
 use Rattle.formats_check.specs.promises.Checked.{Test, own, behind, under, both, also, holds, fine}
-use Rattle.formats_check.specs.laws.Climbing.{climbsGood, climbTest, weight}
+use Rattle.formats_check.specs.laws.Climbing.{climbsGood, climbTest, Weight, weight}
 use Rattle.overlay_open.specs.laws.Fine.{cross}
 
 -- the test t asks for the annotations of f and for the rule A
@@ -65,7 +65,7 @@ all-two p q t h [] = refl
 all-two p q t h (x ∷ v) = cross (p x) (all p v) (q x) (all q v) ∙ rw (h x, all-two p q t h v) refl
 
 module _ {l : ℕ} {c : Class} {g : Format} {t : Test (text l c & g)} {A : Value (text l c & g) → Bool} (S : Splits t A)
-    (w : List ℕ → ℕ) (d : ℕ → ℕ → Bool) (m : ℕ) where
+    (w : Weight (Value g)) (d : ℕ → ℕ → Bool) (m : ℕ) where
   abbrev pub climbRule : List (List ℕ × Value g) → Bool
   climbRule v = (all A v && ascending texts v) && d (length v) (weight w v)
 

@@ -12,7 +12,7 @@ use Rattle.maps.specs.Map.{ascending}
 use Rattle.maps.specs.Order.{texts, numbers}
 use Rattle.formats.specs.Format.{list}
 use Rattle.formats_check.specs.promises.Checked.{holds}
-use Rattle.formats_check.specs.laws.Climbing.{weight, weightless, whatever}
+use Rattle.formats_check.specs.laws.Climbing.{weight, byKey, weightless, whatever}
 use Rattle.decode.specs.Trip.{updatesOf}
 use Rattle.decode.specs.Key.{keyOk}
 use Rattle.decode.specs.Leaves.{Trips, hasByte, countWithoutAt}
@@ -44,7 +44,7 @@ entry-splits f =
     split-as (tripValid f) (split-also (λ e. keyOk f (e .0) (e .1)) (split-behind trip-splits))
     (λ e. and-comm (keyOk f (e .0) (e .1)) (ascending numbers (updatesOf (e .1))))
 
-weight-is : (f : List ℕ) (v : Trips) → weight (plain f) v ≡ countWithoutAt f v
+weight-is : (f : List ℕ) (v : Trips) → weight (byKey (plain f)) v ≡ countWithoutAt f v
 unfolding countWithoutAt plain
 weight-is f [] = refl
 weight-is f (e ∷ v) = rw (weight-is f v) (go (hasByte 64 (f ++ 58 ∷ e .0)) (countWithoutAt f v))
@@ -60,7 +60,7 @@ tripsRule f c v =
 trips-splits : (f : List ℕ) (c : ℕ) → Splits (tripsGood f c) (tripsRule f c)
 unfolding isCount
 trips-splits f c =
-    split-as (tripsRule f c) (split-climb (entry-splits f) (plain f) (isCount c) 2048)
+    split-as (tripsRule f c) (split-climb (entry-splits f) (byKey (plain f)) (isCount c) 2048)
     (λ v. ap (λ n. (all (tripValid f) v && ascending texts v) && (eqb c n || eqb c (length v))) (sym (weight-is f v)))
 
 -- ITS VEHICLES

@@ -3,7 +3,7 @@ use native.Mathlib.Omega.{arith}
 use lib.ListN.{length}
 use borrow.Author.Tests.{not-true, not-false}
 use Rattle.formats.specs.Class.{printable}
-use Rattle.formats_check.specs.laws.Climbing.{known, Climbing, climbing-start, climbing-bad, climbing-order}
+use Rattle.formats_check.specs.laws.Climbing.{byKey, known, Climbing, climbing-start, climbing-bad, climbing-order}
 use Rattle.formats_check.specs.laws.Climbing.{climbing-so, climbing-end, climbing-sum, entered-forward, entered-in}
 use Rattle.formats_check.specs.laws.Climbing.{entered-past}
 use Rattle.overlay_noted.specs.laws.Passes.{unless-no}
@@ -17,7 +17,7 @@ use Rattle.overlay_trips.proofs.trips_from.Tie as tie
 abbrev Inv-loop : tie.InvT-loop
 Inv-loop c n marked feed s at noted₀ base p₀ i₀ left₀ first₀ b₀ d₀ m₀ noted p i left first b d m =
     (p ≤ length s) × (b ≤ d) × (d ≤ length s) × (m + left ≤ n)
-    × Climbing 137 printable (entryGood feed) (plain feed) (isCount c n) n s at (known first s b d) m left p
+    × Climbing 137 printable (entryGood feed) (byKey (plain feed)) (isCount c n) n s at (known first s b d) m left p
     × Noting s at n base noted₀ p i left noted
 
 abbrev μ-loop : tie.MeasureT-loop

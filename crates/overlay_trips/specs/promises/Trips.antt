@@ -7,7 +7,7 @@ use lib.Dec.{eqb}
 use Rattle.formats.specs.Class.{printable}
 use Rattle.formats.specs.Format.{text, list}
 use Rattle.formats_check.specs.promises.Checked.{Test, behind, also}
-use Rattle.formats_check.specs.laws.Climbing.{climbTest}
+use Rattle.formats_check.specs.laws.Climbing.{climbTest, byKey}
 use Rattle.decode.specs.Trip.{tripEntry}
 use Rattle.decode.specs.Key.{keyOk}
 use Rattle.decode.specs.Leaves.{hasByte}
@@ -26,4 +26,4 @@ unfoldable pub isCount : ℕ → ℕ → ℕ → Bool
 isCount c n m = eqb c m || eqb c n
 
 abbrev pub tripsGood : List ℕ → ℕ → Test (list 2048 tripEntry)
-tripsGood f c = climbTest 137 printable (entryGood f) (plain f) (isCount c) 2048
+tripsGood f c = climbTest 137 printable (entryGood f) (byKey (plain f)) (isCount c) 2048
