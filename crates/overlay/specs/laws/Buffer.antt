@@ -17,7 +17,7 @@ use Rattle.formats.specs.laws.Format.{read-write, write-read}
 use Rattle.formats_judge.specs.Judged.{ok}
 use Rattle.formats_capacity.specs.laws.Capacity.{capacity, capacity-bounds}
 use Rattle.basics.specs.laws.Booleans.{both-true}
-use Rattle.overlay.specs.laws.Within.{Judged56, formed-of, keeps}
+use Rattle.overlay.specs.laws.Within.{Judged56, formed-of, keeps, both}
 use Rattle.maps.specs.Map.{ascending}
 use Rattle.maps.specs.Order.{texts}
 use Rattle.overlay.specs.State.{State, overlay, feedsOf}
@@ -93,15 +93,33 @@ unfolding stateOf
 no-state zero = refl
 no-state (suc n) = refl
 
+-- what `valid` asks of a state, part by part, and back
+pub record ValidParts (s : State) : Type 0 where
+  pub five : ok 5 overlay s ≡ true
+  pub six : ok 6 overlay s ≡ true
+  pub seven : ok 7 overlay s ≡ true
+  pub up : ascending texts (feedsOf s) ≡ true
+  pub feeds : all feedValid (feedsOf s) ≡ true
+
+pub valid-parts : (s : State) → valid s ≡ true → ValidParts s
+unfolding valid within
+valid-parts s h =
+    let a = both-true (ok 5 overlay s && (ok 6 overlay s && ok 7 overlay s))
+    (ascending texts (feedsOf s) && all feedValid (feedsOf s)) h in
+    let b = both-true (ok 5 overlay s) (ok 6 overlay s && ok 7 overlay s) (a .0) in
+    let c = both-true (ok 6 overlay s) (ok 7 overlay s) (b .1) in
+    let d = both-true (ascending texts (feedsOf s)) (all feedValid (feedsOf s)) (a .1) in
+    record { five = b .0; six = c .0; seven = c .1; up = d .0; feeds = d .1 }
+
+pub parts-valid : (s : State) → ValidParts s → valid s ≡ true
+unfolding valid within
+parts-valid s p = both (both (p .five) (both (p .six) (p .seven))) (both (p .up) (p .feeds))
+
 -- a held state is within the rules
 pub held-rules : (s : State) → Held s → Judged56 overlay s × (ok 7 overlay s ≡ true)
-unfolding valid within
 held-rules s h =
-    let w = both-true (ok 5 overlay s && (ok 6 overlay s && ok 7 overlay s))
-    (ascending texts (feedsOf s) && all feedValid (feedsOf s)) (h .valid) .0 in
-    let a = both-true (ok 5 overlay s) (ok 6 overlay s && ok 7 overlay s) w in
-    let b = both-true (ok 6 overlay s) (ok 7 overlay s) (a .1) in
-    (record { formed = formed-of overlay s (h .fits); five = a .0; six = b .0 }, b .1)
+    let p = valid-parts s (h .valid) in
+    (record { formed = formed-of overlay s (h .fits); five = p .five; six = p .six }, p .seven)
 
 pub published-capacity : capacity overlay ≡ published
 published-capacity = refl

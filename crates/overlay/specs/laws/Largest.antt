@@ -23,10 +23,10 @@ use Rattle.alerts.specs.Alert.{alert}
 use Rattle.overlay.specs.laws.Keys.{or-right, incomplete-ok}
 use Rattle.overlay.specs.State.{State, Feed, Vehicle, overlay, feedEntry, vehicle, vehicleEntry, timestamp}
 use Rattle.overlay.specs.State.{feedWith, stateWith}
-use Rattle.overlay.specs.Valid.{tripValid, feedValid, within, valid, Held}
+use Rattle.overlay.specs.Valid.{tripValid, feedValid, valid, Held}
 use Rattle.overlay.specs.laws.Within.{both}
 use Rattle.overlay.specs.Buffer.{published}
-use Rattle.overlay.specs.laws.Buffer.{published-capacity}
+use Rattle.overlay.specs.laws.Buffer.{parts-valid, published-capacity}
 use Rattle.overlay.specs.laws.Table.{table, table-length, table-all, table-ascending}
 use Rattle.overlay.specs.laws.Fills.{Fills, most, most-fills, number-fills, greatest-fills, text-fills}
 use Rattle.overlay.specs.laws.Fills.{given-fills, pair-fills, table-fills}
@@ -195,13 +195,15 @@ largest-fills =
     (table-fills feedEntry fullFeed 4 (omega arith) (omega arith) feed-fills))
 
 largest-valid : valid largest ≡ true
-unfolding valid within
 largest-valid =
     let w = largest-fills .keeps in
-    both (both (w 5 (omega arith) (omega arith))
-    (both (w 6 (omega arith) (omega arith)) (w 7 (omega arith) (omega arith))))
-    (both (table-ascending texts fullFeed (λ k. name-before k (replicate 14 97) (replicate 14 97)) 0 4)
-    (table-all fullFeed feedValid 4 (λ k l. feed-valid k) 0 4 (omega arith)))
+    parts-valid largest (record {
+      five = w 5 (omega arith) (omega arith);
+      six = w 6 (omega arith) (omega arith);
+      seven = w 7 (omega arith) (omega arith);
+      up = table-ascending texts fullFeed (λ k. name-before k (replicate 14 97) (replicate 14 97)) 0 4;
+      feeds = table-all fullFeed feedValid 4 (λ k l. feed-valid k) 0 4 (omega arith);
+    })
 
 -- CAPACITY: the published length is met
 pub capacity-met : (s : State) × Held s × (length (write overlay s) ≡ published)

@@ -29,10 +29,10 @@ use Rattle.alerts.specs.Alert.{Alert, alert}
 use Rattle.overlay.specs.State.{Feed, State, Vehicles, timestamp, vehicleEntry, feedEntry, overlay, timestampOf}
 use Rattle.overlay.specs.State.{countOf, tripsOf, vehiclesOf, alertsOf, versionOf, feedsOf, noFeed}
 use Rattle.overlay.specs.Image.{room}
-use Rattle.overlay.specs.Valid.{tripValid, countValid, feedValid, within, valid, Held}
+use Rattle.overlay.specs.Valid.{tripValid, countValid, feedValid, Held}
 use Rattle.overlay.specs.Change.{feedAt, putFeed, afterMessage, afterAlerts, afterVehicles}
 use Rattle.overlay.specs.Buffer.{published}
-use Rattle.overlay.specs.laws.Buffer.{held-rules, held-room}
+use Rattle.overlay.specs.laws.Buffer.{valid-parts, parts-valid, held-rules, held-room}
 use Rattle.overlay.specs.laws.Keys.{either, or-right}
 use Rattle.overlay.specs.laws.EveryEntry.{each-of, all-of, each-map, each-both, each-put, each-puts, get-each}
 use Rattle.overlay.specs.laws.EveryEntry.{each-stale, stale-ascending}
@@ -126,21 +126,17 @@ feed-valid (f, F) k =
     (both (k .vehiclesUp) (k .count)))
 
 pub kept-of : (s : State) → Held s → StateKept s
-unfolding valid within
 kept-of s h =
     let j = held-rules s h .0 in
-    let a = both-true (ok 5 overlay s && (ok 6 overlay s && ok 7 overlay s))
-    (ascending texts (feedsOf s) && all feedValid (feedsOf s)) (h .valid) .1 in
-    let b = both-true (ascending texts (feedsOf s)) (all feedValid (feedsOf s)) a in
+    let p = valid-parts s (h .valid) in
     record {
       version = left (right j) .six;
-      up = b .0;
+      up = p .up;
       feeds = each-both feed-kept (feedsOf s) (elements 4 feedEntry (feedsOf s) (right (right j)))
-          (each-of feedValid (feedsOf s) (b .1));
+          (each-of feedValid (feedsOf s) (p .feeds));
     }
 
 pub held-of : (s : State) → StateKept s → ok 7 overlay s ≡ true → Held s
-unfolding valid within
 held-of s k h =
     let few7 = each-of (ok 7 feedEntry) (feedsOf s) (counted 4 feedEntry (feedsOf s) h) in
     let feeds = listed 4 feedEntry (feedsOf s) (each-both feed-judged (feedsOf s) (k .feeds) few7) in
@@ -149,8 +145,13 @@ held-of s k h =
     (joined (s .1) (record { formed = tt; five = refl; six = k .version }) feeds) in
     record {
       fits = fits-of overlay refl s j h;
-      valid = both (both (j .five) (both (j .six) h))
-          (both (k .up) (all-of feedValid (feedsOf s) (each-map feed-valid (feedsOf s) (k .feeds))));
+      valid = parts-valid s (record {
+        five = j .five;
+        six = j .six;
+        seven = h;
+        up = k .up;
+        feeds = all-of feedValid (feedsOf s) (each-map feed-valid (feedsOf s) (k .feeds));
+      });
     }
 
 -- at the published length such a state has room: question 7 counts there, and no more

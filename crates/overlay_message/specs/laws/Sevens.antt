@@ -20,19 +20,13 @@ use Rattle.decode_index.specs.laws.Seven.{isTrips, leaving-seven}
 use Rattle.alerts.specs.Alert.{alert}
 use Rattle.overlay.specs.State.{Feed, State, timestamp, feedEntry, vehicleEntry, overlay, feedWith}
 use Rattle.overlay.specs.State.{stateWith, feedsOf, vehiclesOf, alertsOf, tripsOf, timestampOf}
-use Rattle.overlay.specs.Valid.{valid, within, feedValid}
-use Rattle.maps.specs.Map.{ascending}
-use Rattle.maps.specs.Order.{texts}
+use Rattle.overlay.specs.Valid.{valid}
+use Rattle.overlay.specs.laws.Buffer.{valid-parts}
 
 -- of a valid state every feed is within it
 pub valid-seven : (s : State) → valid s ≡ true → all (ok 7 feedEntry) (feedsOf s) ≡ true
-unfolding valid within
 valid-seven s v =
-    let w = both-true (ok 5 overlay s && (ok 6 overlay s && ok 7 overlay s))
-    (ascending texts (feedsOf s) && all feedValid (feedsOf s)) v .0 in
-    let x = both-true (ok 5 overlay s) (ok 6 overlay s && ok 7 overlay s) w .1 in
-    let y = both-true (ok 6 overlay s) (ok 7 overlay s) x .1 in
-    both-true (leb (length (feedsOf s)) 4) (all (ok 7 feedEntry) (feedsOf s)) y .1
+    both-true (leb (length (feedsOf s)) 4) (all (ok 7 feedEntry) (feedsOf s)) (valid-parts s v .seven) .1
 
 all-joined : {A : Type 0} (p : A → Bool) (x y : List A) → all p (x ++ y) ≡ all p x && all p y
 all-joined p [] y = refl

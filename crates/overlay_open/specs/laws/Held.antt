@@ -16,7 +16,6 @@ use Rattle.maps.specs.Order.{texts, numbers}
 use Rattle.maps.specs.laws.Order.{texts-order}
 use Rattle.formats.specs.Class.{Class, printable, token, inClass}
 use Rattle.formats.specs.Format.{Format, number, small, text, list, optional, _&_, Value, write}
-use Rattle.formats_judge.specs.Judged.{ok}
 use Rattle.formats_check.specs.promises.Checked.{fine}
 use Rattle.formats_read.specs.promises.Here.{Here}
 use Rattle.decode.specs.Sizes.{keyBytes}
@@ -25,9 +24,9 @@ use Rattle.decode.specs.Key.{keyOk}
 use Rattle.alerts.specs.Alert.{alert}
 use Rattle.overlay.specs.State.{State, Feed, timestamp, vehicleEntry, feedEntry, overlay, feedsOf}
 use Rattle.overlay.specs.State.{tripsOf, vehiclesOf, alertsOf}
-use Rattle.overlay.specs.Valid.{tripValid, countValid, feedValid, within, valid}
+use Rattle.overlay.specs.Valid.{tripValid, countValid, feedValid, valid}
 use Rattle.overlay.specs.Image.{filled, image, stateOf}
-use Rattle.overlay.specs.laws.Buffer.{state-buffer}
+use Rattle.overlay.specs.laws.Buffer.{state-buffer, ValidParts, valid-parts}
 use Rattle.overlay.specs.laws.EveryEntry.{each-of, each-map, each-both, get-each}
 use Rattle.overlay_open.specs.declared.Opened.{Opened}
 use Rattle.overlay_open.specs.declared.Opened.the-variants.{No, At}
@@ -152,25 +151,17 @@ short-keys {e} H = each-map (λ t h. h .short) (tripsOf (e .1)) (H .trips)
 
 -- THE STATE
 module _ (s : State) (h : valid s ≡ true) where
-  fine-state : fine overlay s ≡ true
-  unfolding valid within
-  fine-state =
-      sym (within-fine overlay s)
-      ∙ both-true (ok 5 overlay s && (ok 6 overlay s && ok 7 overlay s))
-      (ascending texts (feedsOf s) && all feedValid (feedsOf s)) h .0
+  parts : ValidParts s
+  parts = valid-parts s h
 
-  rules : (ascending texts (feedsOf s) ≡ true) × (all feedValid (feedsOf s) ≡ true)
-  unfolding valid within
-  rules =
-      both-true (ascending texts (feedsOf s)) (all feedValid (feedsOf s))
-      (both-true (ok 5 overlay s && (ok 6 overlay s && ok 7 overlay s))
-      (ascending texts (feedsOf s) && all feedValid (feedsOf s)) h .1)
+  fine-state : fine overlay s ≡ true
+  fine-state = sym (within-fine overlay s) ∙ rw (parts .five, parts .six, parts .seven) refl
 
   fine-feeds : fine (list 4 feedEntry) (feedsOf s) ≡ true
   fine-feeds = rest (number 0 18446744073709551615) (list 4 feedEntry) (s .1) fine-state
 
   pub feeds-up : ascending texts (feedsOf s) ≡ true
-  feeds-up = rules .0
+  feeds-up = parts .up
 
   pub feeds-few : length (feedsOf s) ≤ 4
   feeds-few = list-few 4 feedEntry (feedsOf s) fine-feeds
@@ -178,7 +169,7 @@ module _ (s : State) (h : valid s ≡ true) where
   pub feeds-held : All HeldFeed (feedsOf s)
   feeds-held =
       each-both feed-held (feedsOf s) (list-each 4 feedEntry (feedsOf s) fine-feeds)
-      (each-of feedValid (feedsOf s) (rules .1))
+      (each-of feedValid (feedsOf s) (parts .feeds))
 
   -- the feed of an id
   pub feed-found : (f : List ℕ) (F : Feed) → get texts f (feedsOf s) ≡ some F → HeldFeed (f, F)

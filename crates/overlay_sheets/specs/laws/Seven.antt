@@ -9,7 +9,7 @@ use lib.Dec.{leb}
 use lib.ListN.{length, length-append}
 use Rattle.basics.specs.Lists.{all}
 use Rattle.basics.specs.laws.Booleans.{both-true}
-use Rattle.maps.specs.Map.{put, ascending}
+use Rattle.maps.specs.Map.{put}
 use Rattle.maps.specs.Order.{texts}
 use Rattle.formats.specs.Format.{list, optional}
 use Rattle.formats_judge.specs.Judged.{ok}
@@ -19,7 +19,8 @@ use Rattle.alerts.specs.Alert.{Alert, alert}
 use Rattle.overlay.specs.State.{Feed, State, Vehicles, timestamp, vehicleEntry, feed, feedEntry, overlay, feedsOf}
 use Rattle.overlay.specs.State.{timestampOf, tripsOf, vehiclesOf, alertsOf}
 use Rattle.overlay.specs.Change.{putFeed}
-use Rattle.overlay.specs.Valid.{feedValid, within, valid}
+use Rattle.overlay.specs.Valid.{valid}
+use Rattle.overlay.specs.laws.Buffer.{valid-parts}
 use Rattle.overlay.specs.laws.Within.{unjudged, all-true}
 use Rattle.overlay_feeds.specs.promises.Place.{FeedAt, FeedMissing}
 use Rattle.overlay_bodies.specs.promises.Bodies.{withAlerts, withVehicles}
@@ -46,12 +47,7 @@ module _ {A : Type 0} (p : A → Bool) where
 -- a valid state answers question 7 by yes
 module _ (s : State) (v : valid s ≡ true) where
   seven : ok 7 overlay s ≡ true
-  unfolding valid within
-  seven =
-      both-true (ok 6 overlay s) (ok 7 overlay s)
-      (both-true (ok 5 overlay s) (ok 6 overlay s && ok 7 overlay s)
-      (both-true (ok 5 overlay s && (ok 6 overlay s && ok 7 overlay s))
-      (ascending texts (feedsOf s) && all feedValid (feedsOf s)) v .0) .1) .1
+  seven = valid-parts s v .seven
 
   feeds-seven : all (ok 7 feedEntry) (feedsOf s) ≡ true
   feeds-seven = both-true (leb (length (feedsOf s)) 4) (all (ok 7 feedEntry) (feedsOf s)) seven .1
