@@ -81,10 +81,13 @@ alerts-of F vs h =
 pub alerts-over : (L : Lengths) (old f : List ℕ) (vs : List Alert) (s : State) → ok 7 (list 256 alert) vs ≡ false
     → changedState L old (afterAlerts f vs s) ≡ refused 7
 unfolding afterAlerts
-alerts-over L old f vs s h = go (ok 7 overlay (afterAlerts f vs s)) refl
+alerts-over L old f vs s h = go (ok 7 overlay s′) refl
   where
-    go : (b : Bool) → ok 7 overlay (afterAlerts f vs s) ≡ b
-        → need (b && room (L .overlay) (afterAlerts f vs s)) 7 (accepted (write overlay (afterAlerts f vs s))) ≡ refused 7
+    s′ : State
+    s′ = afterAlerts f vs s
+
+    go : (b : Bool) → ok 7 overlay s′ ≡ b
+        → need (b && room (L .overlay) s′) 7 (accepted (write overlay s′)) ≡ refused 7
     go true e =
         false-true (sym h ∙ alerts-of (feedAt f s) vs (feed-seven f (withAlerts (feedAt f s) vs) (versionOf s) s e))
     go false e = refl
