@@ -24,11 +24,11 @@ pub const OF_PANEL: Definition = Definition {
     preamble: "\
 use mathlib.Core.List.{map, _++_}
 use lib.ListN.{replicate}
-use Rattle.panel.specs.Questions.{Lengths}
+use Rattle.panel.specs.Questions.{Lengths, noWork}
 use Rattle.panel.specs.Calls.{Call, fresh, message, alertSheet, vehicleSheet, card, report, Gave, gives, run}
 
 abbrev lengths : ℕ → ℕ → Lengths
-lengths n m = record { overlay = n; card = m; messageWork = []; alertWork = []; vehicleWork = []; cardWork = [] }
+lengths n m = record { overlay = n; card = m; work = noWork }
 
 abbrev givenOn : List ℕ → ℕ → ℕ → List Call → List (ℕ × List ℕ)
 givenOn old n m calls = map (λ (g : Gave). (g .number, g .out)) (run (lengths n m) old calls)
@@ -41,7 +41,7 @@ given n m calls = givenOn (gives (lengths n m) [] (fresh n) .out) n m calls
 
 /// The bounds of the questions. Left out are inputs that the checker doesn't take: what question 3 refuses or
 /// lets pass at 1,048,576 bytes, and a single message or vehicle sheet with as many entries as question 7 lets
-/// pass. `panel/laws/Answers` and `panel/Seven` have those for every input.
+/// pass. `panel/laws/EachQuestion` and `panel/laws/Seven` have those for every input.
 fn questions() -> Vec<Equation> {
     let lists = bounds().into_iter().flat_map(|bound| [bound.within, bound.past]).flatten();
     let (computed, left): (Vec<_>, Vec<_>) = lists.partition(|calls| calls.last().is_some_and(taken));

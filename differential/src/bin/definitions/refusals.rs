@@ -29,10 +29,12 @@ abbrev lengths : ℕ → ℕ → Lengths
 lengths n m = record {
   overlay = n;
   card = m;
-  messageWork = 4 ∷ 2 ∷ [];
-  alertWork = 3 ∷ [];
-  vehicleWork = 1 ∷ 5 ∷ [];
-  cardWork = 2 ∷ 2 ∷ 6 ∷ [];
+  work = record {
+    message = 4 ∷ 2 ∷ [];
+    alertSheet = 3 ∷ [];
+    vehicleSheet = 1 ∷ 5 ∷ [];
+    card = 2 ∷ 2 ∷ 6 ∷ [];
+  };
 }
 
 abbrev everything : ℕ → ℕ → List ℕ → Call → ℕ × (List ℕ × List (List ℕ))
