@@ -32,7 +32,7 @@ pub record Lengths : Type 0 where
   pub card : ℕ
   pub work : Working
 
--- those that the papers give are kept; docs/ publishes the working buffers' that the code has
+-- L keeps the lengths that the papers give; those of working buffers are the code's, as docs/ publishes them
 pub record Published (L : Lengths) : Type 0 where
   pub overlay : L .overlay ≡ published
   pub card : L .card ≡ 65536

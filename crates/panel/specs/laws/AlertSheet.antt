@@ -3,7 +3,6 @@ use mathlib.Core.Path.{_≡_, refl, sym, ap, _∙_}
 use mathlib.Core.List.{List}
 use Prim.Native.Nat.{ℕ}
 use Rattle.basics.specs.laws.Booleans.{both-true}
-use Rattle.formats.specs.Format.{Value}
 use Rattle.formats_judge.specs.Judged.{ok}
 use Rattle.alerts.specs.Alert.{Alert, alert, alertSheet}
 use Rattle.overlay.specs.State.{State}

@@ -1,12 +1,11 @@
 -- Law. WHAT EVERY CALL'S RULE HAS TO KEEP: its questions stand in the papers' order; what it writes has room in its
 -- output; and it is what the book then holds, or tells. All that is claimed of lists of calls follows from this.
-use mathlib.Core.Path.{_≡_, refl, sym, ap, _∙_}
-use mathlib.Core.Bool.{Bool, true, _&&_}
+use mathlib.Core.Path.{_≡_, refl}
+use mathlib.Core.Bool.{true, _&&_}
 use mathlib.Core.List.{List}
 use mathlib.Core.Option.{Option, some}
 use Prim.Native.Nat.{ℕ, _≤_}
-use native.Mathlib.Omega.{arith}
-use lib.Dec.{eqb, leb}
+use lib.Dec.{eqb}
 use lib.ListN.{length}
 use borrow.Author.Tests.{eqb-true, leb-true}
 use Rattle.basics.specs.Texts.{same}

@@ -3,8 +3,8 @@ use mathlib.Core.Path.{_≡_, refl, sym, ap, _∙_}
 use mathlib.Core.List.{List}
 use Prim.Native.Nat.{ℕ}
 use Rattle.basics.specs.laws.Booleans.{both-true}
-use Rattle.realtime.specs.Tree.{Tree, tree}
-use Rattle.realtime.specs.Schema.{feedMessage, feed}
+use Rattle.realtime.specs.Tree.{Tree}
+use Rattle.realtime.specs.Schema.{feedMessage}
 use Rattle.realtime.specs.Judge.{rules, textsFine}
 use Rattle.decode.specs.Leaves.{leaves}
 use Rattle.overlay.specs.State.{State}

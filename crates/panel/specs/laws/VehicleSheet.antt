@@ -4,7 +4,6 @@ use mathlib.Core.List.{List}
 use Prim.Native.Nat.{ℕ}
 use lib.IntN.{ℤ}
 use Rattle.basics.specs.laws.Booleans.{both-true}
-use Rattle.formats.specs.Format.{Value}
 use Rattle.formats_judge.specs.Judged.{ok}
 use Rattle.decode.specs.Trip.{instant}
 use Rattle.maps.specs.Map.{puts}
