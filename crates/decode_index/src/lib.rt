@@ -2,10 +2,9 @@
 use decode::sizes::MOST_TRIPS;
 use decode_old::Passed;
 use realtime_views::Item;
-ghost use mathlib.Core.Path.{_≡_};
 ghost use Prim.Native.Nat.{_≤_};
 ghost use lib.ListN.{length};
-ghost use Rattle.decode.specs.Sizes.{mostFeed, mostMessage, updatesLength};
+ghost use Rattle.decode.specs.Sizes.{mostFeed, mostMessage};
 ghost use Rattle.decode_slots.specs.Index.{index};
 ghost use Rattle.decode_slots.specs.promises.Index.{Open, Lent};
 ghost use Rattle.decode_old.specs.promises.Old.{Stands};
@@ -85,13 +84,12 @@ pub fn leave(
     keys: &mut [u8],
     marks: &mut [u32],
     order: &mut [u32],
-    updates: &mut [u32],
     feed: &[u8],
     s: &[u8],
     old: &[u8],
     at: usize,
 ) -> Left
-    requires { ⌜ Lent (now keys) (now marks) (now order) × (length (now updates) ≡ updatesLength) ⌝ }
+    requires { ⌜ Lent (now keys) (now marks) (now order) ⌝ }
     requires { ⌜ (length (now feed) ≤ mostFeed) × (length (now s) ≤ mostMessage) ⌝ }
     requires { ⌜ JudgedMessage (now s) ⌝ }
     requires { ⌜ Old (now old) at ⌝ }
@@ -104,7 +102,7 @@ pub fn leave(
     if m > MOST_TRIPS {
         return Left::ManyTrips;
     }
-    if decode_updates::any_crowded(updates, marks, order, m, s) {
+    if decode_updates::any_crowded(marks, order, m, s) {
         return Left::ManyUpdates;
     }
     Left::Trips(m, begun.next)

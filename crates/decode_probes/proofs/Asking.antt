@@ -124,12 +124,11 @@ module _ (feed s : List ℕ) where
     question-else n l =
         (λ j. cond (sym (ne-eqb q 4 n) j) 4 (cond (sym (le-leb (length feed) 16 l) j) q 5)) ∙ question-judged
 
--- what the four working slices, the message and the old trips are where no question has the answer no
-pub record Ready (keys marks order updates : ℕ) (feed s o : List ℕ) : Type 0 where
+-- what the three working slices, the message and the old trips are where no question has the answer no
+pub record Ready (keys marks order : ℕ) (feed s o : List ℕ) : Type 0 where
   pub keyed : keys ≡ 280713
   pub marked : marks ≡ 6147
   pub ordered : order ≡ 2049
-  pub lined : updates ≡ 387
   pub brief : length feed ≤ 16
   pub small : length s ≤ 1048576
   pub judged : JudgedMessage s
@@ -149,22 +148,20 @@ cond-zero : (b : Bool) (m n : ℕ) → cond b m (suc n) ≡ 0 → (b ≡ true) �
 cond-zero true m n e = (refl, e)
 cond-zero false m n e = absurd (omega arith)
 
-pub ready : (keys marks order updates : ℕ) (feed s o : List ℕ)
-    → question (sized keys marks order updates) feed s o ≡ 0 → Ready keys marks order updates feed s o
-ready keys marks order updates feed s o e =
+pub ready : (keys marks order : ℕ) (feed s o : List ℕ)
+    → question (sized keys marks order) feed s o ≡ 0 → Ready keys marks order feed s o
+ready keys marks order feed s o e =
     let v = asked rules feedMessage (tree schema.feed feedMessage s) in
-    let a = cond-zero (sized keys marks order updates) (cond (areOld o) (messageQuestion feed s) 2) 0 e in
+    let a = cond-zero (sized keys marks order) (cond (areOld o) (messageQuestion feed s) 2) 0 e in
     let b = cond-zero (areOld o) (messageQuestion feed s) 1 (a .1) in
     let c = cond-zero (leb (length s) 1048576) (judgedQuestion (leb (length feed) 16) (questionOf v)) 2 (b .1) in
     let d = judged-zero (leb (length feed) 16) v (c .1) in
-    let x = both-true ((eqb keys 280713 && eqb marks 6147) && eqb order 2049) (eqb updates 387) (a .0) in
-    let y = both-true (eqb keys 280713 && eqb marks 6147) (eqb order 2049) (x .0) in
+    let y = both-true (eqb keys 280713 && eqb marks 6147) (eqb order 2049) (a .0) in
     let z = both-true (eqb keys 280713) (eqb marks 6147) (y .0) in
     record {
       keyed = eqb-true keys 280713 (z .0);
       marked = eqb-true marks 6147 (z .1);
       ordered = eqb-true order 2049 (y .1);
-      lined = eqb-true updates 387 (x .1);
       brief = leb-true (length feed) 16 (d .0);
       small = leb-true (length s) 1048576 (c .0);
       judged = d .1;

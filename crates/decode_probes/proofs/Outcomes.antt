@@ -46,19 +46,19 @@ unless-asked zero x n = absurd (n refl)
 unless-asked (suc q) x n = refl
 
 -- of working slices of these lengths, a feed's id, a message and old trips
-module _ (keys marks order updates : ℕ) (feed s o : List ℕ) where
-  question-few : question (sized keys marks order updates) feed s o ≤ 6
+module _ (keys marks order : ℕ) (feed s o : List ℕ) where
+  question-few : question (sized keys marks order) feed s o ≤ 6
   question-few =
       let v = asked rules feedMessage (tree schema.feed feedMessage s) in
-      cond-few (sized keys marks order updates) (cond (areOld o) (messageQuestion feed s) 2) 1
+      cond-few (sized keys marks order) (cond (areOld o) (messageQuestion feed s) 2) 1
       (cond-few (areOld o) (messageQuestion feed s) 2
       (cond-few (leb (length s) 1048576) (judgedQuestion (leb (length feed) 16) (questionOf v)) 3
       (judged-few (leb (length feed) 16) v) (omega arith)) (omega arith)) (omega arith)
 
-  module _ {q : ℕ} (e : q ≡ question (sized keys marks order updates) feed s o) where
+  module _ {q : ℕ} (e : q ≡ question (sized keys marks order) feed s o) where
     -- A QUESTION has the answer no
     pub answers-refused : (t : ℕ → Trips) → (q ≡ 0 → ⊥)
-        → answered t q ≡ outcome (sized keys marks order updates) feed s o
+        → answered t q ≡ outcome (sized keys marks order) feed s o
     answers-refused t n =
         let x = sevenOf (leaving (leaves feed (messageTree s) (puts texts (oldTrips o) []))) in
         ap (λ b. cond b (refused q) (left (t (q - 16)))) (lt-ltb q 16 (omega (arith, question-few)))
@@ -68,21 +68,21 @@ module _ (keys marks order updates : ℕ) (feed s o : List ℕ) where
     module _ (z : q ≡ 0) {keys′ marks′ order′ : List ℕ} {r : Left} (L : Leaves feed s o 0 keys′ marks′ order′ r) where
       answers-left : (l : Left) → r ≡ l
           → sevenOf (viewLeft (λ n. held s o (index keys′ marks′ order′ n)) l) ≡ outcome
-          (sized keys marks order updates) feed s o
+          (sized keys marks order) feed s o
       answers-left l g =
           let x = sevenOf (leaving (leaves feed (messageTree s) (puts texts (oldTrips o) []))) in
-          let S = ready keys marks order updates feed s o (sym e ∙ z) .standing in
+          let S = ready keys marks order feed s o (sym e ∙ z) .standing in
           ap sevenOf (ap (viewLeft (λ n. held s o (index keys′ marks′ order′ n))) (sym g)
           ∙ L .of (oldTrips o) (S .end) (S .here)) ∙ (λ j. unlessAsked ((sym z ∙ e) j) x)
 
-      pub answers-many-trips : r ≡ Left.ManyTrips → refused 7 ≡ outcome (sized keys marks order updates) feed s o
+      pub answers-many-trips : r ≡ Left.ManyTrips → refused 7 ≡ outcome (sized keys marks order) feed s o
       answers-many-trips g = answers-left Left.ManyTrips g
 
-      pub answers-many-updates : r ≡ Left.ManyUpdates → refused 7 ≡ outcome (sized keys marks order updates) feed s o
+      pub answers-many-updates : r ≡ Left.ManyUpdates → refused 7 ≡ outcome (sized keys marks order) feed s o
       answers-many-updates g = answers-left Left.ManyUpdates g
 
       pub answers-trips : (n : ℕ) {next : ℕ} → r ≡ Left.Trips n next
-          → answered (λ n. held s o (index keys′ marks′ order′ n)) (16 + n) ≡ outcome (sized keys marks order updates)
+          → answered (λ n. held s o (index keys′ marks′ order′ n)) (16 + n) ≡ outcome (sized keys marks order)
           feed s o
       answers-trips n {next} g =
           let i : 16 + n - 16 ≡ n = omega arith in

@@ -7,7 +7,7 @@ use mathlib.Core.Option.{Option, none, some}
 use lib.Dec.{eqb, leb, ltb}
 use lib.ListN.{length}
 use Rattle.decode.specs.Sizes.{mostTrips, mostUpdates, mostFeed, mostMessage}
-use Rattle.decode.specs.Sizes.{keysLength, marksLength, orderLength, updatesLength, mostOld}
+use Rattle.decode.specs.Sizes.{keysLength, marksLength, orderLength, mostOld}
 use Rattle.formats.specs.Format.{list, read}
 use Rattle.formats_judge.specs.Judged.{judgeTo}
 use Rattle.formats_judge.specs.declared.Judge.{Judge}
@@ -25,9 +25,8 @@ use Rattle.decode_index.specs.Leaving.{Leaving, manyTrips, manyUpdates, trips, 
 use Rattle.decode_probes.specs.Answers.{questionOf, ofWhole}
 
 -- the lengths of the working slices
-abbrev pub sized : ℕ → ℕ → ℕ → ℕ → Bool
-sized keys marks order updates =
-    ((eqb keys keysLength && eqb marks marksLength) && eqb order orderLength) && eqb updates updatesLength
+abbrev pub sized : ℕ → ℕ → ℕ → Bool
+sized keys marks order = (eqb keys keysLength && eqb marks marksLength) && eqb order orderLength
 
 abbrev pub unfailed : Judge → Bool
 unfailed Judge.Broken = false

@@ -385,13 +385,10 @@ fn are_old(old: &[u8]) -> bool
     is_unfailed(judge_old(old))
 }
 
-fn is_sized(keys: usize, marks: usize, order: usize, updates: usize) -> bool
-    ensures { λ r. ⌜ r ≡ sized keys marks order updates ⌝ }
+fn is_sized(keys: usize, marks: usize, order: usize) -> bool
+    ensures { λ r. ⌜ r ≡ sized keys marks order ⌝ }
 {
-    (keys == KEYS_LENGTH)
-        & (marks == MARKS_LENGTH)
-        & (order == ORDER_LENGTH)
-        & (updates == UPDATES_LENGTH)
+    (keys == KEYS_LENGTH) & (marks == MARKS_LENGTH) & (order == ORDER_LENGTH)
 }
 
 // The first of the questions 3 to 6 that a message fails, else 0.
@@ -412,19 +409,11 @@ fn message_question(feed: &[u8], s: &[u8]) -> u32
 }
 
 // The same, after that of the working slices' lengths, 1, and that of the old trips, 2.
-fn first_question(
-    keys: usize,
-    marks: usize,
-    order: usize,
-    updates: usize,
-    feed: &[u8],
-    s: &[u8],
-    old: &[u8],
-) -> u32
-    ensures { λ r. ⌜ r ≡ question (sized keys marks order updates) (now (feed .entry)) (now (s .entry))
+fn first_question(keys: usize, marks: usize, order: usize, feed: &[u8], s: &[u8], old: &[u8]) -> u32
+    ensures { λ r. ⌜ r ≡ question (sized keys marks order) (now (feed .entry)) (now (s .entry))
         (now (old .entry)) ⌝ }
 {
-    if is_sized(keys, marks, order, updates) {
+    if is_sized(keys, marks, order) {
         if are_old(old) {
             return message_question(feed, s);
         }
@@ -440,29 +429,20 @@ pub extern "C" fn trips_index(
     keys: &mut [u8],
     marks: &mut [u32],
     order: &mut [u32],
-    updates: &mut [u32],
     feed: &[u8],
     s: &[u8],
     old: &[u8],
 ) -> usize
     ensures { λ r. ⌜ answered (λ n. places.held (now (s .entry)) (now (old .entry))
         (index (now (keys .exit)) (now (marks .exit)) (now (order .exit)) n)) r
-        ≡ outcome (sized (length (now (keys .entry))) (length (now (marks .entry))) (length (now (order .entry)))
-        (length (now (updates .entry)))) (now (feed .entry)) (now (s .entry)) (now (old .entry)) ⌝ }
+        ≡ outcome (sized (length (now (keys .entry))) (length (now (marks .entry))) (length (now (order .entry))))
+        (now (feed .entry)) (now (s .entry)) (now (old .entry)) ⌝ }
 {
-    let q = first_question(
-        keys.len(),
-        marks.len(),
-        order.len(),
-        updates.len(),
-        feed,
-        s,
-        old,
-    );
+    let q = first_question(keys.len(), marks.len(), order.len(), feed, s, old);
     if q != 0 {
         return q as usize;
     }
-    match decode_index::leave(keys, marks, order, updates, feed, s, old, 0) {
+    match decode_index::leave(keys, marks, order, feed, s, old, 0) {
         Left::ManyTrips => 7,
         Left::ManyUpdates => 7,
         Left::Trips(n, _) => FOUND + n,

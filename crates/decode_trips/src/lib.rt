@@ -10,7 +10,7 @@ ghost use Rattle.formats.specs.Readers.{manyW};
 ghost use Rattle.formats.specs.Format.{list, write};
 ghost use Rattle.formats_write.specs.promises.Adds.{Adds};
 ghost use Rattle.decode.specs.Trip.{trip, tripEntry};
-ghost use Rattle.decode.specs.Sizes.{mostMessage, mostTrips, updatesLength};
+ghost use Rattle.decode.specs.Sizes.{mostMessage, mostTrips};
 ghost use Rattle.decode_slots.specs.Index.{index};
 ghost use Rattle.decode_slots.specs.Places.{crowded, held, heldAt};
 ghost use Rattle.decode_index.specs.promises.Message.{Fit};
@@ -83,14 +83,13 @@ fn again(out: &mut [u8], w: Put, from: usize, to: usize) -> Put
 fn write_next(
     out: &mut [u8],
     w: Put,
-    updates: &mut [u32],
     s: &[u8],
     old: &[u8],
     from: usize,
     to: usize,
     last: Last,
 ) -> Put
-    requires { ⌜ (length (now updates) ≡ updatesLength) × (length (now s) ≤ mostMessage) ⌝ }
+    requires { ⌜ length (now s) ≤ mostMessage ⌝ }
     requires { ⌜ Fit (now s) (now old) (from, to) × (crowded (heldAt (now s) (now old) (from, to)) ≡ false) ⌝ }
     requires { ⌜ Ready (now s) (now old) (now out) w last ⌝ }
     ensures { λ r. ⌜ Adds (now (out .entry)) w (now (out .exit)) r
@@ -99,7 +98,7 @@ fn write_next(
     if is_last(last, from, to) {
         return again(out, w, last.start, last.end);
     }
-    decode_write::write_held(out, w, updates, s, old, from, to)
+    decode_write::write_held(out, w, s, old, from, to)
 }
 
 // The next place, and what was written last.
@@ -112,7 +111,6 @@ struct Entered {
 fn write_entry(
     out: &mut [u8],
     w: Put,
-    updates: &mut [u32],
     keys: &[u8],
     marks: &[u32],
     slot: usize,
@@ -120,7 +118,7 @@ fn write_entry(
     old: &[u8],
     last: Last,
 ) -> Entered
-    requires { ⌜ (length (now updates) ≡ updatesLength) × (length (now s) ≤ mostMessage) ⌝ }
+    requires { ⌜ length (now s) ≤ mostMessage ⌝ }
     requires { ⌜ GoodSlot (now s) (now old) (now keys) (now marks) slot ⌝ }
     requires { ⌜ Ready (now s) (now old) (now out) w last ⌝ }
     ensures { λ r. ⌜ EntryPut (now (s .entry)) (now (old .entry)) (now (keys .entry)) (now (marks .entry)) slot
@@ -131,7 +129,7 @@ fn write_entry(
     let from = decode_slots::word(marks, 3 * slot + 1);
     let to = decode_slots::word(marks, 3 * slot + 2);
     let q = formats_write::text(out, w, keys, key, key + len);
-    let r = write_next(out, q, updates, s, old, from, to, last);
+    let r = write_next(out, q, s, old, from, to, last);
     let start = place(q);
     let end = place(r);
     Entered {
@@ -149,7 +147,6 @@ fn write_entry(
 fn put_entries(
     out: &mut [u8],
     w: Put,
-    updates: &mut [u32],
     keys: &[u8],
     marks: &[u32],
     order: &[u32],
@@ -157,7 +154,7 @@ fn put_entries(
     s: &[u8],
     old: &[u8],
 ) -> Put
-    requires { ⌜ (length (now updates) ≡ updatesLength) × (length (now s) ≤ mostMessage) ⌝ }
+    requires { ⌜ length (now s) ≤ mostMessage ⌝ }
     requires { ⌜ n ≤ length (now order) ⌝ }
     requires { ⌜ All (GoodSlot (now s) (now old) (now keys) (now marks)) (take n (now order)) ⌝ }
     ensures { λ r. ⌜ Adds (now (out .entry)) w (now (out .exit)) r
@@ -180,7 +177,7 @@ fn put_entries(
     let mut i: usize = 0;
     while i < n {
         let slot = decode_slots::word(order, i);
-        let e = write_entry(out, q, updates, keys, marks, slot, s, old, last);
+        let e = write_entry(out, q, keys, marks, slot, s, old, last);
         q = e.put;
         let l = e.last;
         last = l;
@@ -193,7 +190,6 @@ fn put_entries(
 pub fn write_trips(
     out: &mut [u8],
     w: Put,
-    updates: &mut [u32],
     keys: &[u8],
     marks: &[u32],
     order: &[u32],
@@ -201,12 +197,12 @@ pub fn write_trips(
     s: &[u8],
     old: &[u8],
 ) -> Put
-    requires { ⌜ (length (now updates) ≡ updatesLength) × (length (now s) ≤ mostMessage) ⌝ }
+    requires { ⌜ length (now s) ≤ mostMessage ⌝ }
     requires { ⌜ Writable (now s) (now old) (now keys) (now marks) (now order) n ⌝ }
     ensures { λ r. ⌜ Adds (now (out .entry)) w (now (out .exit)) r
         (write (list mostTrips tripEntry) (held (now (s .entry)) (now (old .entry))
         (index (now (keys .entry)) (now (marks .entry)) (now (order .entry)) n))) ⌝ }
 {
     let q = formats_write::number(out, w, n as u64);
-    put_entries(out, q, updates, keys, marks, order, n, s, old)
+    put_entries(out, q, keys, marks, order, n, s, old)
 }

@@ -1,6 +1,7 @@
 // The updates of a trip record in ascending order of sequence, and whether a record of the index has too many.
 use decode::sizes::BEYOND;
 use decode::sizes::MOST_UPDATES;
+use decode::sizes::UPDATES_LENGTH;
 use realtime_views::Item;
 ghost use mathlib.Core.Path.{_≡_};
 ghost use Prim.Native.Nat.{_+_, _*_, _≤_};
@@ -137,27 +138,20 @@ fn count_updates(s: &[u8], start: usize, len: usize) -> usize
 }
 
 // Whether the record of an entity has more than 128. Few records do, and counting tells of nearly all others.
-fn is_crowded(updates: &mut [u32], s: &[u8], start: usize, len: usize) -> bool
-    requires { ⌜ length (now updates) ≡ updatesLength ⌝ }
+fn is_crowded(s: &[u8], start: usize, len: usize) -> bool
     requires { ⌜ (start + len ≤ length (now s)) × (length (now s) ≤ mostMessage) ⌝ }
     ensures { λ r. ⌜ CrowdedRead (now (s .entry)) start len r ⌝ }
 {
     if count_updates(s, start, len) <= MOST_UPDATES {
         return false;
     }
-    updates_of(updates, s, start, len) > MOST_UPDATES
+    let mut updates = [0u32; UPDATES_LENGTH];
+    updates_of(&mut updates, s, start, len) > MOST_UPDATES
 }
 
 // Whether the record at a place is of the message, and has more than 128; that at another place has not.
-fn place_crowded(
-    updates: &mut [u32],
-    s: &[u8],
-    other_from: usize,
-    other_to: usize,
-    from: usize,
-    to: usize,
-) -> bool
-    requires { ⌜ (length (now updates) ≡ updatesLength) × (length (now s) ≤ mostMessage) ⌝ }
+fn place_crowded(s: &[u8], other_from: usize, other_to: usize, from: usize, to: usize) -> bool
+    requires { ⌜ length (now s) ≤ mostMessage ⌝ }
     requires { ⌜ crowdedAt (now s) («other_from», «other_to») ≡ false ⌝ }
     requires { ⌜ ReadableNew (now s) (from, to) ⌝ }
     ensures { λ r. ⌜ r ≡ crowdedAt (now (s .entry)) (from, to) ⌝ }
@@ -170,14 +164,13 @@ fn place_crowded(
             return false;
         }
     }
-    is_crowded(updates, s, from, to - from)
+    is_crowded(s, from, to - from)
 }
 
 // Whether one of the first n slots has such a record: the first that is found ends the search. A dated record has two
 // slots, one after the other as a rule, and is asked once then.
-pub fn any_crowded(updates: &mut [u32], marks: &[u32], order: &[u32], n: usize, s: &[u8]) -> bool
-    requires { ⌜ (length (now updates) ≡ updatesLength) × (length (now marks) ≡ marksLength)
-        × (length (now order) ≡ orderLength) ⌝ }
+pub fn any_crowded(marks: &[u32], order: &[u32], n: usize, s: &[u8]) -> bool
+    requires { ⌜ (length (now marks) ≡ marksLength) × (length (now order) ≡ orderLength) ⌝ }
     requires { ⌜ (n ≤ mostTrips) × (length (now s) ≤ mostMessage) ⌝ }
     requires { ⌜ All (ReadableSlot (now s) (now marks)) (take n (now order)) ⌝ }
     ensures { λ r. ⌜ r ≡ crowdedIn (now (s .entry)) (now (marks .entry)) (take n (now (order .entry))) ⌝ }
@@ -189,7 +182,7 @@ pub fn any_crowded(updates: &mut [u32], marks: &[u32], order: &[u32], n: usize, 
         let slot = decode_slots::word(order, i);
         let a = decode_slots::word(marks, 3 * slot + 1);
         let e = decode_slots::word(marks, 3 * slot + 2);
-        if place_crowded(updates, s, from, to, a, e) {
+        if place_crowded(s, from, to, a, e) {
             return true;
         }
         from = a;

@@ -2,6 +2,7 @@
 // keys count.
 use decode::sizes::BEYOND;
 use decode::sizes::KEY_BYTES;
+use decode::sizes::UPDATES_LENGTH;
 use formats_write::OptionalNumber;
 use formats_write::OptionalSigned;
 use formats_write::Put;
@@ -257,44 +258,30 @@ fn put_updates(out: &mut [u8], w: Put, updates: &[u32], n: usize, s: &[u8]) -> P
 }
 
 // The record of the message's entity that stands from `from` up to `to`.
-fn write_record(
-    out: &mut [u8],
-    w: Put,
-    updates: &mut [u32],
-    s: &[u8],
-    from: usize,
-    to: usize,
-) -> Put
-    requires { ⌜ (length (now updates) ≡ updatesLength) × (length (now s) ≤ mostMessage) ⌝ }
+fn write_record(out: &mut [u8], w: Put, s: &[u8], from: usize, to: usize) -> Put
+    requires { ⌜ length (now s) ≤ mostMessage ⌝ }
     requires { ⌜ Readable feedEntity (now s) (from, to) × (crowded (recordAt (now s) (from, to)) ≡ false) ⌝ }
     ensures { λ r. ⌜ Adds (now (out .entry)) w (now (out .exit)) r
         (write trip (recordAt (now (s .entry)) (from, to))) ⌝ }
 {
     let len = to - from;
-    let n = decode_updates::updates_of(updates, s, from, len);
+    let mut updates = [0u32; UPDATES_LENGTH];
+    let n = decode_updates::updates_of(&mut updates, s, from, len);
     let t = realtime_views::trip_of(s, from, len);
     let w1 = put_head(out, w, s, t);
     let w2 = formats_write::number(out, w1, n as u64);
-    put_updates(out, w2, updates, n, s)
+    put_updates(out, w2, &updates, n, s)
 }
 
 // The record at a place: made from the message, or copied from the old overlay.
-pub fn write_held(
-    out: &mut [u8],
-    w: Put,
-    updates: &mut [u32],
-    s: &[u8],
-    old: &[u8],
-    from: usize,
-    to: usize,
-) -> Put
-    requires { ⌜ (length (now updates) ≡ updatesLength) × (length (now s) ≤ mostMessage) ⌝ }
+pub fn write_held(out: &mut [u8], w: Put, s: &[u8], old: &[u8], from: usize, to: usize) -> Put
+    requires { ⌜ length (now s) ≤ mostMessage ⌝ }
     requires { ⌜ Fit (now s) (now old) (from, to) × (crowded (heldAt (now s) (now old) (from, to)) ≡ false) ⌝ }
     ensures { λ r. ⌜ Adds (now (out .entry)) w (now (out .exit)) r
         (write trip (heldAt (now (s .entry)) (now (old .entry)) (from, to))) ⌝ }
 {
     if from < BEYOND {
-        return write_record(out, w, updates, s, from, to);
+        return write_record(out, w, s, from, to);
     }
     formats_write::stretch(out, w, old, from - BEYOND, to - BEYOND)
 }

@@ -21,7 +21,7 @@ ghost use Rattle.realtime.specs.Schema.{feedMessage};
 ghost use Rattle.realtime.specs.Schema as schema;
 ghost use Rattle.realtime_views.specs.Typed.{int64};
 ghost use Rattle.realtime_views.specs.promises.Views.{viewTimestamp};
-ghost use Rattle.decode.specs.Sizes.{mostFeed, mostMessage, mostOld, updatesLength};
+ghost use Rattle.decode.specs.Sizes.{mostFeed, mostMessage, mostOld};
 ghost use Rattle.decode_slots.specs.Index.{index};
 ghost use Rattle.decode_slots.specs.Places.{held};
 ghost use Rattle.decode_slots.specs.promises.Index.{Lent};
@@ -75,7 +75,6 @@ fn write_body(
     given: Timestamp,
     known: OptionalSigned,
     count: u64,
-    updates: &mut [u32],
     keys: &[u8],
     marks: &[u32],
     order: &[u32],
@@ -84,7 +83,7 @@ fn write_body(
     home: &[u8],
     p: Parts,
 ) -> Put
-    requires { ⌜ (length (now updates) ≡ updatesLength) × (length (now s) ≤ mostMessage) ⌝ }
+    requires { ⌜ length (now s) ≤ mostMessage ⌝ }
     requires { ⌜ Writable (now s) (now home) (now keys) (now marks) (now order) n ⌝ }
     ensures { λ r. ⌜
         ((F : Feed) (a e : ℕ) → PartsOf (now (home .entry)) F a e p
@@ -95,7 +94,7 @@ fn write_body(
 {
     let w1 = put_timestamp(out, w, given, known);
     let w2 = formats_write::number(out, w1, count);
-    let w3 = decode_trips::write_trips(out, w2, updates, keys, marks, order, n, s, home);
+    let w3 = decode_trips::write_trips(out, w2, keys, marks, order, n, s, home);
     formats_write::stretch(out, w3, home, p.vehicles, p.end)
 }
 
@@ -103,7 +102,6 @@ fn write_body(
 fn write_feed(
     out: &mut [u8],
     w: Put,
-    updates: &mut [u32],
     keys: &[u8],
     marks: &[u32],
     order: &[u32],
@@ -113,7 +111,7 @@ fn write_feed(
     home: &[u8],
     p: Parts,
 ) -> Put
-    requires { ⌜ (length (now updates) ≡ updatesLength) × (length (now s) ≤ mostMessage) ⌝ }
+    requires { ⌜ length (now s) ≤ mostMessage ⌝ }
     requires { ⌜ Writable (now s) (now home) (now keys) (now marks) (now order) n ⌝ }
     ensures { λ r. ⌜
         ((F : Feed) (a e : ℕ) (t : Tree) → PartsOf (now (home .entry)) F a e p
@@ -132,7 +130,6 @@ fn write_feed(
         given,
         known,
         count,
-        updates,
         keys,
         marks,
         order,
@@ -146,7 +143,6 @@ fn write_feed(
 // The state whose feed goes between `from` and `to`, with it of `count` feeds.
 fn write_state(
     new: &mut [u8],
-    updates: &mut [u32],
     keys: &[u8],
     marks: &[u32],
     order: &[u32],
@@ -161,7 +157,7 @@ fn write_state(
     to: usize,
     count: u64,
 ) -> Put
-    requires { ⌜ (length (now updates) ≡ updatesLength) × (length (now s) ≤ mostMessage) ⌝ }
+    requires { ⌜ length (now s) ≤ mostMessage ⌝ }
     requires { ⌜ Writable (now s) (now home) (now keys) (now marks) (now order) n ⌝ }
     ensures { λ r. ⌜
         ((st : State) (F : Feed) (a e : ℕ) (t : Tree)
@@ -174,7 +170,7 @@ fn write_state(
 {
     let version = overlay_feeds::read_head(old).version;
     let w1 = overlay_frame::opening(new, Put::At(0), version, count, old, from, feed);
-    let w2 = write_feed(new, w1, updates, keys, marks, order, n, feed, s, home, p);
+    let w2 = write_feed(new, w1, keys, marks, order, n, feed, s, home, p);
     overlay_frame::closing(new, w2, old, to, end)
 }
 
@@ -195,7 +191,6 @@ fn change(
     keys: &mut [u8],
     marks: &mut [u32],
     order: &mut [u32],
-    updates: &mut [u32],
     feed: &[u8],
     s: &[u8],
     old: &[u8],
@@ -206,7 +201,7 @@ fn change(
     known: bool,
     count: u64,
 ) -> Put
-    requires { ⌜ Lent (now keys) (now marks) (now order) × (length (now updates) ≡ updatesLength) ⌝ }
+    requires { ⌜ Lent (now keys) (now marks) (now order) ⌝ }
     requires { ⌜ (length (now feed) ≤ mostFeed) × (length (now s) ≤ mostMessage) ⌝ }
     requires { ⌜ JudgedMessage (now s) ⌝ }
     requires { ⌜ Old (now home) (front .trips) ⌝ }
@@ -214,7 +209,7 @@ fn change(
         Exchanges (now (new .entry)) (now (new .exit)) r (now (feed .entry)) (now (s .entry)) (now (old .entry)) end
         (now (home .entry)) front from known count ⌝ }
 {
-    match decode_index::leave(keys, marks, order, updates, feed, s, home, front.trips) {
+    match decode_index::leave(keys, marks, order, feed, s, home, front.trips) {
         Left::ManyTrips => Put::Full,
         Left::ManyUpdates => Put::Full,
         Left::Trips(n, vehicles) => {
@@ -222,7 +217,6 @@ fn change(
             let to = behind(known, p.end, from);
             write_state(
                 new,
-                updates,
                 keys,
                 marks,
                 order,
@@ -247,7 +241,6 @@ fn change_known(
     keys: &mut [u8],
     marks: &mut [u32],
     order: &mut [u32],
-    updates: &mut [u32],
     feed: &[u8],
     s: &[u8],
     old: &[u8],
@@ -255,7 +248,7 @@ fn change_known(
     from: usize,
     body: usize,
 ) -> Put
-    requires { ⌜ Lent (now keys) (now marks) (now order) × (length (now updates) ≡ updatesLength) ⌝ }
+    requires { ⌜ Lent (now keys) (now marks) (now order) ⌝ }
     requires { ⌜ (length (now feed) ≤ mostFeed) × (length (now s) ≤ mostMessage) ⌝ }
     requires { ⌜ JudgedMessage (now s) ⌝ }
     requires { ⌜ Known (now old) end (now feed) from body ⌝ }
@@ -269,7 +262,6 @@ fn change_known(
         keys,
         marks,
         order,
-        updates,
         feed,
         s,
         old,
@@ -288,14 +280,13 @@ fn change_new(
     keys: &mut [u8],
     marks: &mut [u32],
     order: &mut [u32],
-    updates: &mut [u32],
     feed: &[u8],
     s: &[u8],
     old: &[u8],
     end: usize,
     from: usize,
 ) -> Put
-    requires { ⌜ Lent (now keys) (now marks) (now order) × (length (now updates) ≡ updatesLength) ⌝ }
+    requires { ⌜ Lent (now keys) (now marks) (now order) ⌝ }
     requires { ⌜ (length (now feed) ≤ mostFeed) × (length (now s) ≤ mostMessage) ⌝ }
     requires { ⌜ JudgedMessage (now s) ⌝ }
     requires { ⌜ Unknown (now old) end (now feed) from ⌝ }
@@ -312,7 +303,6 @@ fn change_new(
         keys,
         marks,
         order,
-        updates,
         feed,
         s,
         old,
@@ -332,13 +322,12 @@ pub fn after_message(
     keys: &mut [u8],
     marks: &mut [u32],
     order: &mut [u32],
-    updates: &mut [u32],
     feed: &[u8],
     s: &[u8],
     old: &[u8],
     end: usize,
 ) -> Put
-    requires { ⌜ Lent (now keys) (now marks) (now order) × (length (now updates) ≡ updatesLength) ⌝ }
+    requires { ⌜ Lent (now keys) (now marks) (now order) ⌝ }
     requires { ⌜ (length (now feed) ≤ mostFeed) × (length (now s) ≤ mostMessage) ⌝ }
     requires { ⌜ JudgedMessage (now s) ⌝ }
     requires { ⌜ Open (now old) end × (length (now old) ≤ mostOld) ⌝ }
@@ -347,22 +336,10 @@ pub fn after_message(
 {
     match overlay_feeds::find_feed(old, feed) {
         FeedPlace::At(_, from, body) => {
-            change_known(
-                new,
-                keys,
-                marks,
-                order,
-                updates,
-                feed,
-                s,
-                old,
-                end,
-                from,
-                body,
-            )
+            change_known(new, keys, marks, order, feed, s, old, end, from, body)
         }
         FeedPlace::Missing(_, from) => {
-            change_new(new, keys, marks, order, updates, feed, s, old, end, from)
+            change_new(new, keys, marks, order, feed, s, old, end, from)
         }
     }
 }

@@ -7,13 +7,13 @@ use Rattle.decode_index.proofs.leave.Tie as tie
 
 -- the places that the needs go back to
 abbrev to-any-crowded : tie.Else2 → tie.After-any-crowded
-to-any-crowded c = c .before .before .before
+to-any-crowded c = c .before
 
 abbrev to-any-crowded-from-then2 : tie.Then2 → tie.After-any-crowded
-to-any-crowded-from-then2 c = c .before .before .before
+to-any-crowded-from-then2 c = c .before
 
 abbrev to-else1 : tie.After-any-crowded → tie.Else1
-to-else1 c = c .before .before .before .before
+to-else1 c = c .before .before .before
 
 abbrev to-apply-entities : tie.Else1 → tie.After-apply-entities
 to-apply-entities c = c .before .before .before .before .before .before .before
@@ -28,7 +28,7 @@ abbrev to-header-of : tie.After-begin → tie.After-header-of
 to-header-of c = c .before .before .before .before
 
 abbrev to-start : tie.After-header-of → tie.Start
-to-start c = c .before .before .before .before .before .before .before .before
+to-start c = c .before .before .before .before .before .before .before
 
 many-trips : tie.Need-returns
 many-trips c =
@@ -42,14 +42,14 @@ many-trips c =
 
 readable : tie.Need-any-crowded-requires
 readable c κs =
-    let else1 = c .before .before .before in
+    let else1 = c .before .before in
     let at-apply-entities = to-apply-entities else1 in
     let at-begin = to-begin at-apply-entities in
     let at-header-of = to-header-of at-begin in
     let start = to-start at-header-of in
     let P = start .pre in
     let I = at-apply-entities .apply-entities .ensures in (
-      (P .0 .1, I .sound .marked, I .sound .ordered),
+      (I .sound .marked, I .sound .ordered),
       (
         (omega (arith, else1 .if1 .left), P .1 .0 .1),
         readable-slots (P .1 .1 .0) (P .1 .1 .1)
@@ -98,9 +98,7 @@ leave-spec =
     (λ c. search needs)
     (λ c. search needs)
     (λ c. search needs)
-    (λ c. search needs)
     many-updates
-    (λ c. search needs)
     (λ c. search needs)
     (λ c. search needs)
     (λ c. search needs)

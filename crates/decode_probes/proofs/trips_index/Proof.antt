@@ -14,19 +14,19 @@ use Rattle.decode_probes.proofs.trips_index.Tie as tie
 
 -- the places that the needs go back to
 abbrev to-leave : tie.After-n → tie.After-leave
-to-leave c = c .before .before .before .before .before .before .before .before .before .before
+to-leave c = c .before .before .before .before .before .before .before .before
 
 abbrev to-leave-from-enum-told : tie.After-enum-told → tie.After-leave
-to-leave-from-enum-told c = c .before .before .before .before .before .before .before .before .before .before
+to-leave-from-enum-told c = c .before .before .before .before .before .before .before .before
 
 abbrev to-leave-from-enum-told2 : tie.After-enum-told2 → tie.After-leave
-to-leave-from-enum-told2 c = c .before .before .before .before .before .before .before .before .before .before
+to-leave-from-enum-told2 c = c .before .before .before .before .before .before .before .before
 
 abbrev to-else1 : tie.After-leave → tie.Else1
-to-else1 c = c .before .before .before .before .before
+to-else1 c = c .before .before .before .before
 
 abbrev to-start : tie.After-first-question → tie.Start
-to-start c = c .before .before .before .before .before .before .before .before
+to-start c = c .before .before .before .before .before .before .before
 
 returns : tie.Need-returns
 returns c =
@@ -34,23 +34,23 @@ returns c =
     let start = to-start at-first-question in
     let a = start .args in
     answers-refused (length (a .keys .now)) (length (a .marks .now)) (length (a .order .now))
-    (length (a .updates .now)) (a .feed .now) (a .s .now) (a .old .now)
+    (a .feed .now) (a .s .now) (a .old .now)
     (at-first-question .first-question .ensures)
     (λ n. held (a .s .now) (a .old .now) (index (a .keys .now) (a .marks .now) (a .order .now) n))
     (c .if1 .taken)
 
 leave-requires : tie.Need-leave-requires
 leave-requires c κs =
-    let else1 = c .before .before .before .before in
+    let else1 = c .before .before .before in
     let at-first-question = else1 .before in
     let start = to-start at-first-question in
     let a = start .args in
     let R = ready (length (a .keys .now)) (length (a .marks .now)) (length (a .order .now))
-    (length (a .updates .now)) (a .feed .now) (a .s .now) (a .old .now)
+    (a .feed .now) (a .s .now) (a .old .now)
     (sym (at-first-question .first-question .ensures) ∙ else1 .if1 .left) in
     let L : Lent (a .keys .now) (a .marks .now) (a .order .now)
     = record { keyed = R .keyed; marked = R .marked; ordered = R .ordered } in
-    ((L, R .lined), ((R .brief, R .small), (R .judged, R .standing .old)))
+    (L, ((R .brief, R .small), (R .judged, R .standing .old)))
 
 add-result : tie.Need-add-result
 add-result c =
@@ -71,7 +71,7 @@ returns-2 c =
     let start = to-start at-first-question in
     let a = start .args in
     answers-many-trips (length (a .keys .now)) (length (a .marks .now)) (length (a .order .now))
-    (length (a .updates .now)) (a .feed .now) (a .s .now) (a .old .now)
+    (a .feed .now) (a .s .now) (a .old .now)
     (at-first-question .first-question .ensures) (else1 .if1 .left) (at-leave .leave .ensures)
     (c .enum-told .given .1)
 
@@ -83,7 +83,7 @@ returns-3 c =
     let start = to-start at-first-question in
     let a = start .args in
     answers-many-updates (length (a .keys .now)) (length (a .marks .now)) (length (a .order .now))
-    (length (a .updates .now)) (a .feed .now) (a .s .now) (a .old .now)
+    (a .feed .now) (a .s .now) (a .old .now)
     (at-first-question .first-question .ensures) (else1 .if1 .left) (at-leave .leave .ensures)
     (c .enum-told2 .given .1)
 
@@ -96,7 +96,7 @@ returns-4 c =
     let start = to-start at-first-question in
     let a = start .args in
     answers-trips (length (a .keys .now)) (length (a .marks .now)) (length (a .order .now))
-    (length (a .updates .now)) (a .feed .now) (a .s .now) (a .old .now)
+    (a .feed .now) (a .s .now) (a .old .now)
     (at-first-question .first-question .ensures) (else1 .if1 .left) (at-leave .leave .ensures)
     (at-n .n .given .0 .0) (at-n .n .given .1)
 
@@ -115,14 +115,11 @@ trips-index-spec =
     (λ c. search needs)
     (λ c. search needs)
     (λ c. search needs)
-    (λ c. search needs)
     returns-2
     (λ c. search needs)
     (λ c. search needs)
     (λ c. search needs)
-    (λ c. search needs)
     returns-3
-    (λ c. search needs)
     (λ c. search needs)
     (λ c. search needs)
     (λ c. search needs)

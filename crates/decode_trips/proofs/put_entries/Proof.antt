@@ -1,13 +1,11 @@
 -- `decode_trips::put_entries`: the entries of the slots behind it are written, and the last record stands there.
 use borrow.Author.Needs.{needs}
 use Prim.Native.Nat.{_-_, _≤_}
-use mathlib.Core.Path.{_≡_, refl}
+use mathlib.Core.Path.{refl}
 use native.Mathlib.Omega.{arith}
-use lib.ListN.{length}
 use Rattle.formats.specs.Readers.{manyW}
 use Rattle.formats.specs.Format.{write}
 use Rattle.formats_write.specs.promises.Adds.{Adds}
-use Rattle.decode.specs.Sizes.{updatesLength}
 use Rattle.decode.specs.Trip.{tripEntry}
 use Rattle.decode_slots.specs.Index.{index}
 use Rattle.decode_slots.specs.Places.{held}
@@ -20,17 +18,16 @@ use Rattle.decode_trips.proofs.put_entries.Statement.{statement}
 use Rattle.decode_trips.proofs.put_entries.Tie as tie
 
 abbrev Inv-loop : tie.InvT-loop
-Inv-loop out₀ updates₀ keys marks order n s old at q₀ last₀ i₀ out updates q last i =
-    (i ≤ n) × (length updates ≡ updatesLength)
-    × Adds out₀ q₀ out q (manyW (write tripEntry) (held s old (index keys marks order i)))
+Inv-loop out₀ keys marks order n s old at q₀ last₀ i₀ out q last i =
+    (i ≤ n) × Adds out₀ q₀ out q (manyW (write tripEntry) (held s old (index keys marks order i)))
     × Ready s old out q last
 
 abbrev μ-loop : tie.MeasureT-loop
-μ-loop out₀ updates₀ keys marks order n s old at q₀ last₀ i₀ out updates q last i = n - i
+μ-loop out₀ keys marks order n s old at q₀ last₀ i₀ out q last i = n - i
 
 -- the places that the needs go back to
 abbrev to-start : tie.After-w Inv-loop μ-loop → tie.Start Inv-loop μ-loop
-to-start c = c .before .before .before .before .before .before .before .before .before
+to-start c = c .before .before .before .before .before .before .before .before
 
 abbrev to-w : tie.At-loop Inv-loop μ-loop → tie.After-w Inv-loop μ-loop
 to-w c = c .before .before .before
@@ -45,7 +42,6 @@ loop-holds : tie.Need-loop-holds Inv-loop μ-loop
 loop-holds c =
     let start = to-start (c .before .before) in (
       omega arith,
-      start .pre .0 .0,
       no-entries (start .args .s .now) (start .args .old .now) (start .args .keys .now)
           (start .args .marks .now) (start .args .order .now),
       ready-none refl (c .if1 .left),
@@ -53,34 +49,32 @@ loop-holds c =
 
 write-entry-requires : tie.Need-write-entry-requires Inv-loop μ-loop
 write-entry-requires c κs =
-    let at-word = c .before .before in
+    let at-word = c .before in
     let at-loop-test = at-word .before in
     let at-loop = at-loop-test .before in
     let start = to-start (to-w at-loop) in (
-      (at-loop .loop .inv .1, start .pre .0 .1),
+      start .pre .0,
       (
         taken-at (GoodSlot (start .args .s .now) (start .args .old .now) (start .args .keys .now)
             (start .args .marks .now))
             (start .args .n) (start .args .order .now) (start .pre .1 .1) (at-loop .loop .i)
             (at-loop-test .loop-test .taken) (start .pre .1 .0)
             (at-word .word .ensures),
-        at-loop .loop .inv .3,
+        at-loop .loop .inv .2,
       ),
     )
 
 loop-again : tie.Need-loop-again Inv-loop μ-loop
 loop-again c =
-    let at-updates = c .before .before in
-    let at-write-entry = at-updates .before .before .before in
-    let at-word = at-write-entry .before .before .before in
+    let at-write-entry = c .before .before .before in
+    let at-word = at-write-entry .before .before in
     let at-loop = at-word .before .before in
     let start = to-start (to-w at-loop) in (
       omega arith,
-      search (needs, at-updates .updates .given),
       entries-more (start .args .s .now) (start .args .old .now) (start .args .keys .now)
           (start .args .marks .now) (start .args .order .now) (at-loop .loop .i) (omega
           (arith, start .pre .1 .0)) (at-word .word .ensures)
-          (at-loop .loop .inv .2) (at-write-entry .write-entry .ensures .adds),
+          (at-loop .loop .inv .1) (at-write-entry .write-entry .ensures .adds),
       at-write-entry .write-entry .ensures .ready,
     )
 
@@ -91,7 +85,7 @@ returns-3 c =
     from-at (to-w at-loop .w .given .1)
     (entries-done (start .args .s .now) (start .args .old .now) (start .args .keys .now)
     (start .args .marks .now) (start .args .order .now) (at-loop .loop .inv .0) (c .loop-test .left)
-    (at-loop .loop .inv .2))
+    (at-loop .loop .inv .1))
 
 pub put-entries-spec : {M : Type 1} → statement M
 put-entries-spec =
@@ -109,6 +103,5 @@ put-entries-spec =
     (λ c. search needs)
     (λ c. search needs)
     loop-again
-    (λ c. search needs)
     (λ c. search needs)
     returns-3)

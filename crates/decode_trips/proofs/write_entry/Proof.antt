@@ -10,11 +10,11 @@ abbrev to-word : tie.After-text → tie.After-word
 to-word c = c .before .before .before .before
 
 abbrev to-start : tie.After-word → tie.Start
-to-start c = c .before .before .before .before .before .before .before
+to-start c = c .before .before .before .before .before .before
 
 write-next-requires : tie.Need-write-next-requires
 write-next-requires c κs =
-    let at-text = c .before .before .before .before in
+    let at-text = c .before .before .before in
     let at-word3 = at-text .before .before in
     let at-word2 = at-word3 .before in
     let start = to-start (to-word at-text) in
@@ -32,8 +32,8 @@ write-next-requires c κs =
 returns : tie.Need-returns
 returns c =
     let at-place = c .before in
-    let at-write-next = at-place .before .before .before .before .before in
-    let at-text = at-write-next .before .before .before .before .before in
+    let at-write-next = at-place .before .before .before in
+    let at-text = at-write-next .before .before .before .before in
     let at-word3 = at-text .before .before in
     let at-word2 = at-word3 .before in
     let start = to-start (to-word at-text) in
@@ -59,6 +59,5 @@ write-entry-spec =
     write-next-requires
     (λ c κs. search needs)
     (λ c κs. search needs)
-    (λ c. search needs)
     (λ c. search needs)
     returns)

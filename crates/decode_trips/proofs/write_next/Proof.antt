@@ -14,5 +14,4 @@ write-next-spec =
     (λ c. search copied)
     (λ c κs. search needs)
     (λ c. search needs)
-    (λ c. search needs)
     (λ c. search needs))

@@ -7,8 +7,7 @@ use Rattle.decode_trips.proofs.write_trips.Tie as tie
 
 put-entries-requires : tie.Need-put-entries-requires
 put-entries-requires c κs =
-    let start = c .before .before .before .before .before .before .before .before .before .before .before
-    .before .before in (
+    let start = c .before .before .before .before .before .before .before .before .before .before .before in (
       start .pre .0,
       (
         omega (arith, start .pre .1 .sound .ordered, start .pre .1 .sound .counted),
@@ -19,9 +18,9 @@ put-entries-requires c κs =
 
 returns : tie.Need-returns
 returns c =
-    let at-put-entries = c .before .before .before .before in
-    let at-number = at-put-entries .before .before .before .before .before in
-    let start = at-number .before .before .before .before .before .before .before .before .before in
+    let at-put-entries = c .before .before in
+    let at-number = at-put-entries .before .before .before .before in
+    let start = at-number .before .before .before .before .before .before .before .before in
     trips-adds (start .args .s .now) (start .args .old .now) (start .args .keys .now) (start .args .marks .now)
     (start .pre .1 .sound) (at-number .number .ensures) (at-put-entries .put-entries .ensures)
 
@@ -31,6 +30,5 @@ write-trips-spec =
     (tie.spec
     (λ c κs. search needs)
     put-entries-requires
-    (λ c. search needs)
     (λ c. search needs)
     returns)

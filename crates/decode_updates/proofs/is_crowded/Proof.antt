@@ -12,6 +12,6 @@ is-crowded-spec =
     (tie.spec
     (λ c κs. search needs)
     (λ c. crowded-counted (c .before .count-updates .ensures) (c .if1 .taken))
-    (λ c κs. search needs)
     (λ c. search needs)
-    (λ c. crowded-listed (c .before .before .updates-of .ensures)))
+    (λ c κs. search needs)
+    (λ c. crowded-listed (c .before .updates-of .ensures)))

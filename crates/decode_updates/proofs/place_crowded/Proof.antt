@@ -8,10 +8,10 @@ use Rattle.decode_updates.proofs.place_crowded.Statement.{statement}
 use Rattle.decode_updates.proofs.place_crowded.Tie as tie
 
 -- the record that stands at the place
-abbrev to-start : tie.After-is-crowded-arg → tie.Start
-to-start c = c .before .before .before .before .before
+abbrev to-start : tie.Joined2 → tie.Start
+to-start c = c .before .before .before
 
-stood : (c : tie.After-is-crowded-arg) → let a = to-start c .args in Readable feedEntity (a .s .now) (a .from, a .to)
+stood : (c : tie.Joined2) → let a = to-start c .args in Readable feedEntity (a .s .now) (a .from, a .to)
 stood c =
     let start = to-start c in
     place-reads (start .args .s .now) (start .args .from) (start .args .to) (start .pre .1 .1) (search needs)
@@ -28,11 +28,11 @@ forward c = stood c .forward
 is-crowded-requires : tie.Need-is-crowded-requires
 is-crowded-requires c κs =
     let R = stood c in
-    (search needs, (omega (arith, R .forward, R .inside), search needs))
+    (omega (arith, R .forward, R .inside), search needs)
 
 asked : tie.Need-returns-3
 asked c = search place-new
 
 pub place-crowded-spec : {M : Type 1} → statement M
 place-crowded-spec =
-    tie.close (tie.spec old known forward is-crowded-requires (λ c. search needs) asked)
+    tie.close (tie.spec old known forward is-crowded-requires asked)

@@ -11,9 +11,9 @@ put-head-requires c κs =
 
 put-updates-requires : tie.Need-put-updates-requires
 put-updates-requires c κs =
-    let at-updates-of-near = c .before .before .before .before .before .before in
-    let at-updates-of = at-updates-of-near .before .before .before .before .before .before .before in
-    let start = at-updates-of .before .before .before .before .before in
+    let at-put-head = c .before .before .before .before .before .before .before .before in
+    let at-updates-of = at-put-head .before .before .before .before in
+    let start = at-updates-of .before .before .before .before in
     let R = start .pre .1 .0 in
     let calm = start .pre .1 .1 in
     let L = at-updates-of .updates-of .ensures in
@@ -25,8 +25,8 @@ returns c =
     let at-number = at-put-updates .before .before .before .before .before in
     let at-put-head = at-number .before .before .before .before in
     let at-trip-of = at-put-head .before .before in
-    let at-updates-of = at-trip-of .before .before .before in
-    let start = at-updates-of .before .before .before .before .before in
+    let at-updates-of = at-trip-of .before .before in
+    let start = at-updates-of .before .before .before .before in
     record-adds (start .pre .1 .0) (at-updates-of .updates-of .ensures) (start .pre .1 .1)
     (at-trip-of .trip-of .ensures)
     (at-put-head .put-head .ensures) (at-number .number .ensures) (at-put-updates .put-updates .ensures)
@@ -36,11 +36,12 @@ write-record-spec =
     tie.close
     (tie.spec
     (λ c. search needs)
+    (λ c. search needs)
     (λ c κs. search needs)
     (λ c κs. search needs)
     put-head-requires
     (λ c κs. search needs)
-    put-updates-requires
     (λ c. search needs)
+    put-updates-requires
     (λ c. search needs)
     returns)

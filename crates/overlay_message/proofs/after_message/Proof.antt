@@ -6,9 +6,9 @@ use Rattle.overlay_message.proofs.after_message.Tie as tie
 
 change-known-requires : tie.Need-change-known-requires
 change-known-requires c κs =
-    let at-from = c .before .before .before .before .before .before in
+    let at-from = c .before .before .before .before .before in
     let at-find-feed = at-from .before .before in
-    let start = at-find-feed .before .before .before .before .before .before .before .before .before in
+    let start = at-find-feed .before .before .before .before .before .before .before .before in
     let P = start .pre .1 .1 .1 in (
       start .pre .0,
       (
@@ -23,9 +23,9 @@ change-known-requires c κs =
 
 change-new-requires : tie.Need-change-new-requires
 change-new-requires c κs =
-    let at-from2 = c .before .before .before .before .before .before in
+    let at-from2 = c .before .before .before .before .before in
     let at-find-feed = at-from2 .before .before in
-    let start = at-find-feed .before .before .before .before .before .before .before .before .before in (
+    let start = at-find-feed .before .before .before .before .before .before .before .before in (
       start .pre .0,
       (
         start .pre .1 .0,
@@ -46,8 +46,6 @@ after-message-spec =
     change-known-requires
     (λ c. search needs)
     change-new-requires
-    (λ c. search needs)
-    (λ c. search needs)
     (λ c. search needs)
     (λ c. search needs)
     (λ c. search needs)

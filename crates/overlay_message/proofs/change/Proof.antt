@@ -5,53 +5,48 @@ use Rattle.overlay_message.proofs.change.Statement.{statement}
 use Rattle.overlay_message.proofs.change.Tie as tie
 
 -- the places that the needs go back to
-abbrev to-updates : tie.After-n → tie.After-updates
-to-updates c = c .before .before .before
-
 abbrev to-keys : tie.After-n → tie.After-keys
-to-keys c = to-updates c .before .before .before .before .before .before
+to-keys c = c .before .before .before .before .before .before .before
 
 abbrev to-leave : tie.After-n → tie.After-leave
 to-leave c = to-keys c .before
 
 abbrev to-slices : tie.After-leave → tie.After-shared-slice-known4
-to-slices c = c .before .before .before .before .before
+to-slices c = c .before .before .before .before
 
 abbrev to-start : tie.After-leave → tie.Start
-to-start c = to-slices c .before .before .before .before .before .before .before .before .before
+to-start c = to-slices c .before .before .before .before .before .before .before .before
 
 abbrev to-behind : tie.After-write-state → tie.After-behind
-to-behind c = c .before .before .before .before .before .before
+to-behind c = c .before .before .before .before .before
 
 write-state-requires : tie.Need-write-state-requires
 write-state-requires c κs =
-    let at-n = c .before .before .before .before .before .before .before .before in
+    let at-n = c .before .before .before .before .before .before .before in
     let at-leave = to-leave at-n in
-    let start = to-start at-leave in
-    let lined = start .pre .0 .1 in
-    let kept = to-updates at-n .updates in (
-      (search (needs, lined, kept), start .pre .1 .0 .1),
+    let start = to-start at-leave in (
+      start .pre .1 .0 .1,
       writable (start .args .front) (at-leave .leave .ensures) (at-n .n .given .1),
     )
 
 returns : tie.Need-returns
 returns c =
-    let at-leave = c .before .before .before .before .before .before .before .before .before .before in
+    let at-leave = c .before .before .before .before .before .before .before .before in
     many-trips (to-start at-leave .args .front) (at-leave .leave .ensures) (c .enum-told .given .1)
 
 returns-2 : tie.Need-returns-2
 returns-2 c =
-    let at-leave = c .before .before .before .before .before .before .before .before .before .before in
+    let at-leave = c .before .before .before .before .before .before .before .before in
     many-updates (to-start at-leave .args .front) (at-leave .leave .ensures) (c .enum-told2 .given .1)
 
-same-keys : tie.Need-same-length-10
+same-keys : tie.Need-same-length-8
 same-keys c =
-    let at-n = to-behind (c .before .before .before .before) .before .before .before in
+    let at-n = to-behind (c .before .before) .before .before .before in
     search (needs, to-keys at-n .keys)
 
 returns-3 : tie.Need-returns-3
 returns-3 c =
-    let at-write-state = c .before .before .before .before in
+    let at-write-state = c .before .before in
     let at-behind = to-behind at-write-state in
     let at-read-back = at-behind .before in
     let at-n = at-read-back .before .before in
@@ -73,16 +68,13 @@ change-spec =
     (λ c. search needs)
     (λ c. search needs)
     (λ c. search needs)
-    (λ c. search needs)
     returns
-    (λ c. search needs)
     (λ c. search needs)
     (λ c. search needs)
     (λ c. search needs)
     returns-2
     (λ c. search needs)
     same-keys
-    (λ c. search needs)
     (λ c. search needs)
     (λ c. search needs)
     returns-3)

@@ -6,17 +6,17 @@ use Rattle.overlay_message.proofs.change_known.Tie as tie
 
 change-requires : tie.Need-change-requires
 change-requires c κs =
-    let at-read-front = c .before .before .before .before .before .before in
-    let start = at-read-front .before .before .before .before .before .before .before .before .before in
+    let at-read-front = c .before .before .before .before .before in
+    let start = at-read-front .before .before .before .before .before .before .before .before in
     let K = start .pre .1 .1 .1 in
     (start .pre .0, (start .pre .1 .0, (start .pre .1 .1 .0, known-old K (at-read-front .read-front .ensures))))
 
 returns : tie.Need-returns
 returns c =
-    let at-change = c .before .before .before .before .before .before .before .before .before .before in
-    let at-read-head = at-change .before .before .before .before .before .before in
+    let at-change = c .before .before .before .before .before .before .before .before in
+    let at-read-head = at-change .before .before .before .before .before in
     let at-read-front = at-read-head .before in
-    let start = at-read-front .before .before .before .before .before .before .before .before .before in
+    let start = at-read-front .before .before .before .before .before .before .before .before in
     known-leads (start .pre .1 .1 .1) (at-read-front .read-front .ensures) (at-read-head .read-head .ensures)
     (at-change .change .ensures)
 
@@ -27,7 +27,6 @@ change-known-spec =
     (λ c κs. search needs)
     (λ c κs. search needs)
     change-requires
-    (λ c. search needs)
     (λ c. search needs)
     (λ c. search needs)
     (λ c. search needs)

@@ -7,23 +7,23 @@ use Rattle.overlay_message.proofs.change_new.Tie as tie
 returns : tie.Need-returns
 returns c =
     let at-read-head = c .before in
-    let start = at-read-head .before .before .before .before .before .before .before .before .before in
+    let start = at-read-head .before .before .before .before .before .before .before .before in
     no-feed-more (start .pre .1 .1 .1) (at-read-head .read-head .ensures) (c .if1 .taken)
 
 change-requires : tie.Need-change-requires
 change-requires c κs =
-    let at-read-front = c .before .before .before .before .before .before in
+    let at-read-front = c .before .before .before .before .before in
     let start-near = at-read-front .before .before .before .before .before .before in
-    let start = start-near .before .before .before .before .before .before in
+    let start = start-near .before .before .before .before .before in
     (start .pre .0, (start .pre .1 .0, (start .pre .1 .1 .0, new-old (at-read-front .read-front .ensures))))
 
 returns-2 : tie.Need-returns-2
 returns-2 c =
-    let at-change = c .before .before .before .before .before .before .before .before .before .before in
-    let at-read-front = at-change .before .before .before .before .before .before .before in
+    let at-change = c .before .before .before .before .before .before .before .before in
+    let at-read-front = at-change .before .before .before .before .before .before in
     let at-if1 = at-read-front .before .before in
     let at-read-head = at-if1 .before in
-    let start = at-read-head .before .before .before .before .before .before .before .before .before in
+    let start = at-read-head .before .before .before .before .before .before .before .before in
     new-leads (start .pre .1 .1 .1) (at-read-head .read-head .ensures) (at-read-front .read-front .ensures)
     (at-if1 .if1 .left) (at-change .change .ensures)
 
@@ -38,7 +38,6 @@ change-new-spec =
     (λ c. search needs)
     (λ c. search needs)
     change-requires
-    (λ c. search needs)
     (λ c. search needs)
     (λ c. search needs)
     (λ c. search needs)

@@ -12,10 +12,10 @@ use Rattle.overlay_message.proofs.write_body.Tie as tie
 returns : tie.Need-returns
 returns c =
     let at-stretch = c .before .before in
-    let at-write-trips = at-stretch .before .before .before .before .before .before in
-    let at-number = at-write-trips .before .before .before .before .before in
+    let at-write-trips = at-stretch .before .before .before .before in
+    let at-number = at-write-trips .before .before .before .before in
     let at-put-timestamp = at-number .before .before .before .before in
-    let start = at-put-timestamp .before .before .before .before .before .before .before .before .before in
+    let start = at-put-timestamp .before .before .before .before .before .before .before .before in
     λ F a e P. body-adds P (timestampAfter (viewTimestamp (start .args .given)) (givenSigned (start .args .known)))
     (start .args .count) (held (start .args .s .now) (start .args .home .now)
     (index (start .args .keys .now) (start .args .marks .now) (start .args .order .now) (start .args .n)))
@@ -30,6 +30,5 @@ write-body-spec =
     (λ c κs. search needs)
     (λ c κs. search needs)
     (λ c κs. search needs)
-    (λ c. search needs)
     (λ c. search needs)
     returns)

@@ -8,10 +8,10 @@ use Rattle.overlay_message.proofs.write_feed.Tie as tie
 
 returns : tie.Need-returns
 returns c =
-    let at-write-body = c .before .before .before .before in
-    let at-count-left = at-write-body .before .before .before in
+    let at-write-body = c .before .before in
+    let at-count-left = at-write-body .before .before in
     let at-header-of = at-count-left .before in
-    let start = at-header-of .before .before .before .before .before .before .before .before .before in
+    let start = at-header-of .before .before .before .before .before .before .before .before in
     let s = start .args .s .now in
     let home = start .args .home .now in
     λ F a e t P is. feed-adds (start .args .feed .now)
@@ -26,6 +26,5 @@ write-feed-spec =
     (λ c κs. search needs)
     (λ c κs. search needs)
     (λ c κs. search needs)
-    (λ c. search needs)
     (λ c. search needs)
     returns)

@@ -10,10 +10,10 @@ use Rattle.overlay_message.proofs.write_state.Tie as tie
 returns : tie.Need-returns
 returns c =
     let at-closing = c .before .before in
-    let at-write-feed = at-closing .before .before .before .before .before .before in
-    let at-opening = at-write-feed .before .before .before .before .before in
+    let at-write-feed = at-closing .before .before .before .before in
+    let at-opening = at-write-feed .before .before .before .before in
     let at-head = at-opening .before .before in
-    let start = at-head .before .before .before .before .before .before .before .before .before .before in
+    let start = at-head .before .before .before .before .before .before .before .before .before in
     λ st F a e t S P is. state-wrote (feedAfter (start .args .feed .now) t F
     (held (start .args .s .now) (start .args .home .now)
     (index (start .args .keys .now) (start .args .marks .now) (start .args .order .now) (start .args .n))))
@@ -30,6 +30,5 @@ write-state-spec =
     (λ c κs. search needs)
     (λ c κs. search needs)
     (λ c κs. search needs)
-    (λ c. search needs)
     (λ c. search needs)
     returns)
