@@ -14,6 +14,11 @@ ghost use Rattle.journey_alerts.specs.promises.Places.{mostText, Lent, P
 ghost use Rattle.journey_alerts.specs.promises.Alerts.{LegApplies, LabelAdded, AlertMet, EachMet, AlertsAtMet};
 ghost use Rattle.journey_alerts.specs.promises.Alerts.{LegAlerted};
 
+// The alerts of a feed, and what the texts of one are written into.
+const MOST_ALERTS: usize = 256;
+
+const MOST_TEXT: usize = 2626;
+
 // The texts of a leg that alerts are asked by.
 pub struct LegTexts {
     pub mode: Span,
@@ -249,7 +254,7 @@ fn each_candidate(
     r
 }
 
-// The alerts at p.
+// The alerts at p, over places and a text of their own.
 fn alerts_at(
     s: &[u8],
     t: LegTexts,
@@ -257,20 +262,20 @@ fn alerts_at(
     p: usize,
     candidates: &mut [u16],
     met: &mut [u16],
-    places: &mut [u32],
-    text: &mut [u8],
     known: &mut [u32],
     froms: &mut [u32],
     tos: &mut [u32],
     n: usize,
 ) -> LegAlerts
     requires { ⌜ TextsIn (now s) t ⌝ }
-    requires { ⌜ Lent (now b) (now candidates) (now met) (now places) (now text) ⌝ }
-    requires { ⌜ SoundLabels (now b) (now froms) (now tos) n × Knows (length (now text)) (now b) (now known) ⌝ }
-    ensures { λ r. ⌜ AlertsAtMet (now (s .entry)) t (now (b .entry)) p (length (now (text .entry)))
+    requires { ⌜ Lent (now b) (now candidates) (now met) ⌝ }
+    requires { ⌜ SoundLabels (now b) (now froms) (now tos) n × Knows mostText (now b) (now known) ⌝ }
+    ensures { λ r. ⌜ AlertsAtMet (now (s .entry)) t (now (b .entry)) p mostText
         (now (froms .entry)) (now (tos .entry)) n (now (froms .exit)) (now (tos .exit)) r (now (known .exit)) ⌝ }
 {
-    let c = prepare(s, t, b, p, candidates, met, places);
+    let mut places = [0u32; MOST_ALERTS];
+    let mut text = [0u8; MOST_TEXT];
+    let c = prepare(s, t, b, p, candidates, met, &mut places);
     let h = LegAlerts {
         hit: false,
         labels: n,
@@ -282,8 +287,8 @@ fn alerts_at(
         p,
         candidates,
         c,
-        places,
-        text,
+        &places,
+        &mut text,
         known,
         froms,
         tos,
@@ -300,15 +305,13 @@ pub fn leg(
     noted: &[u32],
     candidates: &mut [u16],
     met: &mut [u16],
-    places: &mut [u32],
-    text: &mut [u8],
     known: &mut [u32],
     froms: &mut [u32],
     tos: &mut [u32],
     n: usize,
 ) -> LegAlerts
     requires { ⌜ Noted (now b) (now noted) ⌝ }
-    requires { ⌜ Lent (now b) (now candidates) (now met) (now places) (now text) ⌝ }
+    requires { ⌜ Lent (now b) (now candidates) (now met) ⌝ }
     requires { ⌜ SoundLabels (now b) (now froms) (now tos) n × Knows mostText (now b) (now known) ⌝ }
     ensures { λ r. ⌜ LegAlerted (now (s .entry)) at (now (b .entry)) (now (froms .entry)) (now (tos .entry)) n
         (now (froms .exit)) (now (tos .exit)) r (now (known .exit)) ⌝ }
@@ -323,18 +326,5 @@ pub fn leg(
             labels: n,
         };
     };
-    alerts_at(
-        s,
-        t,
-        b,
-        p,
-        candidates,
-        met,
-        places,
-        text,
-        known,
-        froms,
-        tos,
-        n,
-    )
+    alerts_at(s, t, b, p, candidates, met, known, froms, tos, n)
 }

@@ -35,15 +35,13 @@ fn leg(
     noted: &[u32],
     candidates: &mut [u16],
     met: &mut [u16],
-    places: &mut [u32],
-    text: &mut [u8],
     known: &mut [u32],
     froms: &mut [u32],
     tos: &mut [u32],
     c: CardSurvey,
 ) -> CardSurvey
     requires { ⌜ Noted (now b) (now noted) ⌝ }
-    requires { ⌜ Lent (now b) (now candidates) (now met) (now places) (now text) ⌝ }
+    requires { ⌜ Lent (now b) (now candidates) (now met) ⌝ }
     requires { ⌜ SoundLabels (now b) (now froms) (now tos) (c .labels) × Knows mostText (now b) (now known) ⌝ }
     ensures { λ r. ⌜ LegSurveyed (now (s .entry)) at (now (b .entry)) (now (froms .entry)) (now (tos .entry)) c
         (now (froms .exit)) (now (tos .exit)) r (now (known .exit)) ⌝ }
@@ -54,20 +52,7 @@ fn leg(
     if formats::tag(s, at) == 1 {
         let p = at + 1;
         let r = journey_finish::look(s, p, b, noted);
-        let a = journey_alerts::leg(
-            s,
-            p,
-            b,
-            noted,
-            candidates,
-            met,
-            places,
-            text,
-            known,
-            froms,
-            tos,
-            c.labels,
-        );
+        let a = journey_alerts::leg(s, p, b, noted, candidates, met, known, froms, tos, c.labels);
         let old = c.seen;
         return CardSurvey {
             seen: one_more(s, p, old, r, a.hit),
@@ -86,14 +71,12 @@ fn each_leg(
     noted: &[u32],
     candidates: &mut [u16],
     met: &mut [u16],
-    places: &mut [u32],
-    text: &mut [u8],
     known: &mut [u32],
     froms: &mut [u32],
     tos: &mut [u32],
 ) -> CardSurvey
     requires { ⌜ Noted (now b) (now noted) ⌝ }
-    requires { ⌜ Lent (now b) (now candidates) (now met) (now places) (now text) ⌝ }
+    requires { ⌜ Lent (now b) (now candidates) (now met) ⌝ }
     requires { ⌜ (length (now froms) ≡ labelsLength) × (length (now tos) ≡ labelsLength)
         × Knows mostText (now b) (now known) ⌝ }
     ensures { λ r. ⌜ EachSurveyed (now (s .entry)) at n (now (b .entry)) (now (froms .exit)) (now (tos .exit)) r ⌝ }
@@ -105,20 +88,7 @@ fn each_leg(
         labels: 0,
     };
     while 0 < left {
-        c = leg(
-            s,
-            p,
-            b,
-            noted,
-            candidates,
-            met,
-            places,
-            text,
-            known,
-            froms,
-            tos,
-            c,
-        );
+        c = leg(s, p, b, noted, candidates, met, known, froms, tos, c);
         p = journey_places::past_leg(s, p);
         left -= 1;
     }
@@ -133,14 +103,12 @@ pub fn survey(
     noted: &[u32],
     candidates: &mut [u16],
     met: &mut [u16],
-    places: &mut [u32],
-    text: &mut [u8],
     known: &mut [u32],
     froms: &mut [u32],
     tos: &mut [u32],
 ) -> CardSurvey
     requires { ⌜ Noted (now b) (now noted) ⌝ }
-    requires { ⌜ Lent (now b) (now candidates) (now met) (now places) (now text) ⌝ }
+    requires { ⌜ Lent (now b) (now candidates) (now met) ⌝ }
     requires { ⌜ (length (now froms) ≡ labelsLength) × (length (now tos) ≡ labelsLength)
         × Knows mostText (now b) (now known) ⌝ }
     ensures { λ r. ⌜ Surveyed (now (s .entry)) at (now (b .entry)) (now (froms .exit)) (now (tos .exit)) r ⌝ }
@@ -154,8 +122,6 @@ pub fn survey(
         noted,
         candidates,
         met,
-        places,
-        text,
         known,
         froms,
         tos,

@@ -132,11 +132,11 @@ module _ {s : List ℕ} {p : ℕ} {T : LegTexts} (X : LegTextsAt s p T) {b : Lis
         leg-met (shown st) (transitOf v) {l = []} (sym (ap alertsIn z)) met-none;
   }
 
-  pub leg-some : {i m : ℕ} {f′ g′ : List ℕ} {r : LegAlerts} {w : List ℕ} → x ≡ At i → m ≡ mostText
-      → AlertsAtMet s T b i m f g n f′ g′ r w → LegAlerted s p b f g n f′ g′ r w
-  leg-some {i} e k M = record {
+  pub leg-some : {i : ℕ} {f′ g′ : List ℕ} {r : LegAlerts} {w : List ℕ} → x ≡ At i
+      → AlertsAtMet s T b i mostText f g n f′ g′ r w → LegAlerted s p b f g n f′ g′ r w
+  leg-some {i} e M = record {
     sound = M .sound;
-    knows = rw k at (M .knows);
+    knows = M .knows;
     met = λ {q} {v} H J {st} W seven.
         let Y = X .of H in
         let t = transitOf v in
@@ -144,5 +144,5 @@ module _ {s : List ℕ} {p : ℕ} {T : LegTexts} (X : LegTextsAt s p T) {b : Lis
         let h = rw (Y .trip) at (A .to (W .here) .found i e) in
         leg-met (shown st) t {l = l} refl
         (M .met Y (rw (← ap alertsIn (h .is)) at (h .here)) (alerts-few st seven (feed-of (t .trip)))
-        (rw k (rooms l {v = v} J (feed-judged (shown st (feed-of (t .trip))) (W .judged (feed-of (t .trip)))))));
+        (rooms l {v = v} J (feed-judged (shown st (feed-of (t .trip))) (W .judged (feed-of (t .trip))))));
   }

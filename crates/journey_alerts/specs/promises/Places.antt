@@ -20,12 +20,10 @@ use Rattle.journey_alerts.specs.promises.Texts.{TextsOf}
 abbrev pub mostText : ℕ
 mostText = 2626
 
--- what a caller lends: for numbers of candidates, marks of those that were met, places of alerts, an alert's texts
-pub record Lent (b candidates met places text : List ℕ) : Type 0 where
+-- what a caller lends: for numbers of candidates, marks of those that were met
+pub record Lent (b candidates met : List ℕ) : Type 0 where
   pub numbers : length candidates ≡ 256
   pub marks : length met ≡ mostMarks
-  pub room : length places ≡ 256
-  pub texts : length text ≡ mostText
   pub small : length b ≤ mostOld
 
 abbrev pub isCandidate : Transit → Alert → Bool

@@ -6,11 +6,10 @@ use Rattle.journey_survey.proofs.leg.Tie as tie
 
 -- back from the last call to the alerts, and to what was looked up
 abbrev alerted : tie.After-one-more → tie.After-leg
-alerted c = c .before .before .before .before .before .before .before .before
-    .before .before .before .before .before .before .before .before
+alerted c = c .before .before .before .before .before .before .before .before .before .before .before .before
 
 abbrev looked : tie.After-leg → tie.After-look
-looked c = c .before .before .before .before .before .before .before .before
+looked c = c .before .before .before .before .before .before
 
 taken : tie.Need-returns-2
 taken c =
@@ -29,8 +28,6 @@ leg-spec =
     (λ c κs. search needs)
     (λ c κs. search needs)
     (λ c κs. search needs)
-    (λ c. search needs)
-    (λ c. search needs)
     (λ c. search needs)
     (λ c. search needs)
     (λ c. search needs)

@@ -6,9 +6,8 @@ use Rattle.journey_survey.proofs.survey.Tie as tie
 
 returns : tie.Need-returns
 returns c =
-    let e = c .before .before .before .before .before .before .before
-    .before .before .before .before .before .before .before in
-    surveyed (e .before .before .before .before .before .before .before .before .number .ensures) (e .each-leg .ensures)
+    let e = c .before .before .before .before .before .before .before .before .before .before in
+    surveyed (e .before .before .before .before .before .before .number .ensures) (e .each-leg .ensures)
 
 pub survey-spec : {M : Type 1} → statement M
 survey-spec =
@@ -16,8 +15,6 @@ survey-spec =
     (tie.spec
     (λ c κs. search needs)
     (λ c κs. search needs)
-    (λ c. search needs)
-    (λ c. search needs)
     (λ c. search needs)
     (λ c. search needs)
     (λ c. search needs)

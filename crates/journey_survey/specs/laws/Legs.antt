@@ -156,15 +156,8 @@ pub sound-none : {b f g : List ℕ} → length f ≡ labelsLength → length g �
 sound-none h i = record { counted = omega arith; longFrom = h; longTo = i; inside = tt; ascends = refl }
 
 -- what is lent keeps its lengths
-pub lent-kept : {b c m p t c′ m′ p′ t′ : List ℕ} → Lent b c m p t → length c′ ≡ length c → length m′ ≡ length m
-    → length p′ ≡ length p → length t′ ≡ length t → Lent b c′ m′ p′ t′
-lent-kept L i j k l = record {
-  numbers = i ∙ L .numbers;
-  marks = j ∙ L .marks;
-  room = k ∙ L .room;
-  texts = l ∙ L .texts;
-  small = L .small;
-}
+pub lent-kept : {b c m c′ m′ : List ℕ} → Lent b c m → length c′ ≡ length c → length m′ ≡ length m → Lent b c′ m′
+lent-kept L i j = record { numbers = i ∙ L .numbers; marks = j ∙ L .marks; small = L .small }
 
 module _ {A : Type 0} (P : A → Type 0) where
   each-front : (us : List A) (v : A) → All P (us ++ (v ∷ [])) → All P us
