@@ -12,19 +12,14 @@ ghost use Rattle.panel_calls.specs.Published.{publishedLengths};
 const OVERLAY: usize = 111398044;
 
 // The lengths of all buffers, in elements.
-const LENGTHS: [usize; 15] = [
+const LENGTHS: [usize; 10] = [
     OVERLAY,
     65536, // a card
     25, // a report
-    280713, // keys, marks, order, updates of a message
+    280713, // keys, marks, order of a message
     6147,
     2049,
-    387,
-    256, // candidates, met, text, froms, tos, places, noted, known of a card
-    256,
-    2626,
-    1025,
-    1025,
+    256, // candidates, met, noted, known of a card
     256,
     8208,
     4096,
@@ -36,7 +31,7 @@ pub extern "C" fn mipsuqal_length(k: u32) -> usize
     ensures { λ r. ⌜ r ≡ getD publishedLengths k 0 ⌝ }
 {
     let i = k as usize;
-    if i < 15 {
+    if i < 10 {
         return LENGTHS[i];
     }
     0
@@ -60,26 +55,14 @@ pub extern "C" fn mipsuqal_message(
     keys: &mut [u8],
     marks: &mut [u32],
     order: &mut [u32],
-    updates: &mut [u32],
 ) -> u32
     ensures { λ r. ⌜ Given lengths (now (old .entry))
         (calls.message (now (feed .entry)) (now (message .entry)) (length (now (new .entry)))
-        (length (now (keys .entry)) ∷ length (now (marks .entry)) ∷ length (now (order .entry))
-        ∷ length (now (updates .entry)) ∷ []))
+        (length (now (keys .entry)) ∷ length (now (marks .entry)) ∷ length (now (order .entry)) ∷ []))
         r (now (new .exit))
-        (now (keys .exit) ∷ now (marks .exit) ∷ now (order .exit) ∷ now (updates .exit) ∷ []) ⌝ }
+        (now (keys .exit) ∷ now (marks .exit) ∷ now (order .exit) ∷ []) ⌝ }
 {
-    panel_sized_message::message(
-        OVERLAY,
-        old,
-        feed,
-        message,
-        new,
-        keys,
-        marks,
-        order,
-        updates,
-    )
+    panel_sized_message::message(OVERLAY, old, feed, message, new, keys, marks, order)
 }
 
 // AN ALERT SHEET of a feed.
@@ -116,36 +99,17 @@ pub extern "C" fn mipsuqal_card(
     out: &mut [u8],
     candidates: &mut [u16],
     met: &mut [u16],
-    text: &mut [u8],
-    froms: &mut [u32],
-    tos: &mut [u32],
-    places: &mut [u32],
     noted: &mut [u32],
     known: &mut [u32],
 ) -> u32
     ensures { λ r. ⌜ Given lengths (now (old .entry))
         (calls.card (now (card .entry)) (length (now (out .entry)))
-        (length (now (candidates .entry)) ∷ length (now (met .entry)) ∷ length (now (text .entry))
-        ∷ length (now (froms .entry)) ∷ length (now (tos .entry)) ∷ length (now (places .entry))
-        ∷ length (now (noted .entry)) ∷ length (now (known .entry)) ∷ []))
+        (length (now (candidates .entry)) ∷ length (now (met .entry)) ∷ length (now (noted .entry))
+        ∷ length (now (known .entry)) ∷ []))
         r (now (out .exit))
-        (now (candidates .exit) ∷ now (met .exit) ∷ now (text .exit) ∷ now (froms .exit)
-        ∷ now (tos .exit) ∷ now (places .exit) ∷ now (noted .exit) ∷ now (known .exit) ∷ []) ⌝ }
+        (now (candidates .exit) ∷ now (met .exit) ∷ now (noted .exit) ∷ now (known .exit) ∷ []) ⌝ }
 {
-    panel_sized_card::card(
-        OVERLAY,
-        old,
-        card,
-        out,
-        candidates,
-        met,
-        text,
-        froms,
-        tos,
-        places,
-        noted,
-        known,
-    )
+    panel_sized_card::card(OVERLAY, old, card, out, candidates, met, noted, known)
 }
 
 // A REPORT on a feed: version, count and header timestamp.

@@ -19,8 +19,11 @@ ghost use Rattle.alerts_apply.specs.promises.Known.{Knows};
 ghost use Rattle.journey_alerts.specs.promises.Places.{mostText, Lent};
 ghost use Rattle.formats_judge.specs.Judged.{judgeTo};
 ghost use Rattle.journey.specs.Card as form;
-ghost use Rattle.panel_card.specs.promises.Card.{cardNumber, askedNumber, AskedNotes, LentLabels};
+ghost use Rattle.panel_card.specs.promises.Card.{cardNumber, askedNumber, AskedNotes};
 ghost use Rattle.panel_card.specs.promises.Card.{FinishesCard, CardEnds};
+
+// The labels of a card, with room for one more.
+const LABELS_LENGTH: usize = 1025;
 
 // The end of a card, and the first of the questions 5 to 7 that it fails.
 fn judge_card(s: &[u8]) -> Judge
@@ -66,17 +69,16 @@ fn finish(
     out: &mut [u8],
     candidates: &mut [u16],
     met: &mut [u16],
-    text: &mut [u8],
-    froms: &mut [u32],
-    tos: &mut [u32],
-    places: &mut [u32],
     known: &mut [u32],
 ) -> Put
     requires { ⌜ Noted (now old) (now noted) ⌝ }
-    requires { ⌜ Lent (now old) (now candidates) (now met) (now places) (now text) ⌝ }
-    requires { ⌜ LentLabels (now froms) (now tos) × (0 < length (now card)) × Knows mostText (now old) (now known) ⌝ }
+    requires { ⌜ Lent (now old) (now candidates) (now met) ⌝ }
+    requires { ⌜ (0 < length (now card)) × Knows mostText (now old) (now known) ⌝ }
     ensures { λ r. ⌜ FinishesCard (now (old .entry)) (now (card .entry)) (now (out .entry)) (now (out .exit)) r ⌝ }
 {
+    // Where the labels begin and end.
+    let mut froms = [0u32; LABELS_LENGTH];
+    let mut tos = [0u32; LABELS_LENGTH];
     let legs = journey_places::card(card, 0).legs;
     let g = journey_survey::survey(
         card,
@@ -85,11 +87,9 @@ fn finish(
         noted,
         candidates,
         met,
-        places,
-        text,
         known,
-        froms,
-        tos,
+        &mut froms,
+        &mut tos,
     );
     let seen: Survey = g.seen;
     journey_enrich::enrich(
@@ -98,8 +98,8 @@ fn finish(
         old,
         noted,
         seen,
-        froms,
-        tos,
+        &froms,
+        &tos,
         g.labels,
         out,
         Put::At(0),
@@ -114,15 +114,11 @@ pub fn card(
     out: &mut [u8],
     candidates: &mut [u16],
     met: &mut [u16],
-    text: &mut [u8],
-    froms: &mut [u32],
-    tos: &mut [u32],
-    places: &mut [u32],
     noted: &mut [u32],
     known: &mut [u32],
 ) -> Ending
-    requires { ⌜ Lent (now old) (now candidates) (now met) (now places) (now text) ⌝ }
-    requires { ⌜ LentLabels (now froms) (now tos) × (length (now noted) ≡ placesLength) ⌝ }
+    requires { ⌜ Lent (now old) (now candidates) (now met) ⌝ }
+    requires { ⌜ length (now noted) ≡ placesLength ⌝ }
     ensures { λ r. ⌜ CardEnds (now (old .entry)) (now (card .entry)) (now (out .entry)) (now (out .exit)) r ⌝ }
 {
     let number = asked(old, card, noted);
@@ -131,18 +127,6 @@ pub fn card(
     }
     // Whatever a caller left there, nothing is known of alerts yet.
     panel_output::clear32(known);
-    let w = finish(
-        old,
-        noted,
-        card,
-        out,
-        candidates,
-        met,
-        text,
-        froms,
-        tos,
-        places,
-        known,
-    );
+    let w = finish(old, noted, card, out, candidates, met, known);
     panel_output::ended(w, 8)
 }

@@ -7,7 +7,7 @@ use realtime::Verdict;
 ghost use mathlib.Core.Path.{_≡_};
 ghost use Prim.Native.Nat.{_≤_};
 ghost use lib.ListN.{length};
-ghost use Rattle.decode.specs.Sizes.{mostOld, updatesLength};
+ghost use Rattle.decode.specs.Sizes.{mostOld};
 ghost use Rattle.decode_slots.specs.promises.Index.{Lent};
 ghost use Rattle.panel_message.specs.promises.Message.{MessageEnds, messageNumber, numberBy};
 
@@ -52,12 +52,11 @@ pub fn message(
     keys: &mut [u8],
     marks: &mut [u32],
     order: &mut [u32],
-    updates: &mut [u32],
     feed: &[u8],
     s: &[u8],
     old: &[u8],
 ) -> Ending
-    requires { ⌜ Lent (now keys) (now marks) (now order) × (length (now updates) ≡ updatesLength) ⌝ }
+    requires { ⌜ Lent (now keys) (now marks) (now order) ⌝ }
     requires { ⌜ length (now old) ≤ mostOld ⌝ }
     ensures { λ r. ⌜ MessageEnds (now (old .entry)) (now (feed .entry)) (now (s .entry)) (now (new .entry))
         (now (new .exit)) r ⌝ }
@@ -69,15 +68,5 @@ pub fn message(
     if number != 0 {
         return Ending::Refused(number);
     }
-    panel_output::of_put(overlay_message::after_message(
-        new,
-        keys,
-        marks,
-        order,
-        updates,
-        feed,
-        s,
-        old,
-        end,
-    ))
+    panel_output::of_put(overlay_message::after_message(new, keys, marks, order, feed, s, old, end))
 }

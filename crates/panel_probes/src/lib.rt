@@ -52,26 +52,14 @@ pub extern "C" fn states_message(
     keys: &mut [u8],
     marks: &mut [u32],
     order: &mut [u32],
-    updates: &mut [u32],
 ) -> u32
     ensures { λ r. ⌜ Given (sized (lengthOf (length (now (old .entry))))) (now (old .entry))
         (calls.message (now (feed .entry)) (now (s .entry)) (length (now (new .entry)))
-        (length (now (keys .entry)) ∷ length (now (marks .entry)) ∷ length (now (order .entry))
-        ∷ length (now (updates .entry)) ∷ []))
+        (length (now (keys .entry)) ∷ length (now (marks .entry)) ∷ length (now (order .entry)) ∷ []))
         r (now (new .exit))
-        (now (keys .exit) ∷ now (marks .exit) ∷ now (order .exit) ∷ now (updates .exit) ∷ []) ⌝ }
+        (now (keys .exit) ∷ now (marks .exit) ∷ now (order .exit) ∷ []) ⌝ }
 {
-    panel_sized_message::message(
-        length_of(old.len()),
-        old,
-        feed,
-        s,
-        new,
-        keys,
-        marks,
-        order,
-        updates,
-    )
+    panel_sized_message::message(length_of(old.len()), old, feed, s, new, keys, marks, order)
 }
 
 #[no_mangle]
@@ -113,21 +101,15 @@ pub extern "C" fn states_card(
     out: &mut [u8],
     candidates: &mut [u16],
     met: &mut [u16],
-    text: &mut [u8],
-    froms: &mut [u32],
-    tos: &mut [u32],
-    places: &mut [u32],
     noted: &mut [u32],
     known: &mut [u32],
 ) -> u32
     ensures { λ r. ⌜ Given (sized (lengthOf (length (now (old .entry))))) (now (old .entry))
         (calls.card (now (card .entry)) (length (now (out .entry)))
-        (length (now (candidates .entry)) ∷ length (now (met .entry)) ∷ length (now (text .entry))
-        ∷ length (now (froms .entry)) ∷ length (now (tos .entry)) ∷ length (now (places .entry))
-        ∷ length (now (noted .entry)) ∷ length (now (known .entry)) ∷ []))
+        (length (now (candidates .entry)) ∷ length (now (met .entry)) ∷ length (now (noted .entry))
+        ∷ length (now (known .entry)) ∷ []))
         r (now (out .exit))
-        (now (candidates .exit) ∷ now (met .exit) ∷ now (text .exit) ∷ now (froms .exit)
-        ∷ now (tos .exit) ∷ now (places .exit) ∷ now (noted .exit) ∷ now (known .exit) ∷ []) ⌝ }
+        (now (candidates .exit) ∷ now (met .exit) ∷ now (noted .exit) ∷ now (known .exit) ∷ []) ⌝ }
 {
     panel_sized_card::card(
         length_of(old.len()),
@@ -136,10 +118,6 @@ pub extern "C" fn states_card(
         out,
         candidates,
         met,
-        text,
-        froms,
-        tos,
-        places,
         noted,
         known,
     )

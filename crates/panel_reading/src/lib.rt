@@ -12,6 +12,13 @@ ghost use Rattle.panel_writing.specs.promises.Ran.{Sound};
 ghost use Rattle.panel_reading.specs.promises.Told.{ToldReport, lengthsOf, ReadsCardWork, CardFits, Answers};
 ghost use Rattle.panel_reading.specs.promises.Told.{ToldCardOf, ToldCard};
 
+// The published lengths of a card's working buffers: of numbers, of places, of what is known.
+const NUMBERS: usize = 256;
+
+const PLACES: usize = 8208;
+
+const KNOWN: usize = 4096;
+
 // A call's number as a byte.
 pub fn octet(k: u32) -> u8
     ensures { λ r. ⌜ (k < 256 → r ≡ k) ⌝ }
@@ -46,10 +53,6 @@ pub fn report(n: usize, q: Asked, s: &[u8], old: &[u8], out: &mut [u8], p: usize
 struct CardWork {
     candidates: usize,
     met: usize,
-    text: usize,
-    froms: usize,
-    tos: usize,
-    places: usize,
     noted: usize,
     known: usize,
 }
@@ -60,12 +63,8 @@ fn card_work(s: &[u8], at: usize) -> CardWork
     CardWork {
         candidates: panel_script::length_at(s, at, 0),
         met: panel_script::length_at(s, at, 1),
-        text: panel_script::length_at(s, at, 2),
-        froms: panel_script::length_at(s, at, 3),
-        tos: panel_script::length_at(s, at, 4),
-        places: panel_script::length_at(s, at, 5),
-        noted: panel_script::length_at(s, at, 6),
-        known: panel_script::length_at(s, at, 7),
+        noted: panel_script::length_at(s, at, 2),
+        known: panel_script::length_at(s, at, 3),
     }
 }
 
@@ -73,9 +72,7 @@ fn card_work(s: &[u8], at: usize) -> CardWork
 fn is_lent(w: CardWork) -> bool
     ensures { λ r. ⌜ r ≡ within (lengthsOf w) cardWork ⌝ }
 {
-    let places = (w.places <= 256) & ((w.noted <= 8208) & (w.known <= 4096));
-    let labels = (w.text <= 2626) & ((w.froms <= 1025) & ((w.tos <= 1025) & places));
-    (w.candidates <= 256) & ((w.met <= 256) & labels)
+    (w.candidates <= NUMBERS) & ((w.met <= NUMBERS) & ((w.noted <= PLACES) & (w.known <= KNOWN)))
 }
 
 // A card on parts of lent buffers.
@@ -87,27 +84,18 @@ fn run_card(
     out: &mut [u8],
     candidates: &mut [u16],
     met: &mut [u16],
-    text: &mut [u8],
-    froms: &mut [u32],
-    tos: &mut [u32],
-    places: &mut [u32],
     noted: &mut [u32],
     known: &mut [u32],
 ) -> u32
     requires { ⌜ n ≤ mostOld ⌝ }
-    requires { ⌜ CardFits w (length (now candidates)) (length (now met)) (length (now text)) (length (now froms))
-        (length (now tos)) (length (now places)) (length (now noted)) (length (now known)) ⌝ }
+    requires { ⌜ CardFits w (length (now candidates)) (length (now met)) (length (now noted)) (length (now known)) ⌝ }
     ensures { λ r. ⌜ Answers (sized n) (now (old .entry))
         (calls.card (now (card .entry)) (length (now (out .entry))) (lengthsOf w)) r (now (out .exit)) ⌝ }
 {
     let a = w.candidates;
     let b = w.met;
-    let c = w.text;
-    let d = w.froms;
-    let e = w.tos;
-    let f = w.places;
-    let g = w.noted;
-    let h = w.known;
+    let c = w.noted;
+    let d = w.known;
     panel_sized_card::card(
         n,
         old,
@@ -115,30 +103,22 @@ fn run_card(
         out,
         &mut candidates[..a],
         &mut met[..b],
-        &mut text[..c],
-        &mut froms[..d],
-        &mut tos[..e],
-        &mut places[..f],
-        &mut noted[..g],
-        &mut known[..h],
+        &mut noted[..c],
+        &mut known[..d],
     )
 }
 
 // A card on working buffers of its own, of the published lengths.
 fn run_card_here(n: usize, w: CardWork, old: &[u8], card: &[u8], out: &mut [u8]) -> u32
     requires { ⌜ n ≤ mostOld ⌝ }
-    requires { ⌜ CardFits w 256 256 2626 1025 1025 256 8208 4096 ⌝ }
+    requires { ⌜ CardFits w 256 256 8208 4096 ⌝ }
     ensures { λ r. ⌜ Answers (sized n) (now (old .entry))
         (calls.card (now (card .entry)) (length (now (out .entry))) (lengthsOf w)) r (now (out .exit)) ⌝ }
 {
-    let mut candidates = [0u16; 256];
-    let mut met = [0u16; 256];
-    let mut text = [0u8; 2626];
-    let mut froms = [0u32; 1025];
-    let mut tos = [0u32; 1025];
-    let mut places = [0u32; 256];
-    let mut noted = [0u32; 8208];
-    let mut known = [0u32; 4096];
+    let mut candidates = [0u16; NUMBERS];
+    let mut met = [0u16; NUMBERS];
+    let mut noted = [0u32; PLACES];
+    let mut known = [0u32; KNOWN];
     run_card(
         n,
         w,
@@ -147,10 +127,6 @@ fn run_card_here(n: usize, w: CardWork, old: &[u8], card: &[u8], out: &mut [u8])
         out,
         &mut candidates,
         &mut met,
-        &mut text,
-        &mut froms,
-        &mut tos,
-        &mut places,
         &mut noted,
         &mut known,
     )
@@ -159,7 +135,7 @@ fn run_card_here(n: usize, w: CardWork, old: &[u8], card: &[u8], out: &mut [u8])
 // A card whose working buffers are lent: its number at p, and its output behind it.
 fn card_of(n: usize, q: Asked, w: CardWork, s: &[u8], old: &[u8], out: &mut [u8], p: usize) -> Put
     requires { ⌜ Sound n (now s) q ⌝ }
-    requires { ⌜ CardFits w 256 256 2626 1025 1025 256 8208 4096 ⌝ }
+    requires { ⌜ CardFits w 256 256 8208 4096 ⌝ }
     ensures { λ r. ⌜ ToldCardOf (sized n) (now (s .entry)) q (lengthsOf w) (now (old .entry)) (now (out .entry)) p
         (now (out .exit)) r ⌝ }
 {

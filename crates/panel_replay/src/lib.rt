@@ -26,13 +26,12 @@ fn take_turns(
     keys: &mut [u8],
     marks: &mut [u32],
     order: &mut [u32],
-    updates: &mut [u32],
 ) -> Put
     requires { ⌜ Overlays n lent (now a) (now b) ⌝ }
     requires { ⌜ take n (now a) ≡ freshOverlay (sized n) ⌝ }
     ensures { λ r. ⌜
         TurnsEnd (sized n) (lentTo lent (length (now (out .entry))) (length (now (keys .entry)))
-        (length (now (marks .entry))) (length (now (order .entry))) (length (now (updates .entry)))) (now (s .entry))
+        (length (now (marks .entry))) (length (now (order .entry)))) (now (s .entry))
         count start (now (out .exit)) r ⌝ }
 {
     let mut left = count;
@@ -40,21 +39,7 @@ fn take_turns(
     let mut p: usize = 0;
     let mut first = true;
     while 0 < left {
-        let r = panel_turn::take_turn(
-            n,
-            lent,
-            s,
-            at,
-            first,
-            a,
-            b,
-            out,
-            p,
-            keys,
-            marks,
-            order,
-            updates,
-        );
+        let r = panel_turn::take_turn(n, lent, s, at, first, a, b, out, p, keys, marks, order);
         let place = r.place;
         let Put::At(q) = place else {
             return Put::Full;
@@ -86,12 +71,11 @@ fn run_script(
     keys: &mut [u8],
     marks: &mut [u32],
     order: &mut [u32],
-    updates: &mut [u32],
 ) -> Ending
     requires { ⌜ (lent ≤ length (now a)) × (lent ≤ length (now b)) × (n ≤ mostOld) ⌝ }
     ensures { λ r. ⌜
         ScriptEnds (sized n) (lentTo lent (length (now (out .entry))) (length (now (keys .entry)))
-        (length (now (marks .entry))) (length (now (order .entry))) (length (now (updates .entry)))) (now (s .entry))
+        (length (now (marks .entry))) (length (now (order .entry)))) (now (s .entry))
         (now (out .exit)) r ⌝ }
 {
     if lent < n {
@@ -101,20 +85,7 @@ fn run_script(
         return Ending::Refused(1);
     };
     begin(n, a);
-    let w = take_turns(
-        n,
-        lent,
-        s,
-        count,
-        start,
-        a,
-        b,
-        out,
-        keys,
-        marks,
-        order,
-        updates,
-    );
+    let w = take_turns(n, lent, s, count, start, a, b, out, keys, marks, order);
     panel_output::ended(w, 1)
 }
 
@@ -137,15 +108,14 @@ pub fn replay(
     keys: &mut [u8],
     marks: &mut [u32],
     order: &mut [u32],
-    updates: &mut [u32],
 ) -> u32
     requires { ⌜ n ≤ mostOld ⌝ }
     ensures { λ r. ⌜
         ReplayHolds (sized n) (lentTo (min (length (now (a .entry))) (length (now (b .entry))))
         (length (now (out .entry))) (length (now (keys .entry))) (length (now (marks .entry)))
-        (length (now (order .entry))) (length (now (updates .entry)))) (now (s .entry)) r (now (out .exit)) ⌝ }
+        (length (now (order .entry)))) (now (s .entry)) r (now (out .exit)) ⌝ }
 {
     let lent = smaller(a.len(), b.len());
-    let e = run_script(n, lent, s, a, b, out, keys, marks, order, updates);
+    let e = run_script(n, lent, s, a, b, out, keys, marks, order);
     panel_output::finish(out, e)
 }

@@ -20,14 +20,13 @@ pub extern "C" fn mipsuqal_replay(
     keys: &mut [u8],
     marks: &mut [u32],
     order: &mut [u32],
-    updates: &mut [u32],
 ) -> u32
     ensures { λ r. ⌜
         ReplayHolds lengths (lentTo (min (length (now (a .entry))) (length (now (b .entry))))
         (length (now (out .entry))) (length (now (keys .entry))) (length (now (marks .entry)))
-        (length (now (order .entry))) (length (now (updates .entry)))) (now (script .entry)) r (now (out .exit)) ⌝ }
+        (length (now (order .entry)))) (now (script .entry)) r (now (out .exit)) ⌝ }
 {
-    panel_replay::replay(PUBLISHED, script, a, b, out, keys, marks, order, updates)
+    panel_replay::replay(PUBLISHED, script, a, b, out, keys, marks, order)
 }
 
 // The numbers of two replays.
@@ -48,20 +47,17 @@ pub fn replay_both(
     keys: &mut [u8],
     marks: &mut [u32],
     order: &mut [u32],
-    updates: &mut [u32],
 ) -> Both
     requires { ⌜ n ≤ mostOld ⌝ }
     ensures { λ r. ⌜
         BothTold (sized n)
         (lentTo (min (length (now (a .entry))) (length (now (b .entry)))) (length (now (out .entry)))
-        (length (now (keys .entry))) (length (now (marks .entry))) (length (now (order .entry)))
-        (length (now (updates .entry))))
+        (length (now (keys .entry))) (length (now (marks .entry))) (length (now (order .entry))))
         (lentTo (min (length (now (a .entry))) (length (now (b .entry)))) (length (now (other .entry)))
-        (length (now (keys .entry))) (length (now (marks .entry))) (length (now (order .entry)))
-        (length (now (updates .entry))))
+        (length (now (keys .entry))) (length (now (marks .entry))) (length (now (order .entry))))
         (now (s .entry)) (r .first) (now (out .exit)) (now (t .entry)) (r .second) (now (other .exit)) ⌝ }
 {
-    let first = panel_replay::replay(n, s, a, b, out, keys, marks, order, updates);
-    let second = panel_replay::replay(n, t, a, b, other, keys, marks, order, updates);
+    let first = panel_replay::replay(n, s, a, b, out, keys, marks, order);
+    let second = panel_replay::replay(n, t, a, b, other, keys, marks, order);
     Both { first, second }
 }

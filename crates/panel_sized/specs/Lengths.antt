@@ -4,15 +4,14 @@ use mathlib.Core.List.{List, [], _∷_}
 use Rattle.overlay.specs.Buffer.{published}
 use Rattle.panel.specs.Questions.{Working, Lengths}
 
--- a card call's working buffers: candidates and marks, text, where labels begin and end, places of alerts and of
--- trips, what is known of alerts
+-- a card call's working buffers: candidates and marks, places of trips, what is known of alerts
 abbrev pub cardWork : List ℕ
-cardWork = 256 ∷ 256 ∷ 2626 ∷ 1025 ∷ 1025 ∷ 256 ∷ 8208 ∷ 4096 ∷ []
+cardWork = 256 ∷ 256 ∷ 8208 ∷ 4096 ∷ []
 
--- THE TABLE of working buffers; a message's: keys, marks and order of its records, updates of one
+-- THE TABLE of working buffers; a message's: keys, marks and order of its records
 abbrev pub working : Working
 working = record {
-  message = 280713 ∷ 6147 ∷ 2049 ∷ 387 ∷ [];
+  message = 280713 ∷ 6147 ∷ 2049 ∷ [];
   alertSheet = [];
   vehicleSheet = [];
   card = cardWork;

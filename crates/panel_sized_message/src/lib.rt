@@ -3,7 +3,6 @@
 use decode::sizes::KEYS_LENGTH;
 use decode::sizes::MARKS_LENGTH;
 use decode::sizes::ORDER_LENGTH;
-use decode::sizes::UPDATES_LENGTH;
 use panel_output::Ending;
 ghost use mathlib.Core.Path.{_≡_};
 ghost use mathlib.Core.List.{[], _∷_};
@@ -17,18 +16,10 @@ ghost use Rattle.panel_sized.specs.promises.Ends.{Ends};
 ghost use Rattle.panel_sized_message.specs.promises.Message.{Zeros, messageSized};
 
 // Question 1 of a message.
-fn is_sized(
-    n: usize,
-    old: usize,
-    new: usize,
-    keys: usize,
-    marks: usize,
-    order: usize,
-    updates: usize,
-) -> bool
-    ensures { λ r. ⌜ r ≡ messageSized n old new keys marks order updates ⌝ }
+fn is_sized(n: usize, old: usize, new: usize, keys: usize, marks: usize, order: usize) -> bool
+    ensures { λ r. ⌜ r ≡ messageSized n old new keys marks order ⌝ }
 {
-    let words = (marks == MARKS_LENGTH) & ((order == ORDER_LENGTH) & (updates == UPDATES_LENGTH));
+    let words = (marks == MARKS_LENGTH) & (order == ORDER_LENGTH);
     (old == n) & ((new == n) & ((keys == KEYS_LENGTH) & words))
 }
 
@@ -41,13 +32,11 @@ fn message_ending(
     keys: &mut [u8],
     marks: &mut [u32],
     order: &mut [u32],
-    updates: &mut [u32],
 ) -> Ending
     requires { ⌜ n ≤ mostOld ⌝ }
     ensures { λ r. ⌜ Ends (sized n) (now (old .entry))
         (calls.message (now (feed .entry)) (now (s .entry)) (length (now (new .entry)))
-        (length (now (keys .entry)) ∷ length (now (marks .entry)) ∷ length (now (order .entry))
-        ∷ length (now (updates .entry)) ∷ []))
+        (length (now (keys .entry)) ∷ length (now (marks .entry)) ∷ length (now (order .entry)) ∷ []))
         (now (new .exit)) r ⌝ }
 {
     if is_sized(
@@ -57,21 +46,19 @@ fn message_ending(
         keys.len(),
         marks.len(),
         order.len(),
-        updates.len(),
     ) {
-        return panel_message::message(new, keys, marks, order, updates, feed, s, old);
+        return panel_message::message(new, keys, marks, order, feed, s, old);
     }
     Ending::Refused(1)
 }
 
-fn clear_work(keys: &mut [u8], marks: &mut [u32], order: &mut [u32], updates: &mut [u32])
-    ensures { λ _. ⌜ Zeros (now (keys .entry)) (now (marks .entry)) (now (order .entry)) (now (updates .entry))
-        (now (keys .exit)) (now (marks .exit)) (now (order .exit)) (now (updates .exit)) ⌝ }
+fn clear_work(keys: &mut [u8], marks: &mut [u32], order: &mut [u32])
+    ensures { λ _. ⌜ Zeros (now (keys .entry)) (now (marks .entry)) (now (order .entry))
+        (now (keys .exit)) (now (marks .exit)) (now (order .exit)) ⌝ }
 {
     slices::clear(keys);
     panel_output::clear32(marks);
     panel_output::clear32(order);
-    panel_output::clear32(updates);
 }
 
 // A MESSAGE onto an overlay of n bytes.
@@ -84,17 +71,15 @@ pub fn message(
     keys: &mut [u8],
     marks: &mut [u32],
     order: &mut [u32],
-    updates: &mut [u32],
 ) -> u32
     requires { ⌜ n ≤ mostOld ⌝ }
     ensures { λ r. ⌜ Given (sized n) (now (old .entry))
         (calls.message (now (feed .entry)) (now (s .entry)) (length (now (new .entry)))
-        (length (now (keys .entry)) ∷ length (now (marks .entry)) ∷ length (now (order .entry))
-        ∷ length (now (updates .entry)) ∷ []))
+        (length (now (keys .entry)) ∷ length (now (marks .entry)) ∷ length (now (order .entry)) ∷ []))
         r (now (new .exit))
-        (now (keys .exit) ∷ now (marks .exit) ∷ now (order .exit) ∷ now (updates .exit) ∷ []) ⌝ }
+        (now (keys .exit) ∷ now (marks .exit) ∷ now (order .exit) ∷ []) ⌝ }
 {
-    let e = message_ending(n, old, feed, s, new, keys, marks, order, updates);
-    clear_work(keys, marks, order, updates);
+    let e = message_ending(n, old, feed, s, new, keys, marks, order);
+    clear_work(keys, marks, order);
     panel_output::finish(new, e)
 }

@@ -4,11 +4,11 @@ use mathlib.Core.List.{[], _∷_}
 use Rattle.panel_sized.specs.Lengths.{cardWork}
 use Rattle.panel_script.specs.Script.{Lent}
 
--- overlays of `lent` bytes, an output, a message's four working buffers, and a card's of the published lengths
-abbrev pub lentTo : ℕ → ℕ → ℕ → ℕ → ℕ → ℕ → Lent
-lentTo lent output keys marks order updates = record {
+-- overlays of `lent` bytes, an output, a message's three working buffers, and a card's of the published lengths
+abbrev pub lentTo : ℕ → ℕ → ℕ → ℕ → ℕ → Lent
+lentTo lent output keys marks order = record {
   overlay = lent;
   output = output;
-  messageWork = keys ∷ marks ∷ order ∷ updates ∷ [];
+  messageWork = keys ∷ marks ∷ order ∷ [];
   cardWork = cardWork;
 }

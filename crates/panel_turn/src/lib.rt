@@ -59,16 +59,15 @@ fn step_writing(
     keys: &mut [u8],
     marks: &mut [u32],
     order: &mut [u32],
-    updates: &mut [u32],
 ) -> Step
     requires { ⌜ lent ≤ length (now new) ⌝ }
     requires { ⌜ Sound n (now s) q ⌝ }
     ensures { λ r. ⌜
         ToldWriting (sized n) lent (length (now (keys .entry)) ∷ length (now (marks .entry))
-        ∷ length (now (order .entry)) ∷ length (now (updates .entry)) ∷ []) (now (s .entry)) q (now (old .entry))
+        ∷ length (now (order .entry)) ∷ []) (now (s .entry)) q (now (old .entry))
         (now (new .exit)) (now (out .entry)) p (now (out .exit)) (r .place) (r .moved) (r .next) ⌝ }
 {
-    let r = panel_writing::write(n, lent, q, s, old, new, keys, marks, order, updates);
+    let r = panel_writing::write(n, lent, q, s, old, new, keys, marks, order);
     Step {
         place: tell(out, p, r),
         moved: is_accepted(r),
@@ -89,19 +88,18 @@ fn run_one(
     keys: &mut [u8],
     marks: &mut [u32],
     order: &mut [u32],
-    updates: &mut [u32],
 ) -> Step
     requires { ⌜ (lent ≤ length (now new)) × (n ≤ mostOld) ⌝ }
     ensures { λ r. ⌜
         Turned (sized n) (lentTo lent (length (now (out .entry))) (length (now (keys .entry)))
-        (length (now (marks .entry))) (length (now (order .entry))) (length (now (updates .entry)))) (now (s .entry)) at
+        (length (now (marks .entry))) (length (now (order .entry)))) (now (s .entry)) at
         (now (old .entry)) (now (out .entry)) p (cond (r .moved) (take n (now (new .exit))) (now (old .entry)))
         (now (out .exit)) (r .place) (r .next) ⌝ }
 {
     let q = panel_script::read(s, at);
     let kind = q.kind;
     if kind < 4 {
-        return step_writing(n, lent, q, s, old, new, out, p, keys, marks, order, updates);
+        return step_writing(n, lent, q, s, old, new, out, p, keys, marks, order);
     }
     if kind == 4 {
         return Step {
@@ -131,30 +129,16 @@ pub fn take_turn(
     keys: &mut [u8],
     marks: &mut [u32],
     order: &mut [u32],
-    updates: &mut [u32],
 ) -> Turn
     requires { ⌜ (lent ≤ length (now a)) × (lent ≤ length (now b)) × (n ≤ lent) × (n ≤ mostOld) ⌝ }
     ensures { λ r. ⌜
         Turned (sized n) (lentTo lent (length (now (out .entry))) (length (now (keys .entry)))
-        (length (now (marks .entry))) (length (now (order .entry))) (length (now (updates .entry)))) (now (s .entry)) at
+        (length (now (marks .entry))) (length (now (order .entry)))) (now (s .entry)) at
         (current n first (now (a .entry)) (now (b .entry))) (now (out .entry)) p
         (current n (r .first) (now (a .exit)) (now (b .exit))) (now (out .exit)) (r .place) (r .next) ⌝ }
 {
     if first {
-        let r = run_one(
-            n,
-            lent,
-            s,
-            at,
-            &a[..n],
-            b,
-            out,
-            p,
-            keys,
-            marks,
-            order,
-            updates,
-        );
+        let r = run_one(n, lent, s, at, &a[..n], b, out, p, keys, marks, order);
         let place = r.place;
         return Turn {
             place,
@@ -162,20 +146,7 @@ pub fn take_turn(
             next: r.next,
         };
     }
-    let r = run_one(
-        n,
-        lent,
-        s,
-        at,
-        &b[..n],
-        a,
-        out,
-        p,
-        keys,
-        marks,
-        order,
-        updates,
-    );
+    let r = run_one(n, lent, s, at, &b[..n], a, out, p, keys, marks, order);
     let place = r.place;
     Turn {
         place,

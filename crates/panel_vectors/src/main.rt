@@ -87,7 +87,6 @@ fn replay(s: &[u8], told: &mut [u8]) -> u32 {
     let mut keys = memory::keys();
     let mut marks = memory::marks();
     let mut order = memory::order();
-    let mut updates = memory::updates();
     panel_replay::replay(
         ROOM,
         s,
@@ -97,7 +96,6 @@ fn replay(s: &[u8], told: &mut [u8]) -> u32 {
         &mut keys,
         &mut marks,
         &mut order,
-        &mut updates,
     )
 }
 

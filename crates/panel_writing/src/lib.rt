@@ -13,7 +13,7 @@ ghost use Rattle.panel.specs.Calls as calls;
 ghost use Rattle.panel_script.specs.Script.{clockForm};
 ghost use Rattle.panel_sized.specs.Lengths.{sized};
 ghost use Rattle.panel_writing.specs.promises.Ran.{Spans, RanAs, MessageRan};
-ghost use Rattle.panel_writing.specs.promises.Ran.{ReadsWork, within4, Fits, Sound, WritesAs};
+ghost use Rattle.panel_writing.specs.promises.Ran.{ReadsWork, within3, Fits, Sound, WritesAs};
 
 // How a call of a script ended: with its number; or it asks for more than is lent, and was not run.
 pub enum Ran {
@@ -92,25 +92,23 @@ struct MessageWork {
     keys: usize,
     marks: usize,
     order: usize,
-    updates: usize,
 }
 
 fn message_work(s: &[u8], at: usize) -> MessageWork
-    ensures { λ r. ⌜ ReadsWork (now (s .entry)) at (r .keys ∷ r .marks ∷ r .order ∷ r .updates ∷ []) ⌝ }
+    ensures { λ r. ⌜ ReadsWork (now (s .entry)) at (r .keys ∷ r .marks ∷ r .order ∷ []) ⌝ }
 {
     MessageWork {
         keys: panel_script::length_at(s, at, 0),
         marks: panel_script::length_at(s, at, 1),
         order: panel_script::length_at(s, at, 2),
-        updates: panel_script::length_at(s, at, 3),
     }
 }
 
 // Whether the working buffers that a message asks for are lent.
-fn is_lent(w: MessageWork, keys: usize, marks: usize, order: usize, updates: usize) -> bool
-    ensures { λ r. ⌜ r ≡ within4 (w .keys) (w .marks) (w .order) (w .updates) keys marks order updates ⌝ }
+fn is_lent(w: MessageWork, keys: usize, marks: usize, order: usize) -> bool
+    ensures { λ r. ⌜ r ≡ within3 (w .keys) (w .marks) (w .order) keys marks order ⌝ }
 {
-    (w.keys <= keys) & ((w.marks <= marks) & ((w.order <= order) & (w.updates <= updates)))
+    (w.keys <= keys) & ((w.marks <= marks) & (w.order <= order))
 }
 
 // A message on buffers that are lent.
@@ -124,15 +122,14 @@ fn run_message(
     keys: &mut [u8],
     marks: &mut [u32],
     order: &mut [u32],
-    updates: &mut [u32],
 ) -> u32
-    requires { ⌜ Fits (w .keys) (w .marks) (w .order) (w .updates) (length (now keys)) (length (now marks))
-        (length (now order)) (length (now updates)) (q .out) (length (now new)) ⌝ }
+    requires { ⌜ Fits (w .keys) (w .marks) (w .order) (length (now keys)) (length (now marks))
+        (length (now order)) (q .out) (length (now new)) ⌝ }
     requires { ⌜ Sound n (now s) q ⌝ }
     ensures { λ r. ⌜ RanAs true (sized n) (now (old .entry))
         (calls.message (slice (q .feed .from) (q .feed .to) (now (s .entry)))
         (slice (q .input .from) (q .input .to) (now (s .entry))) (q .out)
-        (w .keys ∷ w .marks ∷ w .order ∷ w .updates ∷ [])) (now (new .exit)) (Ran.Number r) ⌝ }
+        (w .keys ∷ w .marks ∷ w .order ∷ [])) (now (new .exit)) (Ran.Number r) ⌝ }
 {
     let out = q.out;
     let feed = q.feed;
@@ -144,7 +141,6 @@ fn run_message(
     let k = w.keys;
     let m = w.marks;
     let o = w.order;
-    let u = w.updates;
     panel_sized_message::message(
         n,
         old,
@@ -154,7 +150,6 @@ fn run_message(
         &mut keys[..k],
         &mut marks[..m],
         &mut order[..o],
-        &mut updates[..u],
     )
 }
 
@@ -168,18 +163,17 @@ fn message(
     keys: &mut [u8],
     marks: &mut [u32],
     order: &mut [u32],
-    updates: &mut [u32],
 ) -> Ran
     requires { ⌜ lent ≤ length (now new) ⌝ }
     requires { ⌜ Sound n (now s) q ⌝ }
     ensures { λ r. ⌜
         MessageRan (sized n) lent (length (now (keys .entry)) ∷ length (now (marks .entry))
-        ∷ length (now (order .entry)) ∷ length (now (updates .entry)) ∷ []) (now (s .entry)) q (now (old .entry))
+        ∷ length (now (order .entry)) ∷ []) (now (s .entry)) q (now (old .entry))
         (now (new .exit)) r ⌝ }
 {
     let w = message_work(s, q.work);
-    if is_lent(w, keys.len(), marks.len(), order.len(), updates.len()) & (q.out <= lent) {
-        return Ran::Number(run_message(n, w, q, s, old, new, keys, marks, order, updates));
+    if is_lent(w, keys.len(), marks.len(), order.len()) & (q.out <= lent) {
+        return Ran::Number(run_message(n, w, q, s, old, new, keys, marks, order));
     }
     Ran::Unlent
 }
@@ -195,13 +189,12 @@ pub fn write(
     keys: &mut [u8],
     marks: &mut [u32],
     order: &mut [u32],
-    updates: &mut [u32],
 ) -> Ran
     requires { ⌜ lent ≤ length (now new) ⌝ }
     requires { ⌜ Sound n (now s) q ⌝ }
     ensures { λ r. ⌜
         WritesAs (sized n) lent (length (now (keys .entry)) ∷ length (now (marks .entry))
-        ∷ length (now (order .entry)) ∷ length (now (updates .entry)) ∷ []) (now (s .entry)) q (now (old .entry))
+        ∷ length (now (order .entry)) ∷ []) (now (s .entry)) q (now (old .entry))
         (now (new .exit)) r ⌝ }
 {
     let kind = q.kind;
@@ -209,7 +202,7 @@ pub fn write(
         return fresh(n, lent, q.out, new);
     }
     if kind == 1 {
-        return message(n, lent, q, s, old, new, keys, marks, order, updates);
+        return message(n, lent, q, s, old, new, keys, marks, order);
     }
     if kind == 2 {
         return alert_sheet(n, lent, q, s, old, new);

@@ -25,28 +25,12 @@ pub fn order() -> [u32; 2049] {
     [0; 2049]
 }
 
-pub fn updates() -> [u32; 387] {
-    [0; 387]
-}
-
 // A card's output, and its working buffers.
 pub fn card() -> [u8; 65536] {
     [0; 65536]
 }
 
 pub fn numbers() -> [u16; 256] {
-    [0; 256]
-}
-
-pub fn text() -> [u8; 2626] {
-    [0; 2626]
-}
-
-pub fn labels() -> [u32; 1025] {
-    [0; 1025]
-}
-
-pub fn alerts() -> [u32; 256] {
     [0; 256]
 }
 

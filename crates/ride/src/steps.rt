@@ -66,18 +66,7 @@ fn message_call(old: &[u8], feed: &[u8], s: &[u8], new: &mut [u8]) -> u32 {
     let mut keys = memory::keys();
     let mut marks = memory::marks();
     let mut order = memory::order();
-    let mut updates = memory::updates();
-    panel_sized_message::message(
-        ROOM,
-        old,
-        feed,
-        s,
-        new,
-        &mut keys,
-        &mut marks,
-        &mut order,
-        &mut updates,
-    )
+    panel_sized_message::message(ROOM, old, feed, s, new, &mut keys, &mut marks, &mut order)
 }
 
 fn message(at: usize, old: &[u8], new: &mut [u8]) -> Turn {
@@ -141,10 +130,6 @@ fn vehicles(at: usize, old: &[u8], new: &mut [u8]) -> Turn {
 fn card_call(old: &[u8], s: &[u8], out: &mut [u8]) -> u32 {
     let mut candidates = memory::numbers();
     let mut met = memory::numbers();
-    let mut text = memory::text();
-    let mut froms = memory::labels();
-    let mut tos = memory::labels();
-    let mut places = memory::alerts();
     let mut trips = memory::trips();
     let mut known = memory::known();
     panel_sized_card::card(
@@ -154,10 +139,6 @@ fn card_call(old: &[u8], s: &[u8], out: &mut [u8]) -> u32 {
         out,
         &mut candidates,
         &mut met,
-        &mut text,
-        &mut froms,
-        &mut tos,
-        &mut places,
         &mut trips,
         &mut known,
     )

@@ -5,8 +5,8 @@ use Rattle.panel_card.proofs.card.Statement.{statement}
 use Rattle.panel_card.proofs.card.Tie as tie
 
 -- back from the work to what was known, to the questions, and to the entry
-abbrev cleared : tie.After-finish-arg9 → tie.After-clear32
-cleared c = c .before .before .before .before .before .before .before .before .before .before .before
+abbrev cleared : tie.After-finish-arg5 → tie.After-clear32
+cleared c = c .before .before .before .before .before .before .before
 
 abbrev passed : tie.After-clear32 → tie.Else1
 passed c = c .before .before
@@ -15,7 +15,7 @@ abbrev answered : tie.Else1 → tie.After-asked
 answered c = c .before .before .before
 
 abbrev start : tie.After-asked → tie.Start
-start c = c .before .before .before .before .before .before .before .before .before .before .before .before .before
+start c = c .before .before .before .before .before .before .before .before .before
 
 finish-requires : tie.Need-finish-requires
 finish-requires c κs =
@@ -29,7 +29,6 @@ finish-requires c κs =
       (
         h .0,
         (
-          h .1 .0,
           card-begins (a .old .now) (a .card .now) (asked .asked .ensures .0) (p .if1 .left),
           nothing-known (a .known .now) (k .clear32 .ensures),
         ),
@@ -38,8 +37,7 @@ finish-requires c κs =
 
 returns-2 : tie.Need-returns-2
 returns-2 c =
-    let f = c .before .before .before .before .before .before .before .before .before
-    .before .before .before .before .before .before .before .before in
+    let f = c .before .before .before .before .before .before .before .before .before in
     let p = passed (cleared (f .before)) in
     card-ends (answered p .asked .ensures .0) (p .if1 .left) (f .finish .ensures) (c .ended .ensures)
 
@@ -53,10 +51,6 @@ card-spec =
     (λ c κs. search needs)
     finish-requires
     (λ c κs. search needs)
-    (λ c. search needs)
-    (λ c. search needs)
-    (λ c. search needs)
-    (λ c. search needs)
     (λ c. search needs)
     (λ c. search needs)
     (λ c. search needs)

@@ -10,7 +10,7 @@ use Rattle.panel_message.proofs.message.Tie as tie
 returns : tie.Need-returns
 returns c =
     let at-open = c .before .before in
-    let start = at-open .before .before .before .before .before .before .before .before .before in
+    let start = at-open .before .before .before .before .before .before .before .before in
     no-state (open-no (start .args .old .now) (at-open .«open» .ensures) (c .enum-told .given .1))
 
 returns-2 : tie.Need-returns-2
@@ -23,11 +23,11 @@ returns-2 c =
 
 after-message-requires : tie.Need-after-message-requires
 after-message-requires c κs =
-    let at-if1 = c .before .before .before .before .before in
+    let at-if1 = c .before .before .before .before in
     let at-message-number = at-if1 .before in
     let at-end = at-message-number .before .before in
     let at-open = at-end .before .before in
-    let start = at-open .before .before .before .before .before .before .before .before .before in
+    let start = at-open .before .before .before .before .before .before .before .before in
     let P = passed (start .args .feed .now) (start .args .s .now) (sym
     (at-if1 .if1 .left) ∙ at-message-number .message-number .ensures) in (
       start .pre .0,
@@ -46,12 +46,12 @@ after-message-requires c κs =
 
 returns-3 : tie.Need-returns-3
 returns-3 c =
-    let at-after-message = c .before .before .before .before .before .before .before .before .before .before .before in
-    let at-if1 = at-after-message .before .before .before .before .before .before in
+    let at-after-message = c .before .before .before .before .before .before .before .before .before in
+    let at-if1 = at-after-message .before .before .before .before .before in
     let at-message-number = at-if1 .before in
     let at-end = at-message-number .before .before in
     let at-open = at-end .before .before in
-    let start = at-open .before .before .before .before .before .before .before .before .before in
+    let start = at-open .before .before .before .before .before .before .before .before in
     let P = passed (start .args .feed .now) (start .args .s .now) (sym
     (at-if1 .if1 .left) ∙ at-message-number .message-number .ensures) in
     message-ends (open-at (at-open .«open» .ensures) (at-end .end .given .1)) P
@@ -69,7 +69,6 @@ message-spec =
     returns-2
     after-message-requires
     (λ c κs. search needs)
-    (λ c. search needs)
     (λ c. search needs)
     (λ c. search needs)
     (λ c. search needs)

@@ -5,9 +5,8 @@ use Rattle.panel_reading.proofs.is_lent.Tie as tie
 
 returns : tie.Need-returns
 returns c =
-    let start = c .before .before .before .before .before .before .before .before in
-    lent-is (start .args .w .candidates) (start .args .w .met) (start .args .w .text) (start .args .w .froms)
-    (start .args .w .tos) (start .args .w .places) (start .args .w .noted) (start .args .w .known)
+    let start = c .before .before .before .before in
+    lent-is (start .args .w .candidates) (start .args .w .met) (start .args .w .noted) (start .args .w .known)
 
 pub is-lent-spec : {M : Type 1} → statement M
 is-lent-spec = tie.close (tie.spec returns)

@@ -6,8 +6,8 @@ use Rattle.panel_reading.specs.laws.Card.{card-run}
 use Rattle.panel_reading.proofs.run_card.Statement.{statement}
 use Rattle.panel_reading.proofs.run_card.Tie as tie
 
-abbrev to-start : tie.After-slice-known9 → tie.Start
-to-start c = c .before .before .before .before .before .before .before .before .before .before .before
+abbrev to-start : tie.After-slice-known5 → tie.Start
+to-start c = c .before .before .before .before .before .before .before
 
 slice-aggregate-card : tie.Need-slice-aggregate-card
 slice-aggregate-card c =
@@ -22,41 +22,18 @@ slice-aggregate-card-2 c =
 slice-aggregate-card-3 : tie.Need-slice-aggregate-card-3
 slice-aggregate-card-3 c =
     let start = to-start (c .before .before .before .before) in
-    sym (length-take-le (start .args .w .text) (start .args .text .now) (start .pre .1 .text))
+    sym (length-take-le (start .args .w .noted) (start .args .noted .now) (start .pre .1 .noted))
 
 slice-aggregate-card-4 : tie.Need-slice-aggregate-card-4
 slice-aggregate-card-4 c =
     let start = to-start (c .before .before .before .before .before) in
-    sym (length-take-le (start .args .w .froms) (start .args .froms .now) (start .pre .1 .froms))
-
-slice-aggregate-card-5 : tie.Need-slice-aggregate-card-5
-slice-aggregate-card-5 c =
-    let start = to-start (c .before .before .before .before .before .before) in
-    sym (length-take-le (start .args .w .tos) (start .args .tos .now) (start .pre .1 .tos))
-
-slice-aggregate-card-6 : tie.Need-slice-aggregate-card-6
-slice-aggregate-card-6 c =
-    let start = to-start (c .before .before .before .before .before .before .before) in
-    sym (length-take-le (start .args .w .places) (start .args .places .now) (start .pre .1 .places))
-
-slice-aggregate-card-7 : tie.Need-slice-aggregate-card-7
-slice-aggregate-card-7 c =
-    let start = to-start (c .before .before .before .before .before .before .before .before) in
-    sym (length-take-le (start .args .w .noted) (start .args .noted .now) (start .pre .1 .noted))
-
-slice-aggregate-card-8 : tie.Need-slice-aggregate-card-8
-slice-aggregate-card-8 c =
-    let start = to-start (c .before .before .before .before .before .before .before .before .before) in
     sym (length-take-le (start .args .w .known) (start .args .known .now) (start .pre .1 .known))
 
 returns : tie.Need-returns
 returns c =
-    let at-card = c .before .before .before .before .before .before .before .before .before .before .before .before
-    .before
-    .before .before .before .before .before in
-    let start = to-start (at-card .before .before .before .before .before .before .before .before .before .before) in
-    card-run (start .args .w) (start .args .candidates .now) (start .args .met .now) (start .args .text .now)
-    (start .args .froms .now) (start .args .tos .now) (start .args .places .now) (start .args .noted .now)
+    let at-card = c .before .before .before .before .before .before .before .before .before .before in
+    let start = to-start (at-card .before .before .before .before .before .before) in
+    card-run (start .args .w) (start .args .candidates .now) (start .args .met .now) (start .args .noted .now)
     (start .args .known .now) (start .pre .1) (at-card .card .ensures)
 
 pub run-card-spec : {M : Type 1} → statement M
@@ -71,19 +48,7 @@ run-card-spec =
     slice-aggregate-card-3
     (λ c. search needs)
     slice-aggregate-card-4
-    (λ c. search needs)
-    slice-aggregate-card-5
-    (λ c. search needs)
-    slice-aggregate-card-6
-    (λ c. search needs)
-    slice-aggregate-card-7
-    (λ c. search needs)
-    slice-aggregate-card-8
     (λ c κs. search needs)
-    (λ c. search needs)
-    (λ c. search needs)
-    (λ c. search needs)
-    (λ c. search needs)
     (λ c. search needs)
     (λ c. search needs)
     (λ c. search needs)

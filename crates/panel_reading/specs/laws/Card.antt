@@ -27,30 +27,15 @@ use Rattle.panel_reading.specs.laws.Told.{no-call, part-long, call-told,
 
 -- ---- the lengths of its working buffers
 
-pub card-work-read : {s : List ℕ} {p a b c d e f g h : ℕ} → ReadsLength s p 0 a → ReadsLength s p 1 b
-    → ReadsLength s p 2 c → ReadsLength s p 3 d → ReadsLength s p 4 e → ReadsLength s p 5 f → ReadsLength s p 6 g
-    → ReadsLength s p 7 h
-    → ReadsCardWork s p (record {
-      candidates = a;
-      met = b;
-      text = c;
-      froms = d;
-      tos = e;
-      places = f;
-      noted = g;
-      known = h;
-    })
-card-work-read A B C D E F G H = record {
+pub card-work-read : {s : List ℕ} {p a b c d : ℕ} → ReadsLength s p 0 a → ReadsLength s p 1 b → ReadsLength s p 2 c
+    → ReadsLength s p 3 d → ReadsCardWork s p (record { candidates = a; met = b; noted = c; known = d })
+card-work-read A B C D = record {
   of = λ x.
       let a = A .of x in
       let b = B .of x in
       let c = C .of x in
       let d = D .of x in
-      let e = E .of x in
-      let f = F .of x in
-      let g = G .of x in
-      let h = H .of x in
-      rw (a, b, c, d, e, f, g, h) refl;
+      rw (a, b, c, d) refl;
 }
 
 and-true : (b : Bool) → b ≡ (b && true)
@@ -58,50 +43,33 @@ and-true true = refl
 and-true false = refl
 
 -- the test in the code's form
-pub lent-is : (a b c d e f g h : ℕ)
-    → (leb a 256 && (leb b 256 && (leb c 2626 && (leb d 1025 && (leb e 1025 && (leb f 256
-    && (leb g 8208 && leb h 4096))))))) ≡ within (a ∷ b ∷ c ∷ d ∷ e ∷ f ∷ g ∷ h ∷ []) cardWork
-lent-is a b c d e f g h =
-    ap (λ t. leb a 256 && (leb b 256 && (leb c 2626 && (leb d 1025 && (leb e 1025 && (leb f 256
-    && (leb g 8208 && t))))))) (and-true (leb h 4096))
+pub lent-is : (a b c d : ℕ)
+    → (leb a 256 && (leb b 256 && (leb c 8208 && leb d 4096))) ≡ within (a ∷ b ∷ c ∷ d ∷ []) cardWork
+lent-is a b c d = ap (λ t. leb a 256 && (leb b 256 && (leb c 8208 && t))) (and-true (leb d 4096))
 
 pub card-fits : (w : CardWork) → within (lengthsOf w) cardWork ≡ true
-    → CardFits w 256 256 2626 1025 1025 256 8208 4096
+    → CardFits w 256 256 8208 4096
 card-fits w t =
     let a = both-true (leb (w .candidates) 256) (within (drop 1 (lengthsOf w)) (drop 1 cardWork)) t in
     let b = both-true (leb (w .met) 256) (within (drop 2 (lengthsOf w)) (drop 2 cardWork)) (a .1) in
-    let c = both-true (leb (w .text) 2626) (within (drop 3 (lengthsOf w)) (drop 3 cardWork)) (b .1) in
-    let d = both-true (leb (w .froms) 1025) (within (drop 4 (lengthsOf w)) (drop 4 cardWork)) (c .1) in
-    let e = both-true (leb (w .tos) 1025) (within (drop 5 (lengthsOf w)) (drop 5 cardWork)) (d .1) in
-    let f = both-true (leb (w .places) 256) (within (drop 6 (lengthsOf w)) (drop 6 cardWork)) (e .1) in
-    let g = both-true (leb (w .noted) 8208) (within (drop 7 (lengthsOf w)) (drop 7 cardWork)) (f .1) in
+    let c = both-true (leb (w .noted) 8208) (within (drop 3 (lengthsOf w)) (drop 3 cardWork)) (b .1) in
     record {
       candidates = leb-true (w .candidates) 256 (a .0);
       met = leb-true (w .met) 256 (b .0);
-      text = leb-true (w .text) 2626 (c .0);
-      froms = leb-true (w .froms) 1025 (d .0);
-      tos = leb-true (w .tos) 1025 (e .0);
-      places = leb-true (w .places) 256 (f .0);
-      noted = leb-true (w .noted) 8208 (g .0);
-      known = leb-true (w .known) 4096 (both-true (leb (w .known) 4096) true (g .1) .0);
+      noted = leb-true (w .noted) 8208 (c .0);
+      known = leb-true (w .known) 4096 (both-true (leb (w .known) 4096) true (c .1) .0);
     }
 
 -- run on parts of lent buffers
 pub card-run : {L : Lengths} {old bytes : List ℕ} {out k : ℕ} {x : List ℕ} {work : List (List ℕ)} (w : CardWork)
-    (ls ms ts fs os ps ns ks : List ℕ)
-    → CardFits w (length ls) (length ms) (length ts) (length fs) (length os) (length ps) (length ns) (length ks)
+    (ls ms ns ks : List ℕ) → CardFits w (length ls) (length ms) (length ns) (length ks)
     → Given L old (card bytes out (length (take (w .candidates) ls) ∷ length (take (w .met) ms)
-    ∷ length (take (w .text) ts) ∷ length (take (w .froms) fs) ∷ length (take (w .tos) os)
-    ∷ length (take (w .places) ps) ∷ length (take (w .noted) ns) ∷ length (take (w .known) ks) ∷ [])) k x work
+    ∷ length (take (w .noted) ns) ∷ length (take (w .known) ks) ∷ [])) k x work
     → Answers L old (card bytes out (lengthsOf w)) k x
-card-run w ls ms ts fs os ps ns ks F G =
+card-run w ls ms ns ks F G =
     answers (rw (
       length-take-le (w .candidates) ls (F .candidates),
       length-take-le (w .met) ms (F .met),
-      length-take-le (w .text) ts (F .text),
-      length-take-le (w .froms) fs (F .froms),
-      length-take-le (w .tos) os (F .tos),
-      length-take-le (w .places) ps (F .places),
       length-take-le (w .noted) ns (F .noted),
       length-take-le (w .known) ks (F .known),
     ) at G)

@@ -24,21 +24,16 @@ pub record ToldReport (L : Lengths) (s : List ℕ) (q : Asked) (old out : List �
       (gives L old (report (slice (q .feed .from) (q .feed .to) s) (q .out))))
 
 abbrev pub lengthsOf : CardWork → List ℕ
-lengthsOf w =
-    w .candidates ∷ w .met ∷ w .text ∷ w .froms ∷ w .tos ∷ w .places ∷ w .noted ∷ w .known ∷ []
+lengthsOf w = w .candidates ∷ w .met ∷ w .noted ∷ w .known ∷ []
 
 -- the lengths of a card's working buffers, as they stand at p
 pub record ReadsCardWork (s : List ℕ) (p : ℕ) (r : CardWork) : Type 0 where
   pub of : {w : List ℕ} {q : ℕ} → Here lengthsForm s p q w → lengthsOf r ≡ asMany cardWork w
 
 -- buffers of these lengths are parts of such of those lengths
-pub record CardFits (w : CardWork) (c m t f o p n k : ℕ) : Type 0 where
+pub record CardFits (w : CardWork) (c m n k : ℕ) : Type 0 where
   pub candidates : w .candidates ≤ c
   pub met : w .met ≤ m
-  pub text : w .text ≤ t
-  pub froms : w .froms ≤ f
-  pub tos : w .tos ≤ o
-  pub places : w .places ≤ p
   pub noted : w .noted ≤ n
   pub known : w .known ≤ k
 

@@ -6,10 +6,9 @@ use Rattle.panel_replay.proofs.replay.Statement.{statement}
 
 returns : tie.Need-returns
 returns c =
-    let at-run-script = c .before .before .before .before .before .before .before .before .before .before .before
-    .before
+    let at-run-script = c .before .before .before .before .before .before .before .before .before .before
     .before .before .before .before .before .before in
-    let at-smaller = at-run-script .before .before .before .before .before .before .before .before in
+    let at-smaller = at-run-script .before .before .before .before .before .before .before in
     replayed (at-smaller .smaller .ensures) (at-run-script .run-script .ensures) (c .before .before .finish .ensures)
 
 pub replay-spec : {M : Type 1} → statement M
@@ -19,7 +18,6 @@ replay-spec =
     (λ c κs. search needs)
     (λ c κs. search needs)
     (λ c κs. search needs)
-    (λ c. search needs)
     (λ c. search needs)
     (λ c. search needs)
     (λ c. search needs)

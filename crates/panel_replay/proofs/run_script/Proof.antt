@@ -15,9 +15,9 @@ returns-2 c =
 
 take-turns-requires : tie.Need-take-turns-requires
 take-turns-requires c κs =
-    let at-a = c .before .before .before .before .before .before .before .before in
+    let at-a = c .before .before .before .before .before .before .before in
     let at-if1 = at-a .before .before .before .before .before .before .before in
-    let start = at-if1 .before .before .before .before .before .before .before .before .before in (
+    let start = at-if1 .before .before .before .before .before .before .before .before in (
       record {
         first = search (needs, at-a .a .given, start .pre .0);
         second = start .pre .1;
@@ -29,10 +29,10 @@ take-turns-requires c κs =
 
 returns-3 : tie.Need-returns-3
 returns-3 c =
-    let at-take-turns = c .before .before .before .before .before .before .before .before .before .before .before
-    .before .before .before .before in
-    let at-count = at-take-turns .before .before .before .before .before .before .before .before .before .before
+    let at-take-turns = c .before .before .before .before .before .before .before .before .before .before
     .before .before .before in
+    let at-count = at-take-turns .before .before .before .before .before .before .before .before .before .before
+    .before .before in
     turns-taken (at-count .before .before .calls .ensures) (at-count .count .given .1)
     (at-take-turns .take-turns .ensures) (c .ended .ensures)
 
@@ -48,7 +48,6 @@ run-script-spec =
     (λ c κs. search needs)
     take-turns-requires
     (λ c κs. search needs)
-    (λ c. search needs)
     (λ c. search needs)
     (λ c. search needs)
     (λ c. search needs)

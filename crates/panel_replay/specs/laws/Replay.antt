@@ -49,9 +49,9 @@ no-turns e = walk.begin (nothing-yet e)
 -- ---- a turn
 
 -- what is lent is as long as it was
-pub lent-as : {lent o k m j u o′ k′ m′ j′ u′ : ℕ} → o ≡ o′ → k ≡ k′ → m ≡ m′ → j ≡ j′ → u ≡ u′
-    → lentTo lent o k m j u ≡ lentTo lent o′ k′ m′ j′ u′
-lent-as a b c d e = rw (a, b, c, d, e) refl
+pub lent-as : {lent o k m j o′ k′ m′ j′ : ℕ} → o ≡ o′ → k ≡ k′ → m ≡ m′ → j ≡ j′
+    → lentTo lent o k m j ≡ lentTo lent o′ k′ m′ j′
+lent-as a b c d = rw (a, b, c, d) refl
 
 module _ {L : Lengths} {R Q : Lent} {s out next left next′ left′ : List ℕ} {a n at rest p e : ℕ} {place : Put}
     (W : Taken L R s a n at rest out next p left) (z : 0 < rest) (same : Q ≡ R)
@@ -98,8 +98,8 @@ holds : {L : Lengths} {R : Lent} {s out : List ℕ} {number : ℕ} → Replays L
 holds r = record { replays = r; told = replay-told r; gained = λ t. replay-gained r t }
 
 -- overlays of `lent` bytes, which is the length that was lent
-pub replayed : {L : Lengths} {lent n o k m j u : ℕ} {s l out : List ℕ} {e : Ending} {r : ℕ} → lent ≡ n
-    → ScriptEnds L (lentTo lent o k m j u) s l e → Finished l e out r
-    → ReplayHolds L (lentTo n o k m j u) s r out
-replayed {L} {o = o} {k = k} {m = m} {j = j} {u = u} {s = s} {out = out} {r = r} q S F =
-    holds (subst (λ i. Replays L (lentTo i o k m j u) s r out) q (S .of F))
+pub replayed : {L : Lengths} {lent n o k m j : ℕ} {s l out : List ℕ} {e : Ending} {r : ℕ} → lent ≡ n
+    → ScriptEnds L (lentTo lent o k m j) s l e → Finished l e out r
+    → ReplayHolds L (lentTo n o k m j) s r out
+replayed {L} {o = o} {k = k} {m = m} {j = j} {s = s} {out = out} {r = r} q S F =
+    holds (subst (λ i. Replays L (lentTo i o k m j) s r out) q (S .of F))

@@ -1,6 +1,6 @@
 -- `clear_work` meets its contract.
 use borrow.Author.Needs.{needs}
-use Rattle.panel_sized_card.specs.laws.Card.{zeros-eight}
+use Rattle.panel_sized_card.specs.laws.Card.{zeros-four}
 use Rattle.panel_sized_card.proofs.clear_work.Statement.{statement}
 use Rattle.panel_sized_card.proofs.clear_work.Tie as tie
 
@@ -10,12 +10,10 @@ clear-work-spec =
     (tie.spec
     (λ c κs. search needs)
     (λ c κs. search needs)
+    (λ c κs. search needs)
+    (λ c κs. search needs)
     (λ c. search needs)
     (λ c. search needs)
     (λ c. search needs)
     (λ c. search needs)
-    (λ c. search needs)
-    (λ c. search needs)
-    (λ c. search needs)
-    (λ c. search needs)
-    (λ c. search zeros-eight))
+    (λ c. search zeros-four))

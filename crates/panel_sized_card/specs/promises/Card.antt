@@ -11,11 +11,8 @@ pub record Zeros (l m : List (List ℕ)) : Type 0 where
   pub is : m ≡ map (λ n. replicate n 0) (map length l)
 
 -- whether the working slices have their lengths
-abbrev pub workSized : ℕ → ℕ → ℕ → ℕ → ℕ → ℕ → ℕ → ℕ → Bool
-workSized candidates met text froms tos places noted known =
-    eqb candidates 256
-    && (eqb met 256 && (eqb text 2626 && (eqb froms 1025 && (eqb tos 1025
-    && (eqb places 256 && (eqb noted 8208 && eqb known 4096))))))
+abbrev pub workSized : ℕ → ℕ → ℕ → ℕ → Bool
+workSized candidates met noted known = eqb candidates 256 && (eqb met 256 && (eqb noted 8208 && eqb known 4096))
 
 -- question 1, of the overlay's length, the output's, and the working slices'
 abbrev pub cardSized : ℕ → ℕ → ℕ → Bool → Bool

@@ -7,22 +7,22 @@ use Rattle.panel_sized_message.proofs.message_ending.Statement.{stateme
 use Rattle.panel_sized_message.proofs.message_ending.Tie as tie
 
 abbrev start : tie.After-is-sized → tie.Start
-start c = c .before .before .before .before .before .before .before .before .before
+start c = c .before .before .before .before .before .before .before .before
 
 message-requires : tie.Need-message-requires
 message-requires c κs =
-    let asked = c .before .before .before .before .before in
+    let asked = c .before .before .before .before in
     let begin = start (asked .before) in
     let a = begin .args in
     let L =
-    lends (a .n) (a .old .now) (length (a .new .now)) (a .keys .now) (a .marks .now) (a .order .now) (a .updates .now)
+    lends (a .n) (a .old .now) (length (a .new .now)) (a .keys .now) (a .marks .now) (a .order .now)
     (asked .before .is-sized .ensures) (asked .if1 .taken) (begin .pre) in
-    ((L .slices, L .lines), L .short)
+    (L .slices, L .short)
 
 returns : tie.Need-returns
 returns c =
-    let called = c .before .before .before .before .before .before .before .before .before .before in
-    let asked = called .before .before .before .before .before .before in
+    let called = c .before .before .before .before .before .before .before .before in
+    let asked = called .before .before .before .before .before in
     message-ends (asked .before .is-sized .ensures) (asked .if1 .taken) refl (called .message .ensures)
 
 pub message-ending-spec : {M : Type 1} → statement M
@@ -31,7 +31,6 @@ message-ending-spec =
     (tie.spec
     (λ c κs. search needs)
     message-requires
-    (λ c. search needs)
     (λ c. search needs)
     (λ c. search needs)
     (λ c. search needs)

@@ -25,36 +25,32 @@ same-length-4 c = search needs
 same-length-5 : tie.Need-same-length-5
 same-length-5 c = search needs
 
-same-length-6 : tie.Need-same-length-6
-same-length-6 c = search needs
-
 returns : tie.Need-returns
 returns c =
-    let at-step-writing = c .before .before .before .before .before .before .before .before .before .before .before
-    .before in
-    let at-if1 = at-step-writing .before .before .before .before .before .before .before in
+    let at-step-writing = c .before .before .before .before .before .before .before .before .before .before in
+    let at-if1 = at-step-writing .before .before .before .before .before .before in
     let at-read = at-if1 .before in
     turned-writing (at-read .read .ensures) (at-if1 .if1 .taken) (at-step-writing .step-writing .ensures)
 
 card-requires : tie.Need-card-requires
 card-requires c κs = search needs
 
-same-length-7 : tie.Need-same-length-7
-same-length-7 c = search needs
+same-length-6 : tie.Need-same-length-6
+same-length-6 c = search needs
 
 returns-2 : tie.Need-returns-2
 returns-2 c =
     let at-card = c .before .before in
     let at-if2 = at-card .before .before in
     let at-read = at-if2 .before .before in
-    let start = at-read .before .before .before .before .before .before .before .before .before in
+    let start = at-read .before .before .before .before .before .before .before .before in
     turned-card (start .args .new .now) (at-read .read .ensures) (at-if2 .if2 .taken) (at-card .card .ensures)
 
 report-requires : tie.Need-report-requires
 report-requires c κs = search needs
 
-same-length-8 : tie.Need-same-length-8
-same-length-8 c = search needs
+same-length-7 : tie.Need-same-length-7
+same-length-7 c = search needs
 
 returns-3 : tie.Need-returns-3
 returns-3 c =
@@ -62,7 +58,7 @@ returns-3 c =
     let at-if2 = at-report .before .before in
     let at-if1 = at-if2 .before in
     let at-read = at-if1 .before in
-    let start = at-read .before .before .before .before .before .before .before .before .before in
+    let start = at-read .before .before .before .before .before .before .before .before in
     turned-report (start .args .new .now) (at-read .read .ensures) (at-if1 .if1 .left) (at-if2 .if2 .left)
     (at-report .report .ensures)
 
@@ -77,11 +73,10 @@ run-one-spec =
     same-length-3
     same-length-4
     same-length-5
-    same-length-6
     returns
     card-requires
-    same-length-7
+    same-length-6
     returns-2
     report-requires
-    same-length-8
+    same-length-7
     returns-3)

@@ -28,14 +28,10 @@ same-length-4 c = search needs
 same-length-5 : tie.Need-same-length-5
 same-length-5 c = search needs
 
-same-length-6 : tie.Need-same-length-6
-same-length-6 c = search needs
-
 returns : tie.Need-returns
 returns c =
     let at-tell = c .before .before .before in
-    let at-write = at-tell .before .before .before .before .before .before .before .before .before .before .before
-    .before in
+    let at-write = at-tell .before .before .before .before .before .before .before .before .before .before in
     writing-told (at-write .write .ensures) (at-tell .tell .ensures) (c .is-accepted .ensures)
 
 pub step-writing-spec : {M : Type 1} → statement M
@@ -50,5 +46,4 @@ step-writing-spec =
     same-length-3
     same-length-4
     same-length-5
-    same-length-6
     returns)

@@ -11,7 +11,7 @@ slice-reshare-prefix-run-one c = search needs
 
 slice-aggregate-run-one : tie.Need-slice-aggregate-run-one
 slice-aggregate-run-one c =
-    let start = c .before .before .before .before .before .before .before .before .before .before in
+    let start = c .before .before .before .before .before .before .before .before .before in
     sym (length-take-le (start .args .n) (start .args .a .now) (search needs))
 
 run-one-requires : tie.Need-run-one-requires
@@ -35,15 +35,11 @@ same-length-5 c = search needs
 same-length-6 : tie.Need-same-length-6
 same-length-6 c = search needs
 
-same-length-7 : tie.Need-same-length-7
-same-length-7 c = search needs
-
 returns : tie.Need-returns
 returns c =
-    let at-run-one = c .before .before .before .before .before .before .before .before .before .before .before
-    .before .before in
-    let at-if1 = at-run-one .before .before .before .before .before .before .before .before in
-    let start = at-if1 .before .before .before .before .before .before .before .before .before in
+    let at-run-one = c .before .before .before .before .before .before .before .before .before .before .before in
+    let at-if1 = at-run-one .before .before .before .before .before .before .before in
+    let start = at-if1 .before .before .before .before .before .before .before .before in
     turn-on (start .args .n) (start .args .a .now) (at-run-one .run-one .last .1 .1 .1 .1 .1 .0) (start .args .b
     .now) (at-run-one .run-one .result .moved) (at-if1 .if1 .taken) (at-run-one .run-one .ensures)
 
@@ -52,11 +48,14 @@ slice-reshare-prefix-run-one-2 c = search needs
 
 slice-aggregate-run-one-2 : tie.Need-slice-aggregate-run-one-2
 slice-aggregate-run-one-2 c =
-    let start = c .before .before .before .before .before .before .before .before .before .before in
+    let start = c .before .before .before .before .before .before .before .before .before in
     sym (length-take-le (start .args .n) (start .args .b .now) (search needs))
 
 run-one-requires-2 : tie.Need-run-one-requires-2
 run-one-requires-2 c κs = search needs
+
+same-length-7 : tie.Need-same-length-7
+same-length-7 c = search needs
 
 same-length-8 : tie.Need-same-length-8
 same-length-8 c = search needs
@@ -73,18 +72,11 @@ same-length-11 c = search needs
 same-length-12 : tie.Need-same-length-12
 same-length-12 c = search needs
 
-same-length-13 : tie.Need-same-length-13
-same-length-13 c = search needs
-
-same-length-14 : tie.Need-same-length-14
-same-length-14 c = search needs
-
 returns-2 : tie.Need-returns-2
 returns-2 c =
-    let at-run-one2 = c .before .before .before .before .before .before .before .before .before .before .before
-    .before in
-    let at-if1 = at-run-one2 .before .before .before .before .before .before .before .before in
-    let start = at-if1 .before .before .before .before .before .before .before .before .before in
+    let at-run-one2 = c .before .before .before .before .before .before .before .before .before .before in
+    let at-if1 = at-run-one2 .before .before .before .before .before .before .before in
+    let start = at-if1 .before .before .before .before .before .before .before .before in
     turn-back (start .args .n) (at-run-one2 .run-one2 .last .1 .1 .1 .1 .1 .0) (start .args .b .now) (start .args
     .a .now) (at-run-one2 .run-one2 .result .moved) (at-if1 .if1 .left) (at-run-one2 .run-one2 .ensures)
 
@@ -101,16 +93,14 @@ take-turn-spec =
     same-length-4
     same-length-5
     same-length-6
-    same-length-7
     returns
     slice-reshare-prefix-run-one-2
     slice-aggregate-run-one-2
     run-one-requires-2
+    same-length-7
     same-length-8
     same-length-9
     same-length-10
     same-length-11
     same-length-12
-    same-length-13
-    same-length-14
     returns-2)

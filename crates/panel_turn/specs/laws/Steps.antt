@@ -99,30 +99,30 @@ writes-below L k f b t o w h = go (eqb k 0) (eqb k 1) (eqb k 2) (eqb k 3) refl r
         absurd (omega (arith, eqb-false k 0 a, eqb-false k 1 c, eqb-false k 2 d, eqb-false k 3 e))
 
 -- a writing call
-pub turned-writing : {n lent o k m j u : ℕ} {s old new out next : List ℕ} {at p : ℕ} {q : Asked} {place : Put}
+pub turned-writing : {n lent o k m j : ℕ} {s old new out next : List ℕ} {at p : ℕ} {q : Asked} {place : Put}
     {moved : Bool} {e : ℕ} → ReadsCall s at q → q .kind < 4
-    → ToldWriting (sized n) lent (k ∷ m ∷ j ∷ u ∷ []) s q old new out p next place moved e
-    → Turned (sized n) (lentTo lent o k m j u) s at old out p (cond moved (take n new) old) next place e
-turned-writing {n} {lent} {o} {k} {m} {j} {u} {s} {q = q} Q h T = record {
+    → ToldWriting (sized n) lent (k ∷ m ∷ j ∷ []) s q old new out p next place moved e
+    → Turned (sized n) (lentTo lent o k m j) s at old out p (cond moved (take n new) old) next place e
+turned-writing {n} {lent} {o} {k} {m} {j} {s} {q = q} Q h T = record {
   ends = λ v e d. T .ends ∙ Q .of d .next;
   stepped = λ v e d.
       let D = Q .of d in
       T .of D
       (ap writes (call-is (sized n) D)
       ∙ writes-below (sized n) (q .kind) _ _ (v .1 .1 .1 .0) _ (v .1 .1 .1 .1 .1) h)
-      (lentTo lent o k m j u) refl refl;
+      (lentTo lent o k m j) refl refl;
 }
 
 -- a card
-pub turned-card : {n lent o k m j u : ℕ} {s old : List ℕ} (new : List ℕ) {out next : List ℕ} {at p : ℕ} {q : Asked}
+pub turned-card : {n lent o k m j : ℕ} {s old : List ℕ} (new : List ℕ) {out next : List ℕ} {at p : ℕ} {q : Asked}
     {place : Put} → ReadsCall s at q → q .kind ≡ 4 → ToldCard (sized n) s q old out p next place
-    → Turned (sized n) (lentTo lent o k m j u) s at old out p (cond false (take n new) old) next place (q .next)
-turned-card {n} {lent} {o} {k} {m} {j} {u} {old = old} new {out = out} {next = next} {p = p} {place = place} Q h T =
+    → Turned (sized n) (lentTo lent o k m j) s at old out p (cond false (take n new) old) next place (q .next)
+turned-card {n} {lent} {o} {k} {m} {j} {old = old} new {out = out} {next = next} {p = p} {place = place} Q h T =
     record {
       ends = λ v e d. Q .of d .next;
       stepped = λ v e d.
           let D = Q .of d in
-          subst (λ c. Stepped (sized n) (lentTo lent o k m j u) c old out p old next place)
+          subst (λ c. Stepped (sized n) (lentTo lent o k m j) c old out p old next place)
           (sym (of-kind (sized n) 4 h D))
           (record {
             unlent = λ b. T .unlent (D .work) b;

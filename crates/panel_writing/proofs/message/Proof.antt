@@ -20,10 +20,10 @@ is-lent-requires c κs = search needs
 -- src/writing.rt:182:28
 run-message-requires : tie.Need-run-message-requires
 run-message-requires c κs =
-    let at-if1 = c .before .before .before .before .before in
+    let at-if1 = c .before .before .before .before in
     let at-is-lent = at-if1 .before .before in
-    let start = at-is-lent .before .before .before .before .before .before .before .before .before in (
-      fits _ _ _ _ _ _ _ _ _ (start .args .lent) _ (lent-so (leb (start .args .q .out) (start .args .lent))
+    let start = at-is-lent .before .before .before .before .before .before .before .before in (
+      fits _ _ _ _ _ _ _ (start .args .lent) _ (lent-so (leb (start .args .q .out) (start .args .lent))
           (at-is-lent .is-lent .ensures) (at-if1 .if1 .taken)) (start .pre .0),
       start .pre .1,
     )
@@ -45,17 +45,13 @@ same-length-4 : tie.Need-same-length-4
 same-length-4 c = search needs
 
 -- src/writing.rt:182:9
-same-length-5 : tie.Need-same-length-5
-same-length-5 c = search needs
-
--- src/writing.rt:182:9
 returns : tie.Need-returns
 returns c =
-    let at-run-message = c .before .before .before .before .before .before .before .before .before .before in
-    let at-if1 = at-run-message .before .before .before .before .before .before in
+    let at-run-message = c .before .before .before .before .before .before .before .before in
+    let at-if1 = at-run-message .before .before .before .before .before in
     let at-is-lent = at-if1 .before .before in
     let at-message-work = at-is-lent .before in
-    let start = at-message-work .before .before .before .before .before .before .before .before in
+    let start = at-message-work .before .before .before .before .before .before .before in
     message-ran (at-message-work .message-work .ensures) (lent-so (leb (start .args .q .out) (start .args .lent))
     (at-is-lent .is-lent .ensures) (at-if1 .if1 .taken)) (at-run-message .run-message .ensures)
 
@@ -64,7 +60,7 @@ returns-2 : tie.Need-returns-2
 returns-2 c =
     let at-is-lent = c .before .before in
     let at-message-work = at-is-lent .before in
-    let start = at-message-work .before .before .before .before .before .before .before .before in
+    let start = at-message-work .before .before .before .before .before .before .before in
     message-unlent (at-message-work .message-work .ensures) (lent-so (leb (start .args .q .out) (start .args
     .lent)) (at-is-lent .is-lent .ensures) (c .if1 .left))
 
@@ -79,6 +75,5 @@ message-spec =
     same-length-2
     same-length-3
     same-length-4
-    same-length-5
     returns
     returns-2)

@@ -18,18 +18,12 @@ length-at-requires-2 c κs = search needs
 length-at-requires-3 : tie.Need-length-at-requires-3
 length-at-requires-3 c κs = search needs
 
--- src/writing.rt:106:18
-length-at-requires-4 : tie.Need-length-at-requires-4
-length-at-requires-4 c κs = search needs
-
 -- src/writing.rt:99:1
 returns : tie.Need-returns
 returns c =
-    let at-length-at3 = c .before in
-    let at-length-at2 = at-length-at3 .before in
+    let at-length-at2 = c .before in
     let at-length-at = at-length-at2 .before in
-    work-read (at-length-at .length-at .ensures) (at-length-at2 .length-at2 .ensures) (at-length-at3 .length-at3
-    .ensures) (c .length-at4 .ensures)
+    work-read (at-length-at .length-at .ensures) (at-length-at2 .length-at2 .ensures) (c .length-at3 .ensures)
 
 pub message-work-spec : {M : Type 1} → statement M
 message-work-spec =
@@ -38,5 +32,4 @@ message-work-spec =
     length-at-requires
     length-at-requires-2
     length-at-requires-3
-    length-at-requires-4
     returns)

@@ -40,7 +40,7 @@ slice-relend-prefix-message c = search needs
 -- src/writing.rt:154:9
 slice-aggregate-message : tie.Need-slice-aggregate-message
 slice-aggregate-message c =
-    let start = c .before .before .before .before .before .before .before .before .before .before .before .before in
+    let start = c .before .before .before .before .before .before .before .before .before .before .before in
     sym (length-take-le (start .args .q .out) (start .args .new .now) (start .pre .0 .overlay))
 
 -- src/writing.rt:155:9
@@ -50,8 +50,7 @@ slice-relend-prefix-message-2 c = search needs
 -- src/writing.rt:155:9
 slice-aggregate-message-2 : tie.Need-slice-aggregate-message-2
 slice-aggregate-message-2 c =
-    let start = c .before .before .before .before .before .before .before .before .before .before .before .before
-    .before in
+    let start = c .before .before .before .before .before .before .before .before .before .before .before .before in
     sym (length-take-le (start .args .w .keys) (start .args .keys .now) (start .pre .0 .keys))
 
 -- src/writing.rt:156:9
@@ -62,7 +61,7 @@ slice-relend-prefix-message-3 c = search needs
 slice-aggregate-message-3 : tie.Need-slice-aggregate-message-3
 slice-aggregate-message-3 c =
     let start = c .before .before .before .before .before .before .before .before .before .before .before .before
-    .before .before in
+    .before in
     sym (length-take-le (start .args .w .marks) (start .args .marks .now) (start .pre .0 .marks))
 
 -- src/writing.rt:157:9
@@ -73,19 +72,8 @@ slice-relend-prefix-message-4 c = search needs
 slice-aggregate-message-4 : tie.Need-slice-aggregate-message-4
 slice-aggregate-message-4 c =
     let start = c .before .before .before .before .before .before .before .before .before .before .before .before
-    .before .before .before in
+    .before .before in
     sym (length-take-le (start .args .w .order) (start .args .order .now) (start .pre .0 .order))
-
--- src/writing.rt:158:9
-slice-relend-prefix-message-5 : tie.Need-slice-relend-prefix-message-5
-slice-relend-prefix-message-5 c = search needs
-
--- src/writing.rt:158:9
-slice-aggregate-message-5 : tie.Need-slice-aggregate-message-5
-slice-aggregate-message-5 c =
-    let start = c .before .before .before .before .before .before .before .before .before .before .before .before
-    .before .before .before .before in
-    sym (length-take-le (start .args .w .updates) (start .args .updates .now) (start .pre .0 .updates))
 
 -- src/writing.rt:149:5
 message-requires : tie.Need-message-requires
@@ -108,18 +96,14 @@ same-length-4 : tie.Need-same-length-4
 same-length-4 c = search needs
 
 -- src/writing.rt:118:1
-same-length-5 : tie.Need-same-length-5
-same-length-5 c = search needs
-
--- src/writing.rt:118:1
 returns : tie.Need-returns
 returns c =
-    let at-message = c .before .before .before .before .before .before .before .before .before .before in
-    let start = at-message .before .before .before .before .before .before .before .before .before .before .before
-    .before .before .before .before .before .before in
+    let at-message = c .before .before .before .before .before .before .before .before in
+    let start = at-message .before .before .before .before .before .before .before .before .before .before
+    .before .before .before .before .before in
     message-run (start .args .n) (sized (start .args .n)) (start .args .old .now) (start .args .s .now) (start
     .args .new .now) (start .args .q) (start .pre .1) (start .args .keys .now) (start .args .marks .now) (start
-    .args .order .now) (start .args .updates .now) (start .pre .0) (at-message .message .ensures)
+    .args .order .now) (start .pre .0) (at-message .message .ensures)
 
 pub run-message-spec : {M : Type 1} → statement M
 run-message-spec =
@@ -139,12 +123,9 @@ run-message-spec =
     slice-aggregate-message-3
     slice-relend-prefix-message-4
     slice-aggregate-message-4
-    slice-relend-prefix-message-5
-    slice-aggregate-message-5
     message-requires
     same-length
     same-length-2
     same-length-3
     same-length-4
-    same-length-5
     returns)

@@ -45,14 +45,10 @@ same-length-5 : tie.Need-same-length-5
 same-length-5 c = search needs
 
 -- src/lib.rt:214:9
-same-length-6 : tie.Need-same-length-6
-same-length-6 c = search needs
-
--- src/lib.rt:214:9
 returns-2 : tie.Need-returns-2
 returns-2 c =
-    let at-message = c .before .before .before .before .before .before .before .before .before .before in
-    let at-if2 = at-message .before .before .before .before .before .before in
+    let at-message = c .before .before .before .before .before .before .before .before in
+    let at-if2 = at-message .before .before .before .before .before in
     message-writes (at-if2 .if2 .taken) (at-message .message .ensures)
 
 -- src/lib.rt:217:9
@@ -60,8 +56,8 @@ alert-sheet-requires : tie.Need-alert-sheet-requires
 alert-sheet-requires c κs = search needs
 
 -- src/lib.rt:217:9
-same-length-7 : tie.Need-same-length-7
-same-length-7 c = search needs
+same-length-6 : tie.Need-same-length-6
+same-length-6 c = search needs
 
 -- src/lib.rt:217:9
 returns-3 : tie.Need-returns-3
@@ -75,8 +71,8 @@ vehicle-sheet-requires : tie.Need-vehicle-sheet-requires
 vehicle-sheet-requires c κs = search needs
 
 -- src/lib.rt:220:9
-same-length-8 : tie.Need-same-length-8
-same-length-8 c = search needs
+same-length-7 : tie.Need-same-length-7
+same-length-7 c = search needs
 
 -- src/lib.rt:220:9
 returns-4 : tie.Need-returns-4
@@ -105,12 +101,11 @@ write-spec =
     same-length-3
     same-length-4
     same-length-5
-    same-length-6
     returns-2
     alert-sheet-requires
-    same-length-7
+    same-length-6
     returns-3
     vehicle-sheet-requires
-    same-length-8
+    same-length-7
     returns-4
     returns-5)

@@ -82,7 +82,7 @@ module _ {n lent : ℕ} {work s : List ℕ} {q : Asked} {old new : List ℕ} {r 
       → WritesAs (sized n) lent work s q old new r
   message-writes h A = record {
     of = λ {v} D w R o m.
-        let l = asMany (0 ∷ 0 ∷ 0 ∷ 0 ∷ []) (v .1 .1 .1 .1 .1) in
+        let l = asMany (0 ∷ 0 ∷ 0 ∷ []) (v .1 .1 .1 .1 .1) in
         ran-is R (callOf (sized n) v) _ (of-kind (sized n) 1 h D)
         (ap (λ i. within l work && leb (q .out) i) (sym o) ∙ ap (λ i. within l i && leb (q .out) (R .overlay)) (sym m))
         (A .of (D .work));

@@ -41,25 +41,24 @@ pub record Sound (n : ℕ) (s : List ℕ) (q : Asked) : Type 0 where
 -- the lengths of a message's working buffers, as they stand at p
 pub record ReadsWork (s : List ℕ) (p : ℕ) (r : List ℕ) : Type 0 where
   pub of : {w : List ℕ} {q : ℕ} → Here lengthsForm s p q w
-      → r ≡ getD w 0 0 ∷ getD w 1 0 ∷ getD w 2 0 ∷ getD w 3 0 ∷ []
+      → r ≡ getD w 0 0 ∷ getD w 1 0 ∷ getD w 2 0 ∷ []
 
-abbrev pub within4 : ℕ → ℕ → ℕ → ℕ → ℕ → ℕ → ℕ → ℕ → Bool
-within4 a b c d k m o u = leb a k && (leb b m && (leb c o && leb d u))
+abbrev pub within3 : ℕ → ℕ → ℕ → ℕ → ℕ → ℕ → Bool
+within3 a b c k m o = leb a k && (leb b m && leb c o)
 
 -- the buffers that a message asks for are lent
-pub record Fits (a b c d k m o u out room : ℕ) : Type 0 where
+pub record Fits (a b c k m o out room : ℕ) : Type 0 where
   pub keys : a ≤ k
   pub marks : b ≤ m
   pub order : c ≤ o
-  pub updates : d ≤ u
   pub overlay : out ≤ room
 
 -- a message whose working buffers' lengths stand in the script
 pub record MessageRan (L : Lengths) (lent : ℕ) (work s : List ℕ) (q : Asked) (old new : List ℕ) (r : Ran) : Type 0 where
   pub of : {w : List ℕ} {e : ℕ} → Here lengthsForm s (q .work) e w
-      → RanAs (within (asMany (0 ∷ 0 ∷ 0 ∷ 0 ∷ []) w) work && leb (q .out) lent) L old
+      → RanAs (within (asMany (0 ∷ 0 ∷ 0 ∷ []) w) work && leb (q .out) lent) L old
       (message (slice (q .feed .from) (q .feed .to) s) (slice (q .input .from) (q .input .to) s) (q .out)
-      (asMany (0 ∷ 0 ∷ 0 ∷ 0 ∷ []) w)) new r
+      (asMany (0 ∷ 0 ∷ 0 ∷ []) w)) new r
 
 -- a writing call of a script, over what is lent
 pub record WritesAs (L : Lengths) (lent : ℕ) (work s : List ℕ) (q : Asked) (old new : List ℕ) (r : Ran) : Type 0 where
