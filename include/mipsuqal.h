@@ -26,13 +26,8 @@ extern "C" {
 #define MIPSUQAL_KEYS 280713         /* bytes */
 #define MIPSUQAL_MARKS 6147          /* words of 32 bits */
 #define MIPSUQAL_ORDER 2049          /* words of 32 bits */
-#define MIPSUQAL_UPDATES 387         /* words of 32 bits */
 #define MIPSUQAL_CANDIDATES 256      /* words of 16 bits */
 #define MIPSUQAL_MET 256             /* words of 16 bits */
-#define MIPSUQAL_TEXT 2626           /* bytes */
-#define MIPSUQAL_FROMS 1025          /* words of 32 bits */
-#define MIPSUQAL_TOS 1025            /* words of 32 bits */
-#define MIPSUQAL_PLACES 256          /* words of 32 bits */
 #define MIPSUQAL_NOTED 8208          /* words of 32 bits */
 #define MIPSUQAL_KNOWN 4096          /* words of 32 bits */
 
@@ -68,7 +63,7 @@ uint32_t mipsuqal_fresh(uint8_t *new_overlay, size_t new_length);
 uint32_t mipsuqal_message(const uint8_t *old_overlay, size_t old_length, const uint8_t *feed, size_t feed_length,
                           const uint8_t *message, size_t message_length, uint8_t *new_overlay, size_t new_length,
                           uint8_t *keys, size_t keys_length, uint32_t *marks, size_t marks_length, uint32_t *order,
-                          size_t order_length, uint32_t *updates, size_t updates_length);
+                          size_t order_length);
 
 /* An alert sheet replaces the feed's alerts. */
 uint32_t mipsuqal_alert_sheet(const uint8_t *old_overlay, size_t old_length, const uint8_t *feed, size_t feed_length,
@@ -82,41 +77,33 @@ uint32_t mipsuqal_vehicle_sheet(const uint8_t *old_overlay, size_t old_length, c
 /* A card by the overlay: the finished card in `out`, then zeros. */
 uint32_t mipsuqal_card(const uint8_t *old_overlay, size_t old_length, const uint8_t *card, size_t card_length,
                        uint8_t *out, size_t out_length, uint16_t *candidates, size_t candidates_length, uint16_t *met,
-                       size_t met_length, uint8_t *text, size_t text_length, uint32_t *froms, size_t froms_length,
-                       uint32_t *tos, size_t tos_length, uint32_t *places, size_t places_length, uint32_t *noted,
-                       size_t noted_length, uint32_t *known, size_t known_length);
+                       size_t met_length, uint32_t *noted, size_t noted_length, uint32_t *known, size_t known_length);
 
 /* On a feed: version (8 bytes, low first), trip_update_count (8), whether there is a header timestamp (1), it (8). */
 uint32_t mipsuqal_report(const uint8_t *old_overlay, size_t old_length, const uint8_t *feed, size_t feed_length,
                          uint8_t *out, size_t out_length);
 
 /* The published lengths by number, in the order in which they stand above from 0 on, the longest input left out:
- * 0 overlay, 1 card, 2 report, 3 keys .. 14 known; 0 for any other number. */
+ * 0 overlay, 1 card, 2 report, 3 keys .. 9 known; 0 for any other number. */
 size_t mipsuqal_length(uint32_t number);
 
 /* A list of calls run from a fresh overlay on, on two overlays that take turns, and what each gave: to be tried with
  * scripts (docs/CALLS.md, "A list of calls"). It is in a library of its own: `rt staticlib panel_replays`. */
 uint32_t mipsuqal_replay(const uint8_t *script, size_t script_length, uint8_t *a, size_t a_length, uint8_t *b,
                          size_t b_length, uint8_t *out, size_t out_length, uint8_t *keys, size_t keys_length,
-                         uint32_t *marks, size_t marks_length, uint32_t *order, size_t order_length,
-                         uint32_t *updates, size_t updates_length);
+                         uint32_t *marks, size_t marks_length, uint32_t *order, size_t order_length);
 
 /* ---- one thing to declare: the working buffers ---- */
 
-/* They may hold anything before a call, and hold zeros after it. Some 380 KB: static or allocated, not on a stack. */
+/* They may hold anything before a call, and hold zeros after it. Some 364 KB: static or allocated, not on a stack. */
 struct mipsuqal_work {
     uint32_t marks[MIPSUQAL_MARKS];
     uint32_t order[MIPSUQAL_ORDER];
-    uint32_t updates[MIPSUQAL_UPDATES];
-    uint32_t froms[MIPSUQAL_FROMS];
-    uint32_t tos[MIPSUQAL_TOS];
-    uint32_t places[MIPSUQAL_PLACES];
     uint32_t noted[MIPSUQAL_NOTED];
     uint32_t known[MIPSUQAL_KNOWN];
     uint16_t candidates[MIPSUQAL_CANDIDATES];
     uint16_t met[MIPSUQAL_MET];
     uint8_t keys[MIPSUQAL_KEYS];
-    uint8_t text[MIPSUQAL_TEXT];
 };
 
 /* The calls with the published lengths filled in: overlays of MIPSUQAL_OVERLAY bytes, a card of MIPSUQAL_CARD. */
@@ -126,7 +113,7 @@ static inline uint32_t mipsuqal_take_message(const uint8_t *old_overlay, const u
                                              struct mipsuqal_work *work) {
     return mipsuqal_message(old_overlay, MIPSUQAL_OVERLAY, feed, feed_length, message, message_length, new_overlay,
                             MIPSUQAL_OVERLAY, work->keys, MIPSUQAL_KEYS, work->marks, MIPSUQAL_MARKS, work->order,
-                            MIPSUQAL_ORDER, work->updates, MIPSUQAL_UPDATES);
+                            MIPSUQAL_ORDER);
 }
 
 static inline uint32_t mipsuqal_take_alerts(const uint8_t *old_overlay, const uint8_t *feed, size_t feed_length,
@@ -145,9 +132,8 @@ static inline uint32_t mipsuqal_take_vehicles(const uint8_t *old_overlay, const 
 static inline uint32_t mipsuqal_finish_card(const uint8_t *old_overlay, const uint8_t *card, size_t card_length,
                                             uint8_t *out, struct mipsuqal_work *work) {
     return mipsuqal_card(old_overlay, MIPSUQAL_OVERLAY, card, card_length, out, MIPSUQAL_CARD, work->candidates,
-                         MIPSUQAL_CANDIDATES, work->met, MIPSUQAL_MET, work->text, MIPSUQAL_TEXT, work->froms,
-                         MIPSUQAL_FROMS, work->tos, MIPSUQAL_TOS, work->places, MIPSUQAL_PLACES, work->noted,
-                         MIPSUQAL_NOTED, work->known, MIPSUQAL_KNOWN);
+                         MIPSUQAL_CANDIDATES, work->met, MIPSUQAL_MET, work->noted, MIPSUQAL_NOTED, work->known,
+                         MIPSUQAL_KNOWN);
 }
 
 #ifdef __cplusplus

@@ -10,9 +10,7 @@ int main(void) {
     const size_t ours[] = {
         MIPSUQAL_OVERLAY, MIPSUQAL_CARD, MIPSUQAL_REPORT,
         ELEMENTS(work.keys), ELEMENTS(work.marks), ELEMENTS(work.order),
-        ELEMENTS(work.updates), ELEMENTS(work.candidates), ELEMENTS(work.met),
-        ELEMENTS(work.text), ELEMENTS(work.froms), ELEMENTS(work.tos),
-        ELEMENTS(work.places), ELEMENTS(work.noted), ELEMENTS(work.known),
+        ELEMENTS(work.candidates), ELEMENTS(work.met), ELEMENTS(work.noted), ELEMENTS(work.known),
         0,
     };
     int wrong = 0;

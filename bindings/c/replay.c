@@ -26,9 +26,8 @@ static const struct step steps[] = {
 #define CLOCK 1794809100
 #define ROOM 262144
 
-static const size_t message_work[] = {MIPSUQAL_KEYS, MIPSUQAL_MARKS, MIPSUQAL_ORDER, MIPSUQAL_UPDATES};
-static const size_t card_work[] = {MIPSUQAL_CANDIDATES, MIPSUQAL_MET, MIPSUQAL_TEXT, MIPSUQAL_FROMS,
-                                   MIPSUQAL_TOS, MIPSUQAL_PLACES, MIPSUQAL_NOTED, MIPSUQAL_KNOWN};
+static const size_t message_work[] = {MIPSUQAL_KEYS, MIPSUQAL_MARKS, MIPSUQAL_ORDER};
+static const size_t card_work[] = {MIPSUQAL_CANDIDATES, MIPSUQAL_MET, MIPSUQAL_NOTED, MIPSUQAL_KNOWN};
 static struct mipsuqal_work work;
 static uint8_t input[MIPSUQAL_LONGEST_INPUT], script[ROOM], told[ROOM], ours[ROOM];
 
@@ -77,8 +76,8 @@ static uint8_t *written(uint8_t *to, const struct step *step, size_t length) {
     to = number(to, 2 * (uint64_t)CLOCK);
     to = number(to, step->out);
     if (step->kind == MESSAGE)
-        return lengths(to, message_work, 4);
-    return step->kind == CARD ? lengths(to, card_work, 8) : lengths(to, NULL, 0);
+        return lengths(to, message_work, 3);
+    return step->kind == CARD ? lengths(to, card_work, 4) : lengths(to, NULL, 0);
 }
 
 /* The same step as a call; what it answers goes to `out`, or into the overlay `other`. */
@@ -118,7 +117,7 @@ int main(int count, char **words) {
     }
     answer = mipsuqal_replay(script, (size_t)(end - script), overlay[0], MIPSUQAL_OVERLAY, overlay[1], MIPSUQAL_OVERLAY,
                              told, ROOM, work.keys, MIPSUQAL_KEYS, work.marks, MIPSUQAL_MARKS, work.order,
-                             MIPSUQAL_ORDER, work.updates, MIPSUQAL_UPDATES);
+                             MIPSUQAL_ORDER);
     printf("replayed: %u\n", answer);
     return answer != 0 || memcmp(told, ours, ROOM) != 0;
 }

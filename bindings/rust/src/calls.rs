@@ -13,13 +13,8 @@ pub(crate) struct Work {
     keys: [u8; 280_713],
     marks: [u32; 6_147],
     order: [u32; 2_049],
-    updates: [u32; 387],
     candidates: [u16; 256],
     met: [u16; 256],
-    text: [u8; 2_626],
-    froms: [u32; 1_025],
-    tos: [u32; 1_025],
-    places: [u32; 256],
     noted: [u32; 8_208],
     known: [u32; 4_096],
     pub(crate) card: [u8; CARD],
@@ -65,8 +60,6 @@ pub(crate) fn message(
             work.marks.len(),
             work.order.as_mut_ptr(),
             work.order.len(),
-            work.updates.as_mut_ptr(),
-            work.updates.len(),
         )
     })
 }
@@ -125,14 +118,6 @@ pub(crate) fn card(old: &Overlay, card: &[u8], work: &mut Work) -> Result<(), Re
             work.candidates.len(),
             work.met.as_mut_ptr(),
             work.met.len(),
-            work.text.as_mut_ptr(),
-            work.text.len(),
-            work.froms.as_mut_ptr(),
-            work.froms.len(),
-            work.tos.as_mut_ptr(),
-            work.tos.len(),
-            work.places.as_mut_ptr(),
-            work.places.len(),
             work.noted.as_mut_ptr(),
             work.noted.len(),
             work.known.as_mut_ptr(),
@@ -157,13 +142,9 @@ pub fn published_lengths() -> Vec<usize> {
 mod tests {
     use super::*;
 
-    fn lengths(work: &Work) -> [usize; 12] {
-        let Work {
-            keys, marks, order, updates, candidates, met, text, froms, tos, places, noted, known, ..
-        } = work;
-        let bytes = [keys.len(), marks.len(), order.len(), updates.len(), candidates.len(), met.len()];
-        let more = [text.len(), froms.len(), tos.len(), places.len(), noted.len(), known.len()];
-        [bytes, more].concat().try_into().expect("twelve buffers")
+    fn lengths(work: &Work) -> [usize; 7] {
+        let Work { keys, marks, order, candidates, met, noted, known, .. } = work;
+        [keys.len(), marks.len(), order.len(), candidates.len(), met.len(), noted.len(), known.len()]
     }
 
     #[test]

@@ -16,8 +16,6 @@ extern "C" {
         marks_length: usize,
         order: *mut u32,
         order_length: usize,
-        updates: *mut u32,
-        updates_length: usize,
     ) -> u32;
     pub fn mipsuqal_alert_sheet(
         old: *const u8,
@@ -51,14 +49,6 @@ extern "C" {
         candidates_length: usize,
         met: *mut u16,
         met_length: usize,
-        text: *mut u8,
-        text_length: usize,
-        froms: *mut u32,
-        froms_length: usize,
-        tos: *mut u32,
-        tos_length: usize,
-        places: *mut u32,
-        places_length: usize,
         noted: *mut u32,
         noted_length: usize,
         known: *mut u32,
