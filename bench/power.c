@@ -23,17 +23,17 @@ enum { LENGTH = 16384, LONGEST_US = 3000 };
 
 uint32_t CALL(fresh)(uint8_t *, size_t);
 uint32_t CALL(message)(const uint8_t *, size_t, const uint8_t *, size_t, const uint8_t *, size_t, uint8_t *, size_t,
-                       uint8_t *, size_t, uint32_t *, size_t, uint32_t *, size_t, uint32_t *, size_t);
+                       uint8_t *, size_t, uint32_t *, size_t, uint32_t *, size_t);
 uint32_t CALL(alert_sheet)(const uint8_t *, size_t, const uint8_t *, size_t, const uint8_t *, size_t, uint8_t *,
                            size_t);
 uint32_t CALL(vehicle_sheet)(const uint8_t *, size_t, const uint8_t *, size_t, const uint8_t *, size_t, int64_t,
                              uint8_t *, size_t);
 uint32_t CALL(report)(const uint8_t *, size_t, const uint8_t *, size_t, uint8_t *, size_t);
 
-enum { SECTOR = 512, KEYS = 280713, MARKS = 6147, ORDER = 2049, UPDATES = 387 };
+enum { SECTOR = 512, KEYS = 280713, MARKS = 6147, ORDER = 2049 };
 
 static uint8_t keys[KEYS];
-static uint32_t marks[MARKS], order[ORDER], updates[UPDATES];
+static uint32_t marks[MARKS], order[ORDER];
 
 /* What the child is doing, where the parent can see it. */
 enum phase { BETWEEN, CALLING, REFUSED, SYNCING, RECORDING, PHASES };
@@ -150,7 +150,7 @@ static void put_vehicles(struct paper *paper, uint64_t n) {
 
 static uint32_t call_message(const uint8_t *old, const struct paper *paper, const uint8_t *feed, uint8_t *new) {
     return CALL(message)(old, LENGTH, feed, 1, paper->bytes, paper->length, new, LENGTH, keys, KEYS, marks, MARKS,
-                         order, ORDER, updates, UPDATES);
+                         order, ORDER);
 }
 
 /* The call that makes a generation out of the one before it: by its number, so that the parent can make it too. */

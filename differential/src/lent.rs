@@ -30,7 +30,7 @@ macro_rules! calls {
             #[rustfmt::skip]
             fn $message(
                 _: From, _: usize, _: From, _: usize, _: From, _: usize, _: Bytes, _: usize,
-                _: Bytes, _: usize, _: Words, _: usize, _: Words, _: usize, _: Words, _: usize,
+                _: Bytes, _: usize, _: Words, _: usize, _: Words, _: usize,
             ) -> u32;
             #[rustfmt::skip]
             fn $alerts(
@@ -43,8 +43,7 @@ macro_rules! calls {
             #[rustfmt::skip]
             fn $card(
                 _: From, _: usize, _: From, _: usize, _: Bytes, _: usize,
-                _: Halves, _: usize, _: Halves, _: usize, _: Bytes, _: usize, _: Words, _: usize,
-                _: Words, _: usize, _: Words, _: usize, _: Words, _: usize, _: Words, _: usize,
+                _: Halves, _: usize, _: Halves, _: usize, _: Words, _: usize, _: Words, _: usize,
             ) -> u32;
             fn $report(_: From, _: usize, _: From, _: usize, _: Bytes, _: usize) -> u32;
         }
@@ -60,8 +59,7 @@ macro_rules! calls {
                 Call::Fresh => $fresh(n.start, n.length),
                 Call::Message { .. } => $message(
                     o.start, o.length, f.start, f.length, i.start, i.length, n.start, n.length,
-                    w[0].start, w[0].length, w[1].start.cast(), w[1].length,
-                    w[2].start.cast(), w[2].length, w[3].start.cast(), w[3].length,
+                    w[0].start, w[0].length, w[1].start.cast(), w[1].length, w[2].start.cast(), w[2].length,
                 ),
                 Call::AlertSheet { .. } => $alerts(
                     o.start, o.length, f.start, f.length, i.start, i.length, n.start, n.length,
@@ -71,10 +69,8 @@ macro_rules! calls {
                 ),
                 Call::Card { .. } => $card(
                     o.start, o.length, i.start, i.length, n.start, n.length,
-                    w[0].start.cast(), w[0].length, w[1].start.cast(), w[1].length, w[2].start, w[2].length,
-                    w[3].start.cast(), w[3].length, w[4].start.cast(), w[4].length,
-                    w[5].start.cast(), w[5].length, w[6].start.cast(), w[6].length,
-                    w[7].start.cast(), w[7].length,
+                    w[0].start.cast(), w[0].length, w[1].start.cast(), w[1].length,
+                    w[2].start.cast(), w[2].length, w[3].start.cast(), w[3].length,
                 ),
                 Call::Report { .. } => $report(o.start, o.length, f.start, f.length, n.start, n.length),
             }
@@ -93,8 +89,8 @@ pub type Calls = unsafe fn(&Call, &Lent) -> u32;
 /// Bytes of an element of a call's output and of its working slices, in their order.
 pub fn widths(call: &Call) -> &'static [usize] {
     match call {
-        Call::Message { .. } => &[1, 1, 4, 4, 4],
-        Call::Card { .. } => &[1, 2, 2, 1, 4, 4, 4, 4, 4],
+        Call::Message { .. } => &[1, 1, 4, 4],
+        Call::Card { .. } => &[1, 2, 2, 4, 4],
         _ => &[1],
     }
 }

@@ -52,8 +52,6 @@ mod raw {
             marks_length: usize,
             order: *mut u32,
             order_length: usize,
-            updates: *mut u32,
-            updates_length: usize,
             feed: *const u8,
             feed_length: usize,
             message: *const u8,
@@ -137,7 +135,7 @@ pub enum Place {
     Old(std::ops::Range<usize>),
 }
 
-/// The working slices of the index of trips.
+/// The working slices of the index of trips, and one for the updates of a record.
 pub struct Index {
     keys: Vec<u8>,
     marks: Vec<u32>,
@@ -145,8 +143,9 @@ pub struct Index {
     updates: Vec<u32>,
 }
 
-/// How long they are.
-pub const LENGTHS: [usize; 4] = [280_713, 6_147, 2_049, 387];
+/// How long those of the index are, and that of the updates.
+pub const LENGTHS: [usize; 3] = [280_713, 6_147, 2_049];
+const UPDATES: usize = 387;
 
 impl Default for Index {
     fn default() -> Self {
@@ -156,9 +155,9 @@ impl Default for Index {
 
 impl Index {
     /// They may hold anything before.
-    pub fn sized([keys, marks, order, updates]: [usize; 4]) -> Self {
+    pub fn sized([keys, marks, order]: [usize; 3]) -> Self {
         let words = |length| vec![0xa5a5_a5a5; length];
-        Index { keys: vec![0xa5; keys], marks: words(marks), order: words(order), updates: words(updates) }
+        Index { keys: vec![0xa5; keys], marks: words(marks), order: words(order), updates: words(UPDATES) }
     }
 
     /// The number of the first no of questions 1 to 7, or how many trips are left of the feed.
@@ -171,8 +170,6 @@ impl Index {
                 self.marks.len(),
                 self.order.as_mut_ptr(),
                 self.order.len(),
-                self.updates.as_mut_ptr(),
-                self.updates.len(),
                 feed.as_ptr(),
                 feed.len(),
                 message.as_ptr(),

@@ -60,16 +60,11 @@ pub struct MessageWork {
     pub keys: Vec<u8>,
     pub marks: Vec<u32>,
     pub order: Vec<u32>,
-    pub updates: Vec<u32>,
 }
 
 pub struct CardWork {
     pub candidates: Vec<u16>,
     pub met: Vec<u16>,
-    pub text: Vec<u8>,
-    pub froms: Vec<u32>,
-    pub tos: Vec<u32>,
-    pub places: Vec<u32>,
     pub noted: Vec<u32>,
     pub known: Vec<u32>,
 }
@@ -84,25 +79,16 @@ pub struct Lent {
 
 impl Default for Lent {
     fn default() -> Self {
-        let [keys, marks, order, updates] = MESSAGE_WORK;
-        let [candidates, met, text, froms, tos, places, noted, known] = CARD_WORK;
+        let [keys, marks, order] = MESSAGE_WORK;
+        let [candidates, met, noted, known] = CARD_WORK;
         let words = |length| vec![0; length];
         Lent {
             card: vec![0; CARD],
             report: vec![0; REPORT],
-            message_work: MessageWork {
-                keys: vec![0; keys],
-                marks: words(marks),
-                order: words(order),
-                updates: words(updates),
-            },
+            message_work: MessageWork { keys: vec![0; keys], marks: words(marks), order: words(order) },
             card_work: CardWork {
                 candidates: vec![0; candidates],
                 met: vec![0; met],
-                text: vec![0; text],
-                froms: words(froms),
-                tos: words(tos),
-                places: words(places),
                 noted: words(noted),
                 known: words(known),
             },
@@ -191,12 +177,12 @@ impl States {
         match call {
             Call::Fresh | Call::AlertSheet { .. } | Call::VehicleSheet { .. } => vec![new],
             Call::Message { .. } => {
-                let MessageWork { keys, marks, order, updates } = message_work;
-                vec![new, keys, marks, order, updates]
+                let MessageWork { keys, marks, order } = message_work;
+                vec![new, keys, marks, order]
             }
             Call::Card { .. } => {
-                let CardWork { candidates, met, text, froms, tos, places, noted, known } = card_work;
-                vec![card, candidates, met, text, froms, tos, places, noted, known]
+                let CardWork { candidates, met, noted, known } = card_work;
+                vec![card, candidates, met, noted, known]
             }
             Call::Report { .. } => vec![report],
         }

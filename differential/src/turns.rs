@@ -11,8 +11,8 @@ use crate::random::Random;
 pub const OVERLAY: usize = 111_398_044;
 pub const CARD: usize = 65_536;
 pub const REPORT: usize = 25;
-pub const MESSAGE_WORK: [usize; 4] = [280_713, 6_147, 2_049, 387];
-pub const CARD_WORK: [usize; 8] = [256, 256, 2_626, 1_025, 1_025, 256, 8_208, 4_096];
+pub const MESSAGE_WORK: [usize; 3] = [280_713, 6_147, 2_049];
+pub const CARD_WORK: [usize; 4] = [256, 256, 8_208, 4_096];
 
 #[derive(Clone, Debug, PartialEq)]
 pub struct Turn {

@@ -74,7 +74,8 @@ impl Memory {
     /// For overlays of at most so many bytes.
     pub fn of(side: Side, overlay: usize) -> Self {
         let region = |most| Region::of(side, most + PAGE);
-        let [keys, words @ ..] = [280_713, 6_147, 2_626, 1_025, 1_025, 256, 8_208, 4_096];
+        // Working slices, at each place the longer of a message's and a card's: keys, then words of 32 bits.
+        let [keys, words @ ..] = [280_713, 6_147, 8_208, 4_096];
         let written = [overlay.max(65_536), keys].into_iter().chain(words.map(|length| 4 * length));
         Memory {
             old: region(overlay),

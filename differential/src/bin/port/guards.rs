@@ -7,7 +7,7 @@ use differential::port::{Index, LENGTHS};
 /// How many have another answer.
 pub fn run() -> usize {
     let mut answers = Vec::new();
-    for (slice, change) in [(0, -1), (0, 1), (1, -1), (1, 1), (2, -1), (2, 1), (3, -1), (3, 1)] {
+    for (slice, change) in [(0, -1), (0, 1), (1, -1), (1, 1), (2, -1), (2, 1)] {
         let mut lengths = LENGTHS;
         lengths[slice] = lengths[slice].wrapping_add_signed(change);
         answers.push((Index::sized(lengths).leave(b"f", &[], &none()), Err(1)));
