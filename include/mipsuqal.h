@@ -88,7 +88,7 @@ uint32_t mipsuqal_report(const uint8_t *old_overlay, size_t old_length, const ui
 size_t mipsuqal_length(uint32_t number);
 
 /* A list of calls run from a fresh overlay on, on two overlays that take turns, and what each gave: to be tried with
- * scripts (docs/CALLS.md, "A list of calls"). It is in a library of its own: `rt staticlib panel_replays`. */
+ * scripts (docs/CALLS.md, "A list of calls"). It is in a library of its own: `rt staticlib panel_replay`. */
 uint32_t mipsuqal_replay(const uint8_t *script, size_t script_length, uint8_t *a, size_t a_length, uint8_t *b,
                          size_t b_length, uint8_t *out, size_t out_length, uint8_t *keys, size_t keys_length,
                          uint32_t *marks, size_t marks_length, uint32_t *order, size_t order_length);

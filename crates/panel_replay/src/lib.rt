@@ -8,7 +8,7 @@ ghost use Prim.Native.Nat.{_≤_, min};
 ghost use lib.ListN.{length, take};
 ghost use Rattle.decode.specs.Sizes.{mostOld};
 ghost use Rattle.panel.specs.Calls.{freshOverlay};
-ghost use Rattle.panel_sized.specs.Lengths.{sized};
+ghost use Rattle.panel_sized.specs.Lengths.{sized, lengths};
 ghost use Rattle.panel_turn.specs.Lent.{lentTo};
 ghost use Rattle.panel_replay.specs.Replay.{ReplayHolds};
 ghost use Rattle.panel_replay.specs.promises.Turns.{Overlays, TurnsEnd, ScriptEnds};
@@ -118,4 +118,26 @@ pub fn replay(
     let lent = smaller(a.len(), b.len());
     let e = run_script(n, lent, s, a, b, out, keys, marks, order);
     panel_output::finish(out, e)
+}
+
+// An overlay's published length.
+const PUBLISHED: usize = 111398044;
+
+// A REPLAY of a script at the published lengths.
+#[no_mangle]
+pub extern "C" fn mipsuqal_replay(
+    script: &[u8],
+    a: &mut [u8],
+    b: &mut [u8],
+    out: &mut [u8],
+    keys: &mut [u8],
+    marks: &mut [u32],
+    order: &mut [u32],
+) -> u32
+    ensures { λ r. ⌜
+        ReplayHolds lengths (lentTo (min (length (now (a .entry))) (length (now (b .entry))))
+        (length (now (out .entry))) (length (now (keys .entry))) (length (now (marks .entry)))
+        (length (now (order .entry)))) (now (script .entry)) r (now (out .exit)) ⌝ }
+{
+    replay(PUBLISHED, script, a, b, out, keys, marks, order)
 }
