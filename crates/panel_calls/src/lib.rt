@@ -4,8 +4,8 @@ ghost use mathlib.Core.Path.{_≡_};
 ghost use mathlib.Core.List.{[], _∷_};
 ghost use lib.ListN.{length, getD};
 ghost use Rattle.panel.specs.Calls as calls;
-ghost use Rattle.panel_sized.specs.Lengths.{lengths};
-ghost use Rattle.panel_sized.specs.Given.{Given};
+ghost use Rattle.panel.specs.Lengths.{lengths};
+ghost use Rattle.panel.specs.Given.{Given};
 ghost use Rattle.panel_calls.specs.Published.{publishedLengths};
 
 // How long an overlay is.
@@ -42,7 +42,7 @@ pub extern "C" fn mipsuqal_length(k: u32) -> usize
 pub extern "C" fn mipsuqal_fresh(new: &mut [u8]) -> u32
     ensures { λ r. ⌜ Given lengths [] (calls.fresh (length (now (new .entry)))) r (now (new .exit)) [] ⌝ }
 {
-    panel_sized::fresh(OVERLAY, new)
+    panel_report::fresh(OVERLAY, new)
 }
 
 // A MESSAGE of a feed: from the old overlay to the new one.
@@ -62,7 +62,7 @@ pub extern "C" fn mipsuqal_message(
         r (now (new .exit))
         (now (keys .exit) ∷ now (marks .exit) ∷ now (order .exit) ∷ []) ⌝ }
 {
-    panel_sized_message::message(OVERLAY, old, feed, message, new, keys, marks, order)
+    panel_message::message(OVERLAY, old, feed, message, new, keys, marks, order)
 }
 
 // AN ALERT SHEET of a feed.
@@ -72,7 +72,7 @@ pub extern "C" fn mipsuqal_alert_sheet(old: &[u8], feed: &[u8], sheet: &[u8], ne
         (calls.alertSheet (now (feed .entry)) (now (sheet .entry)) (length (now (new .entry))) []) r (now (new .exit))
         [] ⌝ }
 {
-    panel_sized::alert_sheet(OVERLAY, old, feed, sheet, new)
+    panel_sheets::alert_sheet(OVERLAY, old, feed, sheet, new)
 }
 
 // A VEHICLE SHEET of a feed, at the clock's time.
@@ -88,7 +88,7 @@ pub extern "C" fn mipsuqal_vehicle_sheet(
         (calls.vehicleSheet (now (feed .entry)) (now (sheet .entry)) clock (length (now (new .entry))) []) r
         (now (new .exit)) [] ⌝ }
 {
-    panel_sized::vehicle_sheet(OVERLAY, old, feed, sheet, clock, new)
+    panel_sheets::vehicle_sheet(OVERLAY, old, feed, sheet, clock, new)
 }
 
 // A CARD: the arriving one, finished.
@@ -109,7 +109,7 @@ pub extern "C" fn mipsuqal_card(
         r (now (out .exit))
         (now (candidates .exit) ∷ now (met .exit) ∷ now (noted .exit) ∷ now (known .exit) ∷ []) ⌝ }
 {
-    panel_sized_card::card(OVERLAY, old, card, out, candidates, met, noted, known)
+    panel_card::card(OVERLAY, old, card, out, candidates, met, noted, known)
 }
 
 // A REPORT on a feed: version, count and header timestamp.
@@ -118,5 +118,5 @@ pub extern "C" fn mipsuqal_report(old: &[u8], feed: &[u8], out: &mut [u8]) -> u3
     ensures { λ r. ⌜ Given lengths (now (old .entry)) (calls.report (now (feed .entry)) (length (now (out .entry)))) r
         (now (out .exit)) [] ⌝ }
 {
-    panel_sized::report(OVERLAY, old, feed, out)
+    panel_report::report(OVERLAY, old, feed, out)
 }

@@ -1,4 +1,5 @@
-// A card's call: questions 2 to 8 in their order, and the finished card.
+// A card's call, with the overlay's length as a parameter: its questions in their order and the finished card, then
+// zeros behind what was written and in the working buffers.
 use formats_judge::Judge;
 use formats_write::Put;
 use journey_card::Survey;
@@ -11,6 +12,7 @@ use table::CARD;
 use table::CARD_DEPTH;
 use table::CARD_TABLE;
 ghost use mathlib.Core.Path.{_≡_};
+ghost use mathlib.Core.List.{[], _∷_};
 ghost use Prim.Native.Nat.{_≤_, _<_};
 ghost use lib.ListN.{length};
 ghost use Rattle.decode.specs.Sizes.{mostOld};
@@ -19,8 +21,18 @@ ghost use Rattle.alerts_apply.specs.promises.Known.{Knows};
 ghost use Rattle.journey_alerts.specs.promises.Places.{mostText, Lent};
 ghost use Rattle.formats_judge.specs.Judged.{judgeTo};
 ghost use Rattle.journey.specs.Card as form;
+ghost use Rattle.panel.specs.Calls as calls;
+ghost use Rattle.panel.specs.Given.{Given};
+ghost use Rattle.panel.specs.Lengths.{sized};
+ghost use Rattle.panel_output.specs.promises.Ends.{Ends, Zeros};
 ghost use Rattle.panel_card.specs.promises.Card.{cardNumber, askedNumber, AskedNotes};
-ghost use Rattle.panel_card.specs.promises.Card.{FinishesCard, CardEnds};
+ghost use Rattle.panel_card.specs.promises.Card.{FinishesCard};
+
+// What a card takes at most.
+const MOST_CARD: usize = 65536;
+
+// What stands in `known` where nothing is known of an alert yet.
+const NOTHING: u32 = 0;
 
 // The labels of a card, with room for one more.
 const LABELS_LENGTH: usize = 1025;
@@ -36,7 +48,7 @@ fn judge_card(s: &[u8]) -> Judge
 fn card_number(s: &[u8]) -> u32
     ensures { λ r. ⌜ r ≡ cardNumber (now (s .entry)) ⌝ }
 {
-    if 65536 < s.len() {
+    if MOST_CARD < s.len() {
         return 3;
     }
     let Judge::At(p, n) = judge_card(s) else {
@@ -106,9 +118,10 @@ fn finish(
     )
 }
 
-// A CARD: the finished one in `out`, or the number of the first question whose answer is no. What question 7 asks of
-// the finished card holds where the arriving card and the state are within it.
-pub fn card(
+// The questions in their order, and the finished card in `out`. What question 7 asks of the finished card holds where
+// the arriving card and the state are within it.
+fn card_ending(
+    n: usize,
     old: &[u8],
     card: &[u8],
     out: &mut [u8],
@@ -117,16 +130,66 @@ pub fn card(
     noted: &mut [u32],
     known: &mut [u32],
 ) -> Ending
-    requires { ⌜ Lent (now old) (now candidates) (now met) ⌝ }
-    requires { ⌜ length (now noted) ≡ placesLength ⌝ }
-    ensures { λ r. ⌜ CardEnds (now (old .entry)) (now (card .entry)) (now (out .entry)) (now (out .exit)) r ⌝ }
+    requires { ⌜ n ≤ mostOld ⌝ }
+    ensures { λ r. ⌜ Ends (sized n) (now (old .entry))
+        (calls.card (now (card .entry)) (length (now (out .entry)))
+        (length (now (candidates .entry)) ∷ length (now (met .entry)) ∷ length (now (noted .entry))
+        ∷ length (now (known .entry)) ∷ []))
+        (now (out .exit)) r ⌝ }
 {
+    let given = [
+        old.len(),
+        out.len(),
+        candidates.len(),
+        met.len(),
+        noted.len(),
+        known.len(),
+    ];
+    let due = [n, MOST_CARD, 256, 256, 8208, 4096];
+    if !panel_output::same_lengths(&given, &due) {
+        return Ending::Refused(1);
+    }
     let number = asked(old, card, noted);
     if number != 0 {
         return Ending::Refused(number);
     }
-    // Whatever a caller left there, nothing is known of alerts yet.
-    panel_output::clear32(known);
+    // Whatever a caller left there.
+    slices::fill32(known, NOTHING);
     let w = finish(old, noted, card, out, candidates, met, known);
     panel_output::ended(w, 8)
+}
+
+fn clear_work(candidates: &mut [u16], met: &mut [u16], noted: &mut [u32], known: &mut [u32])
+    ensures { λ _. ⌜ Zeros
+        (now (candidates .entry) ∷ now (met .entry) ∷ now (noted .entry) ∷ now (known .entry) ∷ [])
+        (now (candidates .exit) ∷ now (met .exit) ∷ now (noted .exit) ∷ now (known .exit) ∷ []) ⌝ }
+{
+    slices::fill16(candidates, 0);
+    slices::fill16(met, 0);
+    slices::fill32(noted, 0);
+    slices::fill32(known, 0);
+}
+
+// A CARD over an overlay of n bytes.
+pub fn card(
+    n: usize,
+    old: &[u8],
+    card: &[u8],
+    out: &mut [u8],
+    candidates: &mut [u16],
+    met: &mut [u16],
+    noted: &mut [u32],
+    known: &mut [u32],
+) -> u32
+    requires { ⌜ n ≤ mostOld ⌝ }
+    ensures { λ r. ⌜ Given (sized n) (now (old .entry))
+        (calls.card (now (card .entry)) (length (now (out .entry)))
+        (length (now (candidates .entry)) ∷ length (now (met .entry)) ∷ length (now (noted .entry))
+        ∷ length (now (known .entry)) ∷ []))
+        r (now (out .exit))
+        (now (candidates .exit) ∷ now (met .exit) ∷ now (noted .exit) ∷ now (known .exit) ∷ []) ⌝ }
+{
+    let e = card_ending(n, old, card, out, candidates, met, noted, known);
+    clear_work(candidates, met, noted, known);
+    panel_output::finish(out, e)
 }

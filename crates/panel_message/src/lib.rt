@@ -1,15 +1,23 @@
-// A message's call: questions 2 to 7 in their order, and the state that it leaves.
+// A message's call, with the overlay's length as a parameter: its questions in their order and the state that it
+// leaves, then zeros behind what was written and in the working buffers.
+use decode::sizes::KEYS_LENGTH;
+use decode::sizes::MARKS_LENGTH;
 use decode::sizes::MOST_MESSAGE;
+use decode::sizes::ORDER_LENGTH;
 use overlay_open::Opened;
 use panel_output::Ending;
 use realtime::FEED_MESSAGE;
 use realtime::Verdict;
 ghost use mathlib.Core.Path.{_≡_};
+ghost use mathlib.Core.List.{[], _∷_};
 ghost use Prim.Native.Nat.{_≤_};
 ghost use lib.ListN.{length};
 ghost use Rattle.decode.specs.Sizes.{mostOld};
-ghost use Rattle.decode_slots.specs.promises.Index.{Lent};
-ghost use Rattle.panel_message.specs.promises.Message.{MessageEnds, messageNumber, numberBy};
+ghost use Rattle.panel.specs.Calls as calls;
+ghost use Rattle.panel.specs.Given.{Given};
+ghost use Rattle.panel.specs.Lengths.{sized};
+ghost use Rattle.panel_output.specs.promises.Ends.{Ends, Zeros};
+ghost use Rattle.panel_message.specs.promises.Message.{messageNumber, numberBy};
 
 // The first of the questions 4 to 6 that has the answer no, else 0.
 fn number_by(v: Verdict, named: bool) -> u32
@@ -46,21 +54,28 @@ fn message_number(feed: &[u8], s: &[u8]) -> u32
     )
 }
 
-// A MESSAGE: the state that it leaves in `new`, or the number of the first question whose answer is no.
-pub fn message(
+// The questions in their order, and the state that the message leaves in `new`.
+fn message_ending(
+    n: usize,
+    old: &[u8],
+    feed: &[u8],
+    s: &[u8],
     new: &mut [u8],
     keys: &mut [u8],
     marks: &mut [u32],
     order: &mut [u32],
-    feed: &[u8],
-    s: &[u8],
-    old: &[u8],
 ) -> Ending
-    requires { ⌜ Lent (now keys) (now marks) (now order) ⌝ }
-    requires { ⌜ length (now old) ≤ mostOld ⌝ }
-    ensures { λ r. ⌜ MessageEnds (now (old .entry)) (now (feed .entry)) (now (s .entry)) (now (new .entry))
+    requires { ⌜ n ≤ mostOld ⌝ }
+    ensures { λ r. ⌜ Ends (sized n) (now (old .entry))
+        (calls.message (now (feed .entry)) (now (s .entry)) (length (now (new .entry)))
+        (length (now (keys .entry)) ∷ length (now (marks .entry)) ∷ length (now (order .entry)) ∷ []))
         (now (new .exit)) r ⌝ }
 {
+    let given = [old.len(), new.len(), keys.len(), marks.len(), order.len()];
+    let due = [n, n, KEYS_LENGTH, MARKS_LENGTH, ORDER_LENGTH];
+    if !panel_output::same_lengths(&given, &due) {
+        return Ending::Refused(1);
+    }
     let Opened::At(end) = overlay_open::open(old) else {
         return Ending::Refused(2);
     };
@@ -69,4 +84,36 @@ pub fn message(
         return Ending::Refused(number);
     }
     panel_output::of_put(overlay_message::after_message(new, keys, marks, order, feed, s, old, end))
+}
+
+fn clear_work(keys: &mut [u8], marks: &mut [u32], order: &mut [u32])
+    ensures { λ _. ⌜ Zeros (now (keys .entry) ∷ now (marks .entry) ∷ now (order .entry) ∷ [])
+        (now (keys .exit) ∷ now (marks .exit) ∷ now (order .exit) ∷ []) ⌝ }
+{
+    slices::clear(keys);
+    slices::fill32(marks, 0);
+    slices::fill32(order, 0);
+}
+
+// A MESSAGE onto an overlay of n bytes.
+pub fn message(
+    n: usize,
+    old: &[u8],
+    feed: &[u8],
+    s: &[u8],
+    new: &mut [u8],
+    keys: &mut [u8],
+    marks: &mut [u32],
+    order: &mut [u32],
+) -> u32
+    requires { ⌜ n ≤ mostOld ⌝ }
+    ensures { λ r. ⌜ Given (sized n) (now (old .entry))
+        (calls.message (now (feed .entry)) (now (s .entry)) (length (now (new .entry)))
+        (length (now (keys .entry)) ∷ length (now (marks .entry)) ∷ length (now (order .entry)) ∷ []))
+        r (now (new .exit))
+        (now (keys .exit) ∷ now (marks .exit) ∷ now (order .exit) ∷ []) ⌝ }
+{
+    let e = message_ending(n, old, feed, s, new, keys, marks, order);
+    clear_work(keys, marks, order);
+    panel_output::finish(new, e)
 }

@@ -1,2 +1,3 @@
 pub mod Ending
-pub mod Zeroed
+pub mod Ends
+pub mod Lengths

@@ -1,13 +1,31 @@
-// How a call leaves its output: what it wrote and then zeros, or zeros alone where it is refused.
+// What all calls do alike: question 1, which compares lengths, and the output at the end: what was written and then
+// zeros, or zeros alone where the call is refused.
 use formats_write::Put;
 ghost use mathlib.Core.Path.{_≡_};
-ghost use lib.ListN.{length, replicate};
+ghost use Rattle.basics.specs.Texts.{same};
 ghost use Rattle.panel_output.specs.promises.Ending.{endingOf, putEnding, Cleared, Finished};
 
 // A call is refused by the question of this number, or it has written its output up to a place.
 pub enum Ending {
     Refused(u32),
     Written(usize),
+}
+
+// Question 1: whether buffers have the lengths that are due.
+pub fn same_lengths(given: &[usize], due: &[usize]) -> bool
+    ensures { λ r. ⌜ r ≡ same (now (given .entry)) (now (due .entry)) ⌝ }
+{
+    if given.len() != due.len() {
+        return false;
+    }
+    let mut i = 0;
+    while i < given.len() {
+        if given[i] != due[i] {
+            return false;
+        }
+        i += 1;
+    }
+    true
 }
 
 // What does not fit is the question's of this number.
@@ -50,21 +68,4 @@ pub fn finish(out: &mut [u8], e: Ending) -> u32
             0
         }
     }
-}
-
-// All elements of a working slice become 0.
-pub fn clear16(s: &mut [u16])
-    ensures { λ _. ⌜ now (s .exit) ≡ replicate (length (now (s .entry))) 0 ⌝ }
-{
-    let mut i = 0;
-    while i < s.len() {
-        s[i] = 0;
-        i += 1;
-    }
-}
-
-pub fn clear32(s: &mut [u32])
-    ensures { λ _. ⌜ now (s .exit) ≡ replicate (length (now (s .entry))) 0 ⌝ }
-{
-    slices::fill32(s, 0);
 }

@@ -6,8 +6,8 @@ ghost use mathlib.Core.List.{[], _∷_};
 ghost use lib.ListN.{length};
 ghost use Rattle.overlay.specs.Image.{stateOf};
 ghost use Rattle.panel.specs.Calls as calls;
-ghost use Rattle.panel_sized.specs.Lengths.{sized};
-ghost use Rattle.panel_sized.specs.Given.{Given};
+ghost use Rattle.panel.specs.Lengths.{sized};
+ghost use Rattle.panel.specs.Given.{Given};
 ghost use Rattle.panel_probes.specs.States.{endOf, lengthOf};
 
 // How long an overlay may be.
@@ -39,7 +39,7 @@ pub extern "C" fn states_fresh(new: &mut [u8]) -> u32
     ensures { λ r. ⌜ Given (sized (lengthOf (length (now (new .entry))))) [] (calls.fresh (length (now (new .entry)))) r
         (now (new .exit)) [] ⌝ }
 {
-    panel_sized::fresh(length_of(new.len()), new)
+    panel_report::fresh(length_of(new.len()), new)
 }
 
 // The calls over an overlay as long as the old one.
@@ -59,7 +59,7 @@ pub extern "C" fn states_message(
         r (now (new .exit))
         (now (keys .exit) ∷ now (marks .exit) ∷ now (order .exit) ∷ []) ⌝ }
 {
-    panel_sized_message::message(length_of(old.len()), old, feed, s, new, keys, marks, order)
+    panel_message::message(length_of(old.len()), old, feed, s, new, keys, marks, order)
 }
 
 #[no_mangle]
@@ -68,7 +68,7 @@ pub extern "C" fn states_alert_sheet(old: &[u8], feed: &[u8], sheet: &[u8], new:
         (calls.alertSheet (now (feed .entry)) (now (sheet .entry)) (length (now (new .entry))) []) r (now (new .exit))
         [] ⌝ }
 {
-    panel_sized::alert_sheet(length_of(old.len()), old, feed, sheet, new)
+    panel_sheets::alert_sheet(length_of(old.len()), old, feed, sheet, new)
 }
 
 #[no_mangle]
@@ -83,7 +83,7 @@ pub extern "C" fn states_vehicle_sheet(
         (calls.vehicleSheet (now (feed .entry)) (now (sheet .entry)) clock (length (now (new .entry))) []) r
         (now (new .exit)) [] ⌝ }
 {
-    panel_sized::vehicle_sheet(length_of(old.len()), old, feed, sheet, clock, new)
+    panel_sheets::vehicle_sheet(length_of(old.len()), old, feed, sheet, clock, new)
 }
 
 #[no_mangle]
@@ -91,7 +91,7 @@ pub extern "C" fn states_report(old: &[u8], feed: &[u8], out: &mut [u8]) -> u32
     ensures { λ r. ⌜ Given (sized (lengthOf (length (now (old .entry))))) (now (old .entry))
         (calls.report (now (feed .entry)) (length (now (out .entry)))) r (now (out .exit)) [] ⌝ }
 {
-    panel_sized::report(length_of(old.len()), old, feed, out)
+    panel_report::report(length_of(old.len()), old, feed, out)
 }
 
 #[no_mangle]
@@ -111,7 +111,7 @@ pub extern "C" fn states_card(
         r (now (out .exit))
         (now (candidates .exit) ∷ now (met .exit) ∷ now (noted .exit) ∷ now (known .exit) ∷ []) ⌝ }
 {
-    panel_sized_card::card(
+    panel_card::card(
         length_of(old.len()),
         old,
         card,

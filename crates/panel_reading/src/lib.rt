@@ -6,7 +6,7 @@ ghost use Prim.Native.Nat.{_≤_, _<_};
 ghost use lib.ListN.{length};
 ghost use Rattle.decode.specs.Sizes.{mostOld};
 ghost use Rattle.panel.specs.Calls as calls;
-ghost use Rattle.panel_sized.specs.Lengths.{sized, cardWork};
+ghost use Rattle.panel.specs.Lengths.{sized, cardWork};
 ghost use Rattle.panel_script.specs.Script.{within};
 ghost use Rattle.panel_writing.specs.promises.Ran.{Sound};
 ghost use Rattle.panel_reading.specs.promises.Told.{ToldReport, lengthsOf, ReadsCardWork, CardFits, Answers};
@@ -44,7 +44,7 @@ pub fn report(n: usize, q: Asked, s: &[u8], old: &[u8], out: &mut [u8], p: usize
     let feed = q.feed;
     let feed_from = feed.from;
     let feed_to = feed.to;
-    let k = panel_sized::report(n, old, &s[feed_from..feed_to], &mut out[from..to]);
+    let k = panel_report::report(n, old, &s[feed_from..feed_to], &mut out[from..to]);
     out[p] = octet(k);
     Put::At(to)
 }
@@ -96,7 +96,7 @@ fn run_card(
     let b = w.met;
     let c = w.noted;
     let d = w.known;
-    panel_sized_card::card(
+    panel_card::card(
         n,
         old,
         card,

@@ -8,7 +8,7 @@ ghost use Prim.Native.Nat.{_≤_, min};
 ghost use lib.ListN.{length, take};
 ghost use Rattle.decode.specs.Sizes.{mostOld};
 ghost use Rattle.panel.specs.Calls.{freshOverlay};
-ghost use Rattle.panel_sized.specs.Lengths.{sized, lengths};
+ghost use Rattle.panel.specs.Lengths.{sized, lengths};
 ghost use Rattle.panel_turn.specs.Lent.{lentTo};
 ghost use Rattle.panel_replay.specs.Replay.{ReplayHolds};
 ghost use Rattle.panel_replay.specs.promises.Turns.{Overlays, TurnsEnd, ScriptEnds};
@@ -57,7 +57,7 @@ fn begin(n: usize, a: &mut [u8])
     requires { ⌜ n ≤ length (now a) ⌝ }
     ensures { λ _. ⌜ take n (now (a .exit)) ≡ freshOverlay (sized n) ⌝ }
 {
-    panel_sized::fresh(n, &mut a[..n]);
+    panel_report::fresh(n, &mut a[..n]);
 }
 
 // The calls of a script, one after the other.

@@ -1,10 +1,11 @@
-// The fresh overlay, and the report on a feed.
+// The fresh overlay, and the report on a feed: a call of each.
 use formats_write::OptionalSigned;
 use formats_write::Put;
 use overlay_feeds::FeedPlace;
 use overlay_open::Opened;
 use panel_output::Ending;
 ghost use mathlib.Core.Path.{_≡_};
+ghost use mathlib.Core.List.{[]};
 ghost use lib.ListN.{length};
 ghost use Rattle.formats.specs.Format.{write};
 ghost use Rattle.formats.specs.Number.{zag};
@@ -12,10 +13,17 @@ ghost use Rattle.formats_write.specs.promises.Adds.{Adds};
 ghost use Rattle.formats_write.specs.promises.Given.{givenSigned};
 ghost use Rattle.overlay.specs.Report.{bits64, stamped};
 ghost use Rattle.overlay.specs.State.{overlay, noState};
-ghost use Rattle.panel_report.specs.promises.Report.{FreshEnds, ReportEnds, Reads, Written};
+ghost use Rattle.panel.specs.Calls as calls;
+ghost use Rattle.panel.specs.Given.{Given};
+ghost use Rattle.panel.specs.Lengths.{sized};
+ghost use Rattle.panel_output.specs.promises.Ends.{Ends};
+ghost use Rattle.panel_report.specs.promises.Report.{Reads, Written};
 
 // What the state without feeds takes.
 const FRESH: usize = 3;
+
+// What a report takes.
+const REPORT: usize = 25;
 
 // The state without feeds.
 fn write_fresh(new: &mut [u8], w: Put) -> Put
@@ -26,15 +34,23 @@ fn write_fresh(new: &mut [u8], w: Put) -> Put
     formats_write::number(new, w2, 0)
 }
 
-// A FRESH OVERLAY: in a buffer of its own length there is room for it, or question 1 has the answer no.
-pub fn fresh(new: &mut [u8]) -> Ending
-    ensures { λ r. ⌜ FreshEnds (now (new .entry)) (now (new .exit)) r ⌝ }
+// Question 1: the buffer has the length that is due, and there is room in it.
+fn fresh_ending(n: usize, new: &mut [u8]) -> Ending
+    ensures { λ r. ⌜ Ends (sized n) [] (calls.fresh (length (now (new .entry)))) (now (new .exit)) r ⌝ }
 {
-    if new.len() < FRESH {
-        return Ending::Refused(1);
+    if (new.len() == n) & (FRESH <= new.len()) {
+        let w = write_fresh(new, Put::At(0));
+        return panel_output::of_put(w);
     }
-    let w = write_fresh(new, Put::At(0));
-    panel_output::of_put(w)
+    Ending::Refused(1)
+}
+
+// A FRESH OVERLAY of n bytes.
+pub fn fresh(n: usize, new: &mut [u8]) -> u32
+    ensures { λ r. ⌜ Given (sized n) [] (calls.fresh (length (now (new .entry)))) r (now (new .exit)) [] ⌝ }
+{
+    let e = fresh_ending(n, new);
+    panel_output::finish(new, e)
 }
 
 // The 64 bits of a signed number, by how it is written.
@@ -102,11 +118,16 @@ fn write_report(out: &mut [u8], old: &[u8], feed: &[u8]) -> Put
     stamp(out, w2, timestamp)
 }
 
-// A REPORT: questions 2 and 5, then the version, and the feed's count and timestamp.
-pub fn report(old: &[u8], feed: &[u8], out: &mut [u8]) -> Ending
-    requires { ⌜ length (now out) ≡ 25 ⌝ }
-    ensures { λ r. ⌜ ReportEnds (now (old .entry)) (now (feed .entry)) (now (out .exit)) r ⌝ }
+// Questions 1, 2 and 5, then the version, and the feed's count and timestamp.
+fn report_ending(n: usize, old: &[u8], feed: &[u8], out: &mut [u8]) -> Ending
+    ensures { λ r. ⌜ Ends (sized n) (now (old .entry)) (calls.report (now (feed .entry)) (length (now (out .entry))))
+        (now (out .exit)) r ⌝ }
 {
+    let given = [old.len(), out.len()];
+    let due = [n, REPORT];
+    if !panel_output::same_lengths(&given, &due) {
+        return Ending::Refused(1);
+    }
     match overlay_open::open(old) {
         Opened::No => Ending::Refused(2),
         Opened::At(_) => {
@@ -117,4 +138,13 @@ pub fn report(old: &[u8], feed: &[u8], out: &mut [u8]) -> Ending
             Ending::Refused(5)
         }
     }
+}
+
+// A REPORT on a feed of an overlay of n bytes.
+pub fn report(n: usize, old: &[u8], feed: &[u8], out: &mut [u8]) -> u32
+    ensures { λ r. ⌜ Given (sized n) (now (old .entry)) (calls.report (now (feed .entry)) (length (now (out .entry)))) r
+        (now (out .exit)) [] ⌝ }
+{
+    let e = report_ending(n, old, feed, out);
+    panel_output::finish(out, e)
 }

@@ -9,7 +9,7 @@ ghost use mathlib.Core.List.{[], _∷_};
 ghost use Prim.Native.Nat.{_≤_};
 ghost use lib.ListN.{length, take};
 ghost use Rattle.decode.specs.Sizes.{mostOld};
-ghost use Rattle.panel_sized.specs.Lengths.{sized};
+ghost use Rattle.panel.specs.Lengths.{sized};
 ghost use Rattle.panel_writing.specs.promises.Ran.{Sound};
 ghost use Rattle.panel_turn.specs.Lent.{lentTo};
 ghost use Rattle.panel_turn.specs.promises.Turns.{current, acceptedOf, TellsNumber, ToldWriting, Turned};

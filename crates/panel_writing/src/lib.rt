@@ -11,7 +11,7 @@ ghost use lib.Seq.{slice};
 ghost use Rattle.formats_read.specs.promises.Here.{Here};
 ghost use Rattle.panel.specs.Calls as calls;
 ghost use Rattle.panel_script.specs.Script.{clockForm};
-ghost use Rattle.panel_sized.specs.Lengths.{sized};
+ghost use Rattle.panel.specs.Lengths.{sized};
 ghost use Rattle.panel_writing.specs.promises.Ran.{Spans, RanAs, MessageRan};
 ghost use Rattle.panel_writing.specs.promises.Ran.{ReadsWork, within3, Fits, Sound, WritesAs};
 
@@ -28,7 +28,7 @@ fn fresh(n: usize, lent: usize, out: usize, new: &mut [u8]) -> Ran
     if lent < out {
         return Ran::Unlent;
     }
-    Ran::Number(panel_sized::fresh(n, &mut new[..out]))
+    Ran::Number(panel_report::fresh(n, &mut new[..out]))
 }
 
 fn alert_sheet(n: usize, lent: usize, q: Asked, s: &[u8], old: &[u8], new: &mut [u8]) -> Ran
@@ -48,7 +48,7 @@ fn alert_sheet(n: usize, lent: usize, q: Asked, s: &[u8], old: &[u8], new: &mut 
     let feed_to = feed.to;
     let from = input.from;
     let to = input.to;
-    Ran::Number(panel_sized::alert_sheet(
+    Ran::Number(panel_sheets::alert_sheet(
         n,
         old,
         &s[feed_from..feed_to],
@@ -77,7 +77,7 @@ fn vehicle_sheet(n: usize, lent: usize, q: Asked, s: &[u8], old: &[u8], new: &mu
     let from = input.from;
     let to = input.to;
     let clock = formats_read::signed(s, q.clock);
-    Ran::Number(panel_sized::vehicle_sheet(
+    Ran::Number(panel_sheets::vehicle_sheet(
         n,
         old,
         &s[feed_from..feed_to],
@@ -141,7 +141,7 @@ fn run_message(
     let k = w.keys;
     let m = w.marks;
     let o = w.order;
-    panel_sized_message::message(
+    panel_message::message(
         n,
         old,
         &s[feed_from..feed_to],

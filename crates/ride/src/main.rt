@@ -31,6 +31,6 @@ fn play(a: &mut [u8], b: &mut [u8]) {
 fn main() {
     let mut a = memory::overlay();
     let mut b = memory::overlay();
-    panel_sized::fresh(memory::ROOM, &mut a);
+    panel_report::fresh(memory::ROOM, &mut a);
     play(&mut a, &mut b);
 }

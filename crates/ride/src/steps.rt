@@ -66,7 +66,7 @@ fn message_call(old: &[u8], feed: &[u8], s: &[u8], new: &mut [u8]) -> u32 {
     let mut keys = memory::keys();
     let mut marks = memory::marks();
     let mut order = memory::order();
-    panel_sized_message::message(ROOM, old, feed, s, new, &mut keys, &mut marks, &mut order)
+    panel_message::message(ROOM, old, feed, s, new, &mut keys, &mut marks, &mut order)
 }
 
 fn message(at: usize, old: &[u8], new: &mut [u8]) -> Turn {
@@ -99,7 +99,7 @@ fn alerts(at: usize, old: &[u8], new: &mut [u8]) -> Turn {
     }
     let k = f.count;
     let n = m.count;
-    let number = panel_sized::alert_sheet(ROOM, old, &feed[..k], &file[..n], new);
+    let number = panel_sheets::alert_sheet(ROOM, old, &feed[..k], &file[..n], new);
     tell(b"alerts", &feed[..k], number);
     Turn {
         wrote: number == 0,
@@ -119,7 +119,7 @@ fn vehicles(at: usize, old: &[u8], new: &mut [u8]) -> Turn {
     }
     let k = f.count;
     let n = m.count;
-    let number = panel_sized::vehicle_sheet(ROOM, old, &feed[..k], &file[..n], clock, new);
+    let number = panel_sheets::vehicle_sheet(ROOM, old, &feed[..k], &file[..n], clock, new);
     tell(b"vehicles", &feed[..k], number);
     Turn {
         wrote: number == 0,
@@ -132,7 +132,7 @@ fn card_call(old: &[u8], s: &[u8], out: &mut [u8]) -> u32 {
     let mut met = memory::numbers();
     let mut trips = memory::trips();
     let mut known = memory::known();
-    panel_sized_card::card(
+    panel_card::card(
         ROOM,
         old,
         s,

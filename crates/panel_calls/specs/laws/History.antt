@@ -9,9 +9,9 @@ use Rattle.panel.specs.Gained.{AlikeAll}
 use Rattle.panel.specs.Demand3.{Demand3}
 use Rattle.panel.specs.laws.Gained.{history-gains}
 use Rattle.panel.specs.laws.History.{history}
-use Rattle.panel_sized.specs.Lengths.{lengths}
-use Rattle.panel_sized.specs.Given.{Given}
-use Rattle.panel_sized.specs.laws.Lengths.{demand-3-compiled}
+use Rattle.panel.specs.Lengths.{lengths}
+use Rattle.panel.specs.Given.{Given}
+use Rattle.panel.specs.laws.Lengths.{demand-3-compiled}
 use Rattle.panel_calls.specs.History.{Made, Holds}
 
 -- calls that meet their promises give what a run of the definitions gives

@@ -1,13 +1,15 @@
 -- Law. A card's questions in their order, and the finished card.
 use mathlib.Core.Path.{_≡_, refl, sym, ap, _∙_}
-use mathlib.Core.Bool.{true, cond}
-use mathlib.Core.List.{List}
+use mathlib.Core.Bool.{Bool, true, false, cond}
+use mathlib.Core.List.{List, [], _∷_}
 use mathlib.Core.Option.{Option, none, some}
 use Prim.Native.Nat.{ℕ, _≤_, _<_}
 use native.Mathlib.Omega.{arith}
 use lib.Dec.{leb}
-use lib.ListN.{length, replicate}
+use lib.ListN.{length, getD, replicate}
 use Rattle.basics.specs.Options.{isSome}
+use Rattle.basics.specs.Texts.{same}
+use Rattle.basics.specs.laws.Texts.{same-true}
 use Rattle.formats.specs.Format.{write}
 use Rattle.formats_judge.specs.Judged.{ok}
 use Rattle.formats_read.specs.promises.Here.{Here}
@@ -37,21 +39,25 @@ use Rattle.journey.specs.laws.Found.{shown-judged}
 use Rattle.journey_places.specs.declared.CardPlaces.{CardPlaces}
 use Rattle.journey_places.specs.promises.Places.{CardAt}
 use Rattle.journey_finish.specs.promises.Finish.{StateIn}
-use Rattle.journey_alerts.specs.promises.Places.{mostText}
+use Rattle.journey_alerts.specs.promises.Places.{mostText, Lent}
 use Rattle.journey_survey.specs.declared.CardSurvey.{CardSurvey}
 use Rattle.journey_survey.specs.promises.Surveyed.{Surveyed}
 use Rattle.journey_enrich.specs.promises.Enrich.{Enriches}
 use Rattle.panel.specs.Outcome.{refused, need, needSome}
-use Rattle.panel.specs.Questions.{Lengths, whole, lengthsOk}
+use Rattle.panel.specs.Questions.{whole}
 use Rattle.panel.specs.Card.{finished, arrivingAsks, cardAsks}
-use Rattle.panel.specs.promises.Ends.{arrivingOutcome, cardCallOf}
+use Rattle.panel.specs.Calls as calls
+use Rattle.panel.specs.Given.{Given}
+use Rattle.panel.specs.Lengths.{sized, cardWork}
+use Rattle.panel.specs.promises.Ends.{arrivingOutcome}
 use Rattle.panel_output.specs.declared.Ending.{Ending}
 use Rattle.panel_output.specs.declared.Ending.the-variants.{Refused}
 use Rattle.panel_output.specs.laws.Ending.{written-as}
-use Rattle.panel_output.specs.promises.Ending.{outcomeOf, endingOf}
+use Rattle.panel_output.specs.laws.Ends.{cleared}
+use Rattle.panel_output.specs.promises.Ending.{outcomeOf, endingOf, Finished}
+use Rattle.panel_output.specs.promises.Ends.{Ends, Zeros}
 use Rattle.panel_questions.specs.laws.Whole.{all-read}
 use Rattle.panel_card.specs.promises.Card.{cardNumber, askedNumber, AskedNotes, Passed, FinishesCard}
-use Rattle.panel_card.specs.promises.Card.{CardEnds}
 use Rattle.panel_card.specs.laws.Number.{refused-so, passed}
 
 -- ---- what is known of the state and of the card
@@ -131,31 +137,77 @@ card-begins o c e z = let x = halves (card-here (fine o c e z .passes)) .first i
 
 -- ---- how the call ends
 
-module _ {o c l m : List ℕ} {n : ℕ} (e : n ≡ askedNumber o c) where
-  pub asked-no : (n ≡ 0 → ⊥) → CardEnds o c l m (Refused n)
-  unfolding arrivingAsks
-  asked-no z = record { is = λ L d. go L (stateOf o) e }
-    where
-      go : (L : Lengths) (s : Option State) → n ≡ cond (isSome s) (cardNumber c) 2
-          → refused n ≡ needSome s 2 (λ s.
-          need (leb (length c) 65536) 3 (needSome (whole card c) 4 (arrivingOutcome L s)))
-      go L none i = ap refused i
-      go L (some s) i = refused-so c _ _ i z
+-- question 1, of the lengths of the overlay, the output and the working buffers
+abbrev pub cardSized : ℕ → List ℕ → ℕ → ℕ → ℕ → ℕ → ℕ → Bool
+cardSized n o out a b c d = same (length o ∷ out ∷ a ∷ b ∷ c ∷ d ∷ []) (n ∷ 65536 ∷ cardWork)
 
-  pub card-ends : {w : Put} {r : Ending} → n ≡ 0 → FinishesCard o c l m w → r ≡ endingOf 8 w → CardEnds o c l m r
-  unfolding arrivingAsks finished
-  card-ends z F i = record {
-    is = λ L d.
-        let Y = fine o c e z in
+-- what the work asks of its buffers
+pub record Lends (o a b c : List ℕ) : Type 0 where
+  pub alerts : Lent o a b
+  pub noted : length c ≡ placesLength
+
+pub lends : (n : ℕ) (o : List ℕ) (out : ℕ) (a b c d : List ℕ) {t : Bool}
+    → t ≡ cardSized n o out (length a) (length b) (length c) (length d) → t ≡ true → n ≤ mostOld → Lends o a b c
+lends n o out a b c d A h m =
+    let e = same-true (length o ∷ out ∷ length a ∷ length b ∷ length c ∷ length d ∷ []) (n ∷ 65536 ∷ cardWork)
+    (sym A ∙ h) in
+    let z : length o ≡ n = ap (λ l. getD l 0 0) e in
+    record {
+      alerts = record {
+        numbers = ap (λ l. getD l 2 0) e;
+        marks = ap (λ l. getD l 3 0) e;
+        small = omega (arith, m, z);
+      };
+      noted = ap (λ l. getD l 4 0) e;
+    }
+
+-- what follows it
+asked-on : (n : ℕ) (o s : List ℕ) (out i j k l : ℕ) {t : Bool} → t ≡ cardSized n o out i j k l → t ≡ true
+    → calls.ends (sized n) o (calls.card s out (i ∷ j ∷ k ∷ l ∷ []))
+    ≡ needSome (stateOf o) 2 (λ st.
+    need (leb (length s) 65536) 3 (needSome (whole card s) 4 (arrivingOutcome (sized n) st)))
+unfolding cardAsks
+asked-on n o s out i j k l A h = rw (sym A ∙ h) refl
+
+module _ {n : ℕ} {o s : List ℕ} {out i j k l : ℕ} {t : Bool} (A : t ≡ cardSized n o out i j k l) where
+  pub card-unsized : {m : List ℕ} → t ≡ false → Ends (sized n) o (calls.card s out (i ∷ j ∷ k ∷ l ∷ [])) m (Refused 1)
+  unfolding cardAsks
+  card-unsized h = record { is = rw (sym A ∙ h) refl }
+
+  module _ (h : t ≡ true) {q : ℕ} (e : q ≡ askedNumber o s) where
+    pub asked-no : {m : List ℕ} → (q ≡ 0 → ⊥) → Ends (sized n) o (calls.card s out (i ∷ j ∷ k ∷ l ∷ [])) m (Refused q)
+    unfolding arrivingAsks
+    asked-no z = record { is = go (stateOf o) e ∙ sym (asked-on n o s out i j k l A h) }
+      where
+        go : (st : Option State) → q ≡ cond (isSome st) (cardNumber s) 2
+            → refused q ≡ needSome st 2 (λ st.
+            need (leb (length s) 65536) 3 (needSome (whole card s) 4 (arrivingOutcome (sized n) st)))
+        go none i = ap refused i
+        go (some st) i = refused-so s _ _ i z
+
+    pub card-ends : {m b : List ℕ} {w : Put} {r : Ending} → q ≡ 0 → out ≡ length b → FinishesCard o s b m w
+        → r ≡ endingOf 8 w → Ends (sized n) o (calls.card s out (i ∷ j ∷ k ∷ l ∷ [])) m r
+    unfolding arrivingAsks finished
+    card-ends {m} {b} z long F x =
+        let Y = fine o s e z in
         let P = Y .passes in
         let seven = finished-seven (Y .state) (state-seven o (Y .is)) (P .value) (P .seven) in
-        ap (outcomeOf m) i ∙ written-as 8 (F .wrote (Y .is) P)
-        ∙ sym (rw (Y .is, P .short, P .read, P .five, P .six, P .seven, seven, d) refl);
-  }
+        let same = same-true (length o ∷ out ∷ i ∷ j ∷ k ∷ l ∷ []) (n ∷ 65536 ∷ cardWork) (sym A ∙ h) in
+        let d : 65536 ≡ length b = sym (ap (λ l. getD l 1 0) same) ∙ long in
+        record {
+          is = ap (outcomeOf m) x ∙ written-as 8 (F .wrote (Y .is) P)
+              ∙ sym (asked-on n o s out i j k l A h ∙ rw (Y .is, P .short, P .read, P .five, P .six, P .seven, seven, d) refl);
+        }
 
--- THE CALL, where question 1 has the answer yes
-pub card-is : {o c l m : List ℕ} {r : Ending} → CardEnds o c l m r → (L : Lengths) (work : List ℕ)
-    → L .card ≡ length l → lengthsOk L o (length l) (L .card) work (L .work .card) ≡ true
-    → outcomeOf m r ≡ cardCallOf L o c (length l) work
-unfolding cardAsks
-card-is E L work e q = E .is L e ∙ sym (rw q refl)
+pub zeros-four : {a b c d a′ b′ c′ d′ : List ℕ} → a′ ≡ replicate (length a) 0 → b′ ≡ replicate (length b) 0
+    → c′ ≡ replicate (length c) 0 → d′ ≡ replicate (length d) 0
+    → Zeros (a ∷ b ∷ c ∷ d ∷ []) (a′ ∷ b′ ∷ c′ ∷ d′ ∷ [])
+zeros-four e f g h = record { is = rw (e, f, g, h) refl }
+
+-- A CARD'S CALL
+pub card-given : {n : ℕ} {old s m out : List ℕ} {size r i j k l : ℕ} {x : Ending} {a b c d : List ℕ}
+    {z : List (List ℕ)} → Ends (sized n) old (calls.card s size (i ∷ j ∷ k ∷ l ∷ [])) m x
+    → Zeros (a ∷ b ∷ c ∷ d ∷ []) z → length a ≡ i → length b ≡ j → length c ≡ k → length d ≡ l
+    → length m ≡ size → Finished m x out r
+    → Given (sized n) old (calls.card s size (i ∷ j ∷ k ∷ l ∷ [])) r out z
+card-given E Z α β γ δ k F = cleared E F k Z (rw (α, β, γ, δ) refl)

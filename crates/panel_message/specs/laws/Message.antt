@@ -1,14 +1,16 @@
 -- Law. A message's questions in their order, and what an accepted one leaves.
 use mathlib.Core.Path.{_≡_, refl, sym, ap, _∙_}
 use mathlib.Core.Bool.{Bool, true, false, cond, _&&_}
-use mathlib.Core.List.{List}
+use mathlib.Core.List.{List, [], _∷_}
 use mathlib.Core.Option.{Option, none, some}
 use Prim.Native.Nat.{ℕ, _≤_, _<_}
 use native.Mathlib.Omega.{arith}
 use lib.Dec.{leb}
-use lib.ListN.{length}
+use lib.ListN.{length, getD, replicate}
 use borrow.Author.Tests.{leb-true, lt-leb, le-leb}
+use Rattle.basics.specs.Texts.{same}
 use Rattle.basics.specs.laws.Booleans.{both-true}
+use Rattle.basics.specs.laws.Texts.{same-true}
 use Rattle.formats.specs.Class.{token, inClass}
 use Rattle.formats.specs.Format.{write}
 use Rattle.formats_judge.specs.Judged.{ok}
@@ -17,7 +19,8 @@ use Rattle.realtime.specs.Tree.{Tree, tree}
 use Rattle.realtime.specs.Schema.{feedMessage, feed}
 use Rattle.realtime.specs.Judge.{rules, asked, textsFine, numbersFine}
 use Rattle.realtime.specs.declared.Verdict.{Verdict}
-use Rattle.decode.specs.Sizes.{mostFeed}
+use Rattle.decode.specs.Sizes.{keysLength, marksLength, orderLength, mostFeed, mostOld}
+use Rattle.decode_slots.specs.promises.Index.{Lent}
 use Rattle.decode_index.specs.promises.Message.{JudgedMessage}
 use Rattle.overlay.specs.State.{State, overlay}
 use Rattle.overlay.specs.Image.{room, stateOf}
@@ -25,14 +28,19 @@ use Rattle.overlay.specs.Change.{afterMessage}
 use Rattle.overlay_open.specs.promises.Held.{Open}
 use Rattle.overlay_message.specs.promises.Message.{Answers, Leads}
 use Rattle.panel.specs.Outcome.{Outcome, refused, accepted, need, needSome}
-use Rattle.panel.specs.Questions.{Lengths, feedOk, lengthsOk}
+use Rattle.panel.specs.Questions.{Lengths, feedOk}
 use Rattle.panel.specs.Message.{messageAsks, treeAsks}
-use Rattle.panel.specs.promises.Ends.{changedState, messageOf}
+use Rattle.panel.specs.Calls as calls
+use Rattle.panel.specs.Given.{Given}
+use Rattle.panel.specs.Lengths.{sized}
+use Rattle.panel.specs.promises.Ends.{changedState, treeOutcome}
 use Rattle.panel_output.specs.declared.Ending.{Ending}
 use Rattle.panel_output.specs.declared.Ending.the-variants.{Refused}
 use Rattle.panel_output.specs.laws.Ending.{written-outcome}
-use Rattle.panel_output.specs.promises.Ending.{outcomeOf, putEnding}
-use Rattle.panel_message.specs.promises.Message.{MessageEnds, messageNumber, numberBy}
+use Rattle.panel_output.specs.laws.Ends.{cleared}
+use Rattle.panel_output.specs.promises.Ending.{outcomeOf, putEnding, Finished}
+use Rattle.panel_output.specs.promises.Ends.{Ends, Zeros}
+use Rattle.panel_message.specs.promises.Message.{messageNumber, numberBy}
 
 -- ---- the questions 3 to 6
 
@@ -105,19 +113,6 @@ module _ {f m : List ℕ} (P : Passed f m) where
 
 -- ---- how the call ends
 
-pub no-state : {o f m l n : List ℕ} → stateOf o ≡ none → MessageEnds o f m l n (Refused 2)
-no-state e = record { is = λ L d. rw e refl }
-
-pub asked-no : {o f m l n : List ℕ} {end q : ℕ} → Open o end → q ≡ messageNumber f m → (q ≡ 0 → ⊥)
-    → MessageEnds o f m l n (Refused q)
-unfolding treeAsks
-asked-no {o} {f} {m} {q} O e z = record {
-  is = λ L d.
-      rw (O .is)
-      (chain-refused f (λ t. changedState L o (afterMessage f t (O .state))) (leb (length m) 1048576)
-      (tree feed feedMessage m) q e z);
-}
-
 changed-outcome : (L : Lengths) (o : List ℕ) {l n : List ℕ} {w : Put} (s : State) → L .overlay ≡ length l
     → Answers (ok 7 overlay s) l n w (write overlay s) → outcomeOf n (putEnding w) ≡ changedState L o s
 unfolding room
@@ -129,21 +124,83 @@ changed-outcome L o {l} {n} {w} s d A = go (ok 7 overlay s) refl
     go true e = rw d (written-outcome (A .yes e))
     go false e = ap (λ w. outcomeOf n (putEnding w)) (A .no e)
 
-pub message-ends : {o f m l n : List ℕ} {end : ℕ} {w : Put} {r : Ending} → Open o end → Passed f m
-    → Leads l n w f m o → r ≡ putEnding w → MessageEnds o f m l n r
-unfolding treeAsks
-message-ends {o} {f} {m} {l} {n} {r} O P A e = record {
-  is = λ L d.
-      ap (outcomeOf n) e ∙ changed-outcome L o (afterMessage f (P .message) (O .state)) d (A .of (O .is) (P .read))
-      ∙ sym (rw (O .is, P .short, P .read, P .named, P .texts, P .numbers) refl);
-}
+-- question 1, of the lengths of the overlays and of the working buffers
+abbrev pub messageSized : ℕ → List ℕ → ℕ → ℕ → ℕ → ℕ → Bool
+messageSized n o new keys marks order =
+    same (length o ∷ new ∷ keys ∷ marks ∷ order ∷ []) (n ∷ n ∷ keysLength ∷ marksLength ∷ orderLength ∷ [])
 
--- THE CALL, where question 1 has the answer yes
-pub message-is : {o f m l n : List ℕ} {r : Ending} → MessageEnds o f m l n r → (L : Lengths) (work : List ℕ)
-    → L .overlay ≡ length l → lengthsOk L o (length l) (L .overlay) work (L .work .message) ≡ true
-    → outcomeOf n r ≡ messageOf L o f m (length l) work
+-- what the work asks of its buffers
+pub record Lends (o keys marks order : List ℕ) : Type 0 where
+  pub buffers : Lent keys marks order
+  pub short : length o ≤ mostOld
+
+pub lends : (n : ℕ) (o : List ℕ) (new : ℕ) (keys marks order : List ℕ) {a : Bool}
+    → a ≡ messageSized n o new (length keys) (length marks) (length order) → a ≡ true → n ≤ mostOld
+    → Lends o keys marks order
+lends n o new keys marks order A h m =
+    let e = same-true (length o ∷ new ∷ length keys ∷ length marks ∷ length order ∷ [])
+    (n ∷ n ∷ keysLength ∷ marksLength ∷ orderLength ∷ []) (sym A ∙ h) in
+    let z : length o ≡ n = ap (λ l. getD l 0 0) e in
+    record {
+      buffers = record {
+        keyed = ap (λ l. getD l 2 0) e;
+        marked = ap (λ l. getD l 3 0) e;
+        ordered = ap (λ l. getD l 4 0) e;
+      };
+      short = omega (arith, m, z);
+    }
+
+-- what follows it
+asked-on : (n : ℕ) (o f s : List ℕ) (new keys marks order : ℕ) {a : Bool} → a ≡ messageSized n o new keys marks order
+    → a ≡ true
+    → calls.ends (sized n) o (calls.message f s new (keys ∷ marks ∷ order ∷ []))
+    ≡ needSome (stateOf o) 2 (λ t.
+    need (leb (length s) 1048576) 3 (needSome (tree feed feedMessage s) 4 (treeOutcome (sized n) o f t)))
 unfolding messageAsks
-message-is E L work e q = E .is L e ∙ sym (rw q refl)
+asked-on n o f s new keys marks order A h = rw (sym A ∙ h) refl
+
+module _ {n : ℕ} {o f s : List ℕ} {new keys marks order : ℕ} {a : Bool}
+    (A : a ≡ messageSized n o new keys marks order) where
+  pub message-unsized : {m : List ℕ} → a ≡ false → Ends (sized n) o (calls.message f s new (keys ∷ marks ∷ order ∷ [])) m (Refused 1)
+  unfolding messageAsks
+  message-unsized h = record { is = rw (sym A ∙ h) refl }
+
+  module _ (h : a ≡ true) where
+    pub no-state : {m : List ℕ} → stateOf o ≡ none → Ends (sized n) o (calls.message f s new (keys ∷ marks ∷ order ∷ [])) m (Refused 2)
+    no-state e = record { is = sym (asked-on n o f s new keys marks order A h ∙ rw e refl) }
+
+    pub asked-no : {m : List ℕ} {end q : ℕ} → Open o end → q ≡ messageNumber f s → (q ≡ 0 → ⊥)
+        → Ends (sized n) o (calls.message f s new (keys ∷ marks ∷ order ∷ [])) m (Refused q)
+    unfolding treeAsks
+    asked-no {q} O e z = record {
+      is = chain-refused f (λ t. changedState (sized n) o (afterMessage f t (O .state))) (leb (length s) 1048576)
+          (tree feed feedMessage s) q e z
+          ∙ sym (asked-on n o f s new keys marks order A h ∙ rw (O .is) refl);
+    }
+
+    pub message-ends : {l m : List ℕ} {end : ℕ} {w : Put} {r : Ending} → Open o end → Passed f s
+        → new ≡ length l → Leads l m w f s o → r ≡ putEnding w → Ends (sized n) o (calls.message f s new (keys ∷ marks ∷ order ∷ [])) m r
+    unfolding treeAsks
+    message-ends {l} {m} O P k W e =
+        let e′ = same-true (length o ∷ new ∷ keys ∷ marks ∷ order ∷ [])
+        (n ∷ n ∷ keysLength ∷ marksLength ∷ orderLength ∷ []) (sym A ∙ h) in
+        let d : n ≡ length l = sym (ap (λ l. getD l 1 0) e′) ∙ k in
+        record {
+          is = ap (outcomeOf m) e
+              ∙ changed-outcome (sized n) o (afterMessage f (P .message) (O .state)) d (W .of (O .is) (P .read))
+              ∙ sym (asked-on n o f s new keys marks order A h ∙ rw (O .is, P .short, P .read, P .named, P .texts, P .numbers) refl);
+        }
+
+pub zeros-three : {a b c a′ b′ c′ : List ℕ} → a′ ≡ replicate (length a) 0 → b′ ≡ replicate (length b) 0
+    → c′ ≡ replicate (length c) 0 → Zeros (a ∷ b ∷ c ∷ []) (a′ ∷ b′ ∷ c′ ∷ [])
+zeros-three e f g = record { is = rw (e, f, g) refl }
+
+-- A MESSAGE'S CALL
+pub message-given : {n : ℕ} {old f s m out : List ℕ} {new keys marks order r : ℕ} {x : Ending} {a b c : List ℕ}
+    {z : List (List ℕ)} → Ends (sized n) old (calls.message f s new (keys ∷ marks ∷ order ∷ [])) m x
+    → Zeros (a ∷ b ∷ c ∷ []) z → length a ≡ keys → length b ≡ marks → length c ≡ order → length m ≡ new
+    → Finished m x out r → Given (sized n) old (calls.message f s new (keys ∷ marks ∷ order ∷ [])) r out z
+message-given E Z i j k l F = cleared E F l Z (rw (i, j, k) refl)
 
 -- ---- the number, by the tests that the code makes
 

@@ -9,8 +9,8 @@ use borrow.Author.Tests.{leb-true, le-leb, lt-leb}
 use Rattle.decode.specs.Sizes.{mostOld}
 use Rattle.overlay.specs.Buffer.{published}
 use Rattle.panel.specs.Calls.{Call}
-use Rattle.panel_sized.specs.Lengths.{sized}
-use Rattle.panel_sized.specs.Given.{Given}
+use Rattle.panel.specs.Lengths.{sized}
+use Rattle.panel.specs.Given.{Given}
 use Rattle.panel_probes.specs.States.{lengthOf}
 
 pub own-length : (n : ℕ) → n ≤ 111398044 → n ≡ lengthOf n

@@ -13,8 +13,8 @@ use Rattle.formats_write.specs.declared.Put.the-variants.{At, Full}
 use Rattle.formats_write.specs.laws.Slices.{slice-is}
 use Rattle.panel.specs.Questions.{Lengths}
 use Rattle.panel.specs.Calls.{Call, card}
-use Rattle.panel_sized.specs.Given.{Given}
-use Rattle.panel_sized.specs.Lengths.{cardWork}
+use Rattle.panel.specs.Given.{Given}
+use Rattle.panel.specs.Lengths.{cardWork}
 use Rattle.panel_script.specs.Script.{within}
 use Rattle.panel_script.specs.declared.Asked.{Asked}
 use Rattle.panel_script.specs.promises.Asked.{ReadsLength}

@@ -15,7 +15,7 @@ use Rattle.formats_write.specs.laws.Slices.{slice-is}
 use Rattle.panel.specs.Questions.{Lengths}
 use Rattle.panel.specs.Calls.{Call, report, Gave, gives, outOf, writes}
 use Rattle.panel.specs.laws.Sizes.{out-long}
-use Rattle.panel_sized.specs.Given.{Given}
+use Rattle.panel.specs.Given.{Given}
 use Rattle.panel_script.specs.Tells.{telling}
 use Rattle.panel_script.specs.laws.Told.{stands-long}
 use Rattle.panel_script.specs.declared.Asked.{Asked}

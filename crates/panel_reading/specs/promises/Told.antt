@@ -10,7 +10,7 @@ use Rattle.formats_write.specs.promises.Adds.{Adds}
 use Rattle.formats_read.specs.promises.Here.{Here}
 use Rattle.panel.specs.Questions.{Lengths}
 use Rattle.panel.specs.Calls.{Call, card, report, gives}
-use Rattle.panel_sized.specs.Lengths.{cardWork}
+use Rattle.panel.specs.Lengths.{cardWork}
 use Rattle.panel_script.specs.Script.{lengthsForm, asMany, within}
 use Rattle.panel_script.specs.Tells.{telling}
 use Rattle.panel_script.specs.declared.Asked.{Asked}

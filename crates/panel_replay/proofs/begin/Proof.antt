@@ -3,7 +3,7 @@ use mathlib.Core.Path.{sym}
 use borrow.Author.Needs.{needs}
 use lib.Seq.{length-take-le}
 use Rattle.panel_replay.specs.laws.Replay.{begun}
-use Rattle.panel_sized.specs.Lengths.{sized}
+use Rattle.panel.specs.Lengths.{sized}
 use Rattle.panel_replay.proofs.begin.Tie as tie
 use Rattle.panel_replay.proofs.begin.Statement.{statement}
 

@@ -4,7 +4,7 @@ use mathlib.Core.Path.{_≡_, refl}
 use borrow.Author.Needs.{needs}
 use native.Mathlib.Omega.{arith}
 use Rattle.panel_turn.specs.Lent.{lentTo}
-use Rattle.panel_sized.specs.Lengths.{sized}
+use Rattle.panel.specs.Lengths.{sized}
 use Rattle.panel_turn.specs.promises.Turns.{current}
 use Rattle.panel_replay.specs.laws.Replay.{Taken, no-turns, lent-as, one-turn, turns-full, turns-done}
 use Rattle.panel_replay.proofs.take_turns.Tie as tie

@@ -13,7 +13,7 @@ use Rattle.panel.specs.laws.Sizes.{out-long}
 use Rattle.panel_output.specs.declared.Ending.{Ending}
 use Rattle.panel_output.specs.declared.Ending.the-variants.{Refused}
 use Rattle.panel_output.specs.promises.Ending.{endingOf, Finished}
-use Rattle.panel_sized.specs.Given.{Given}
+use Rattle.panel.specs.Given.{Given}
 use Rattle.panel_script.specs.Script.{callForm, Lent}
 use Rattle.panel_script.specs.Tells.{Replays}
 use Rattle.panel_script.specs.laws.Told.{replay-told, replay-gained}

@@ -54,6 +54,13 @@ value-fine true true false seven e = absurd (omega (arith, e))
 value-fine true true true false e = absurd (omega (arith, e))
 value-fine true true true true e = record { feed = refl; fifth = refl; seventh = refl }
 
+-- QUESTION 1
+pub alerts-unsized : (L : Lengths) (old f sheet : List ℕ) (new : ℕ) (work : List ℕ)
+    → lengthsOk L old new (L .overlay) work (L .work .alertSheet) ≡ false
+    → refused 1 ≡ alertSheetOf L old f sheet new work
+unfolding alertSheetAsks
+alerts-unsized L old f sheet new work h = rw h refl
+
 module _ (L : Lengths) (old f sheet : List ℕ) (new : ℕ) (work : List ℕ)
     (h : lengthsOk L old new (L .overlay) work (L .work .alertSheet) ≡ true) where
   abbrev asks : State → Outcome

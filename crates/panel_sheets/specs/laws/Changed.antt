@@ -23,21 +23,11 @@ use Rattle.overlay.specs.Image.{room}
 use Rattle.overlay.specs.Change.{feedAt, putFeed, afterAlerts}
 use Rattle.overlay_bodies.specs.promises.Bodies.{withAlerts}
 use Rattle.overlay_sheets.specs.promises.Sheets.{Changes}
-use Rattle.panel.specs.Outcome.{Outcome, refused, accepted, need, numberOf, bytesOf}
+use Rattle.panel.specs.Outcome.{refused, accepted, need}
 use Rattle.panel.specs.Questions.{Lengths}
 use Rattle.panel.specs.promises.Ends.{changedState}
-use Rattle.panel_output.specs.declared.Ending.{Ending}
-use Rattle.panel_output.specs.promises.Ending.{outcomeOf, putEnding, Finished}
+use Rattle.panel_output.specs.promises.Ending.{outcomeOf, putEnding}
 use Rattle.panel_output.specs.laws.Ending.{written-outcome}
-use Rattle.panel_sheets.specs.promises.Calls.{Gives}
-
--- a call that ends so gives the outcome
-pub gives : {o : Outcome} {l m : List ℕ} {e : Ending} {r : ℕ} (n : ℕ) → length l ≡ n → outcomeOf l e ≡ o
-    → Finished l e m r → Gives n o r m
-gives {l} {e} n k d F = record {
-  number = F .number ∙ ap numberOf d;
-  bytes = F .bytes ∙ ap (λ n. bytesOf n (outcomeOf l e)) k ∙ ap (bytesOf n) d;
-}
 
 -- what is written, or not, is the outcome
 pub changed-outcome : (L : Lengths) (old : List ℕ) {l m : List ℕ} {q : Put} (s : State) → length l ≡ L .overlay

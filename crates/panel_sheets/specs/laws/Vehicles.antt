@@ -82,6 +82,13 @@ value-fine true true true true false e = absurd (omega (arith, e))
 value-fine true true true false true e = record { feed = refl; fifth = refl; sixth = refl; clock = refl }
 value-fine true true true false false e = absurd (omega (arith, e))
 
+-- QUESTION 1
+pub vehicles-unsized : (L : Lengths) (old f sheet : List ℕ) (clock : ℤ) (new : ℕ) (work : List ℕ)
+    → lengthsOk L old new (L .overlay) work (L .work .vehicleSheet) ≡ false
+    → refused 1 ≡ vehicleSheetOf L old f sheet clock new work
+unfolding vehicleSheetAsks
+vehicles-unsized L old f sheet clock new work h = rw h refl
+
 module _ (L : Lengths) (old f sheet : List ℕ) (clock : ℤ) (new : ℕ) (work : List ℕ)
     (h : lengthsOk L old new (L .overlay) work (L .work .vehicleSheet) ≡ true) where
   abbrev asks : State → Outcome

@@ -15,7 +15,7 @@ use Rattle.formats_write.specs.promises.Adds.{Adds}
 use Rattle.formats_write.specs.laws.Adds as adds
 use Rattle.panel.specs.Questions.{Lengths}
 use Rattle.panel.specs.Calls.{Call, report, gives, writes, overlayAfter}
-use Rattle.panel_sized.specs.Lengths.{sized}
+use Rattle.panel.specs.Lengths.{sized}
 use Rattle.panel_script.specs.Script.{callBy, callOf, Lent, lends}
 use Rattle.panel_script.specs.declared.Asked.{Asked}
 use Rattle.panel_script.specs.promises.Asked.{ReadsCall}

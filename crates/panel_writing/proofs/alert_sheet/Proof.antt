@@ -1,4 +1,4 @@
-use Rattle.panel_sized.specs.Lengths.{sized}
+use Rattle.panel.specs.Lengths.{sized}
 use mathlib.Core.Path.{sym}
 use lib.Seq.{length-take-le}
 use Rattle.panel_writing.specs.laws.Ran.{unlent, alerts-ran}
@@ -7,7 +7,7 @@ use Rattle.panel_writing.proofs.alert_sheet.Statement.{statement}
 use Rattle.panel_writing.proofs.alert_sheet.Tie as tie
 use Rattle.panel_writing.proofs.alert_sheet.Reads as reads
 use Rattle.panel_writing.proofs.alert_sheet.Lts as lts
-use Rattle.panel_sized.proofs.alert_sheet.Reads as alert-sheet-reads
+use Rattle.panel_sheets.proofs.alert_sheet.Reads as alert-sheet-reads
 
 -- src/writing.rt:41:9
 returns : tie.Need-returns

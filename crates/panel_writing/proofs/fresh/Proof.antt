@@ -1,14 +1,14 @@
 use mathlib.Core.Path.{sym}
 use mathlib.Core.List.{[]}
 use lib.Seq.{length-take-le}
-use Rattle.panel_sized.specs.Lengths.{sized}
+use Rattle.panel.specs.Lengths.{sized}
 use Rattle.panel_writing.specs.laws.Ran.{unlent, fresh-ran}
 use borrow.Author.Needs.{needs}
 use Rattle.panel_writing.proofs.fresh.Statement.{statement}
 use Rattle.panel_writing.proofs.fresh.Tie as tie
 use Rattle.panel_writing.proofs.fresh.Reads as reads
 use Rattle.panel_writing.proofs.fresh.Lts as lts
-use Rattle.panel_sized.proofs.fresh.Reads as fresh-reads
+use Rattle.panel_report.proofs.fresh.Reads as fresh-reads
 
 -- src/writing.rt:27:9
 returns : tie.Need-returns

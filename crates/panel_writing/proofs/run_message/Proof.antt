@@ -1,4 +1,4 @@
-use Rattle.panel_sized.specs.Lengths.{sized}
+use Rattle.panel.specs.Lengths.{sized}
 use mathlib.Core.Path.{sym}
 use lib.Seq.{length-take-le}
 use Rattle.panel_writing.specs.laws.Ran.{message-run}
@@ -7,7 +7,7 @@ use Rattle.panel_writing.proofs.run_message.Statement.{statement}
 use Rattle.panel_writing.proofs.run_message.Tie as tie
 use Rattle.panel_writing.proofs.run_message.Reads as reads
 use Rattle.panel_writing.proofs.run_message.Lts as lts
-use Rattle.panel_sized_message.proofs.message.Reads as message-reads
+use Rattle.panel_message.proofs.message.Reads as message-reads
 
 -- src/writing.rt:152:9
 sub-message : tie.Need-sub-message

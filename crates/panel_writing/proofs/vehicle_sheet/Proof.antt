@@ -1,6 +1,6 @@
 use mir.Syntax.{w64}
 use mir.Facts.{toZ-ofZ}
-use Rattle.panel_sized.specs.Lengths.{sized}
+use Rattle.panel.specs.Lengths.{sized}
 use mathlib.Core.Path.{sym, _∙_}
 use lib.Seq.{length-take-le}
 use Rattle.panel_writing.specs.laws.Ran.{unlent, vehicles-ran}
@@ -10,7 +10,7 @@ use Rattle.panel_writing.proofs.vehicle_sheet.Tie as tie
 use Rattle.panel_writing.proofs.vehicle_sheet.Reads as reads
 use Rattle.panel_writing.proofs.vehicle_sheet.Lts as lts
 use Rattle.formats_read.proofs.signed.Reads as signed-reads
-use Rattle.panel_sized.proofs.vehicle_sheet.Reads as vehicle-sheet-reads
+use Rattle.panel_sheets.proofs.vehicle_sheet.Reads as vehicle-sheet-reads
 
 -- src/writing.rt:69:9
 returns : tie.Need-returns

@@ -14,7 +14,7 @@ use Rattle.panel.specs.Calls.{Call, fresh, alertSheet, vehicleSheet, card, repo
 use Rattle.panel_script.specs.Script.{clockForm, callForm, asMany, callBy, callOf, Lent, within, lends}
 use Rattle.panel_script.specs.declared.Asked.{Asked}
 use Rattle.panel_script.specs.promises.Asked.{Reads}
-use Rattle.panel_sized.specs.Lengths.{sized}
+use Rattle.panel.specs.Lengths.{sized}
 use Rattle.panel_writing.specs.promises.Ran.{RanAs, MessageRan, WritesAs}
 use Rattle.panel_writing.specs.declared.Ran.{Ran}
 

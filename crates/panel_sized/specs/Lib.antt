@@ -1,4 +1,0 @@
-pub mod Lengths
-pub mod Given
-pub mod promises
-pub mod laws
