@@ -1,6 +1,6 @@
 -- Believe: 01, Questions before work. The lengths that docs/ publishes, with the overlay's as a parameter.
 use Prim.Native.Nat.{ℕ}
-use mathlib.Core.List.{List, [], _∷_}
+use mathlib.Core.List.{List, [], _∷_, _++_}
 use Rattle.overlay.specs.Buffer.{published}
 use Rattle.panel.specs.Questions.{Working, Lengths}
 
@@ -28,3 +28,8 @@ sized n = record {
 -- THE PUBLISHED LENGTHS
 abbrev pub lengths : Lengths
 lengths = sized published
+
+-- in one row, as a host asks for them: the overlay's, a card's, a report's, those of a message's working buffers and of
+-- a card's
+abbrev pub publishedLengths : List ℕ
+publishedLengths = lengths .overlay ∷ lengths .card ∷ 25 ∷ (lengths .work .message ++ lengths .work .card)

@@ -4,9 +4,8 @@ ghost use mathlib.Core.Path.{_≡_};
 ghost use mathlib.Core.List.{[], _∷_};
 ghost use lib.ListN.{length, getD};
 ghost use Rattle.panel.specs.Calls as calls;
-ghost use Rattle.panel.specs.Lengths.{lengths};
+ghost use Rattle.panel.specs.Lengths.{lengths, publishedLengths};
 ghost use Rattle.panel.specs.Given.{Given};
-ghost use Rattle.panel_calls.specs.Published.{publishedLengths};
 
 // How long an overlay is.
 const OVERLAY: usize = 111398044;

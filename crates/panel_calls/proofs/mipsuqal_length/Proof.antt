@@ -2,7 +2,7 @@
 use mathlib.Core.Path.{sym}
 use lib.ListN.{List·getD-eq-default}
 use borrow.Author.Needs.{needs}
-use Rattle.panel_calls.specs.Published.{publishedLengths}
+use Rattle.panel.specs.Lengths.{publishedLengths}
 use Rattle.panel_calls.proofs.mipsuqal_length.Statement.{statement}
 use Rattle.panel_calls.proofs.mipsuqal_length.Tie as tie
 

@@ -2,17 +2,17 @@
 use mathlib.Core.Path.{_≡_, refl, sym, ap, ap₂, _∙_}
 use mathlib.Core.List.{List, [], _∷_}
 use Prim.Native.Nat.{ℕ}
 use Rattle.panel.specs.Calls.{Call, fresh, Gave, gives, overlayAfter, freshOverlay, run, numbersGiven}
 use Rattle.panel.specs.Rule.{noBook}
 use Rattle.panel.specs.Book.{History}
 use Rattle.panel.specs.Gained.{AlikeAll}
 use Rattle.panel.specs.Demand3.{Demand3}
 use Rattle.panel.specs.laws.Gained.{history-gains}
 use Rattle.panel.specs.laws.History.{history}
 use Rattle.panel.specs.Lengths.{lengths}
 use Rattle.panel.specs.Given.{Given}
 use Rattle.panel.specs.laws.Lengths.{demand-3-compiled}
-use Rattle.panel_calls.specs.History.{Made, Holds}
+use Rattle.panel.specs.Made.{Made, Holds}
 
 -- calls that meet their promises give what a run of the definitions gives
 pub made-run : (old : List ℕ) (cs : List Call) (gs : List Gave) → Made old cs gs → gs ≡ run lengths old cs

@@ -1,3 +1,0 @@
-pub mod Published
-pub mod History
-pub mod laws
