@@ -196,7 +196,9 @@ module _ {n : ℕ} {o s : List ℕ} {out i j k l : ℕ} {t : Bool} (A : t ≡ ca
         let d : 65536 ≡ length b = sym (ap (λ l. getD l 1 0) same) ∙ long in
         record {
           is = ap (outcomeOf m) x ∙ written-as 8 (F .wrote (Y .is) P)
-              ∙ sym (asked-on n o s out i j k l A h ∙ rw (Y .is, P .short, P .read, P .five, P .six, P .seven, seven, d) refl);
+              ∙ sym
+              (asked-on n o s out i j k l A h
+              ∙ rw (Y .is, P .short, P .read, P .five, P .six, P .seven, seven, d) refl);
         }
 
 pub zeros-four : {a b c d a′ b′ c′ d′ : List ℕ} → a′ ≡ replicate (length a) 0 → b′ ≡ replicate (length b) 0

@@ -161,12 +161,14 @@ asked-on n o f s new keys marks order A h = rw (sym A ∙ h) refl
 
 module _ {n : ℕ} {o f s : List ℕ} {new keys marks order : ℕ} {a : Bool}
     (A : a ≡ messageSized n o new keys marks order) where
-  pub message-unsized : {m : List ℕ} → a ≡ false → Ends (sized n) o (calls.message f s new (keys ∷ marks ∷ order ∷ [])) m (Refused 1)
+  pub message-unsized : {m : List ℕ} → a ≡ false
+      → Ends (sized n) o (calls.message f s new (keys ∷ marks ∷ order ∷ [])) m (Refused 1)
   unfolding messageAsks
   message-unsized h = record { is = rw (sym A ∙ h) refl }
 
   module _ (h : a ≡ true) where
-    pub no-state : {m : List ℕ} → stateOf o ≡ none → Ends (sized n) o (calls.message f s new (keys ∷ marks ∷ order ∷ [])) m (Refused 2)
+    pub no-state : {m : List ℕ} → stateOf o ≡ none
+        → Ends (sized n) o (calls.message f s new (keys ∷ marks ∷ order ∷ [])) m (Refused 2)
     no-state e = record { is = sym (asked-on n o f s new keys marks order A h ∙ rw e refl) }
 
     pub asked-no : {m : List ℕ} {end q : ℕ} → Open o end → q ≡ messageNumber f s → (q ≡ 0 → ⊥)
@@ -179,7 +181,8 @@ module _ {n : ℕ} {o f s : List ℕ} {new keys marks order : ℕ} {a : Bool}
     }
 
     pub message-ends : {l m : List ℕ} {end : ℕ} {w : Put} {r : Ending} → Open o end → Passed f s
-        → new ≡ length l → Leads l m w f s o → r ≡ putEnding w → Ends (sized n) o (calls.message f s new (keys ∷ marks ∷ order ∷ [])) m r
+        → new ≡ length l → Leads l m w f s o → r ≡ putEnding w
+        → Ends (sized n) o (calls.message f s new (keys ∷ marks ∷ order ∷ [])) m r
     unfolding treeAsks
     message-ends {l} {m} O P k W e =
         let e′ = same-true (length o ∷ new ∷ keys ∷ marks ∷ order ∷ [])
@@ -188,7 +191,9 @@ module _ {n : ℕ} {o f s : List ℕ} {new keys marks order : ℕ} {a : Bool}
         record {
           is = ap (outcomeOf m) e
               ∙ changed-outcome (sized n) o (afterMessage f (P .message) (O .state)) d (W .of (O .is) (P .read))
-              ∙ sym (asked-on n o f s new keys marks order A h ∙ rw (O .is, P .short, P .read, P .named, P .texts, P .numbers) refl);
+              ∙ sym
+              (asked-on n o f s new keys marks order A h
+              ∙ rw (O .is, P .short, P .read, P .named, P .texts, P .numbers) refl);
         }
 
 pub zeros-three : {a b c a′ b′ c′ : List ℕ} → a′ ≡ replicate (length a) 0 → b′ ≡ replicate (length b) 0

@@ -15,7 +15,8 @@ good c =
     let opened = told .before .before in
     let one = opened .before in
     report-good (one .before .same-lengths .ensures) (not-false _ (one .if1 .left)) (opened .«open» .ensures)
-    (told .enum-told2 .given .1) (answered .feed-ok .ensures) (asked .if2 .taken) refl (wrote .write-report .ensures) (c .of-put .ensures)
+    (told .enum-told2 .given .1) (answered .feed-ok .ensures) (asked .if2 .taken) refl
+    (wrote .write-report .ensures) (c .of-put .ensures)
 
 no : tie.Need-returns-3
 no c =

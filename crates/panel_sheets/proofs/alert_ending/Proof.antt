@@ -60,7 +60,8 @@ accepted c =
     record {
       is = alerts-accepted (sized (a .n)) (a .old .now) (a .feed .now) (a .sheet .now) (length (a .new .now)) []
           (sym (q .same-lengths .ensures) ∙ not-false _ (o .before .if1 .left)) (n .alert-number .ensures) (O .is)
-          (k .if2 .left) refl (λ vs I f. w .after-alerts .ensures (O .state) vs (O .here) (O .valid) I f) (c .of-put .ensures);
+          (k .if2 .left) refl (λ vs I f. w .after-alerts .ensures (O .state) vs (O .here) (O .valid) I f)
+          (c .of-put .ensures);
     }
 
 pub alert-ending-spec : {M : Type 1} → statement M

@@ -6,7 +6,8 @@ use borrow.Author.Needs.{needs}
 use borrow.Author.Tests.{not-true, not-false}
 use Rattle.overlay_open.specs.laws.Held.{open-at, open-no}
 use Rattle.panel.specs.Lengths.{sized}
-use Rattle.panel_sheets.specs.laws.Vehicles.{vehicles-unsized, vehicles-closed, vehicles-refused, vehicles-accepted}
+use Rattle.panel_sheets.specs.laws.Vehicles.{vehicles-unsized, vehicles-closed}
+use Rattle.panel_sheets.specs.laws.Vehicles.{vehicles-refused, vehicles-accepted}
 use Rattle.panel_sheets.proofs.vehicle_ending.Statement.{statement}
 use Rattle.panel_sheets.proofs.vehicle_ending.Tie as tie
 
@@ -60,7 +61,8 @@ accepted c = λ t T.
     record {
       is = vehicles-accepted (sized (a .n)) (a .old .now) (a .feed .now) (a .sheet .now) t (length (a .new .now)) []
           (sym (q .same-lengths .ensures) ∙ not-false _ (o .before .if1 .left)) T (n .vehicle-number .ensures) (O .is)
-          (k .if2 .left) refl (λ xs z I. w .after-vehicles .ensures (O .state) xs t (O .here) (O .valid) z I) (c .of-put .ensures);
+          (k .if2 .left) refl (λ xs z I. w .after-vehicles .ensures (O .state) xs t (O .here) (O .valid) z I)
+          (c .of-put .ensures);
     }
 
 pub vehicle-ending-spec : {M : Type 1} → statement M
