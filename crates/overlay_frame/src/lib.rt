@@ -1,10 +1,53 @@
-// An overlay written anew with one feed put: what stands before that feed's body, and what follows it.
+// An overlay written anew with one feed put: where that feed's body goes, what stands before it, and what follows it.
 use formats_write::Put;
+use overlay_feeds::FeedPlace;
+ghost use mathlib.Core.Path.{_≡_};
+ghost use mathlib.Core.Bool.{cond};
 ghost use mathlib.Core.List.{List};
 ghost use Prim.Native.Nat.{ℕ};
 ghost use Rattle.formats_write.specs.promises.Adds.{Adds};
 ghost use Rattle.overlay.specs.State.{State};
+ghost use Rattle.overlay_frame.specs.promises.Body.{FindsSpot};
 ghost use Rattle.overlay_frame.specs.promises.Frame.{Spot, headW, openingW, closingW};
+
+// The feeds of a state.
+const MOST_FEEDS: u64 = 4;
+
+// The body of a feed that isn't there yet: no timestamp, a count of 0, no trips, no vehicles, no alerts.
+pub const NO_FEED: [u8; 5] = [0, 0, 0, 0, 0];
+
+// Where the body of a feed goes: there is no room for a fifth feed; or the place of its entry, the place past its id,
+// and how many feeds there are; or the place where it goes in, and how many feeds there are with it.
+pub enum FeedSpot {
+    Full,
+    Known(usize, usize, u64),
+    New(usize, u64),
+}
+
+pub fn spot(old: &[u8], feed: &[u8]) -> FeedSpot
+    ensures { λ r. ⌜ FindsSpot (now (old .entry)) (now (feed .entry)) r ⌝ }
+{
+    let count = overlay_feeds::read_head(old).count;
+    match overlay_feeds::find_feed(old, feed) {
+        FeedPlace::At(_, from, body) => FeedSpot::Known(from, body, count),
+        FeedPlace::Missing(_, from) => {
+            if count >= MOST_FEEDS {
+                return FeedSpot::Full;
+            }
+            FeedSpot::New(from, count + 1)
+        }
+    }
+}
+
+// Where the state goes on behind a feed's body: where the old one ends, or, where there is none, where it goes in.
+pub fn behind(known: bool, stop: usize, from: usize) -> usize
+    ensures { λ r. ⌜ r ≡ cond known stop from ⌝ }
+{
+    if known {
+        return stop;
+    }
+    from
+}
 
 // Its first byte, version and number of feeds.
 fn head(out: &mut [u8], w: Put, version: u64, count: u64) -> Put

@@ -54,7 +54,7 @@ module _ {b : List ℕ} {q : ℕ} {s : State} {f : List ℕ} {from to count : �
       → Adds l r m k (closingW (S .back))
   closed g = let x = run feedEntry b to q (S .back) (S .behind) in same (g (x .forward) (x .within)) (x .written)
 
-  count-is : (F : Feed) → length (put texts f F (feedsOf s)) ≡ count
+  pub count-is : (F : Feed) → length (put texts f F (feedsOf s)) ≡ count
   count-is F =
       ap length (S .puts F) ∙ length-append (S .front) ((f, F) ∷ S .back) ∙ omega (arith, S .many)
 
