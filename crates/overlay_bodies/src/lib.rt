@@ -2,7 +2,7 @@
 use formats_write::Put;
 use overlay_feeds::Parts;
 ghost use mathlib.Core.Path.{_≡_};
-ghost use mathlib.Core.List.{List, []};
+ghost use mathlib.Core.List.{List};
 ghost use Prim.Native.Nat.{ℕ};
 ghost use lib.IntN.{ℤ, pos, _-ℤ_};
 ghost use lib.ListN.{length};
@@ -12,15 +12,11 @@ ghost use Rattle.formats.specs.Number.{zag};
 ghost use Rattle.formats.specs.Format.{write};
 ghost use Rattle.formats_write.specs.promises.Adds.{Adds};
 ghost use Rattle.alerts.specs.Alert.{Alert};
-ghost use Rattle.overlay.specs.State.{Feed, Vehicles, feed, noFeed, vehiclesOf};
+ghost use Rattle.overlay.specs.State.{Feed, Vehicles, feed, vehiclesOf};
 ghost use Rattle.overlay.specs.Change.{withoutStale};
 ghost use Rattle.overlay_feeds.specs.promises.Parts.{PartsOf};
-ghost use Rattle.overlay_vehicles.specs.promises.Merge.{Counted};
-ghost use Rattle.overlay_bodies.specs.promises.Bodies.{AlertsIn, Left, withAlerts, frontW, Lists};
-ghost use Rattle.overlay_bodies.specs.promises.Bodies.{VehiclesIn, VehiclesAlone, withVehicles};
-
-// No timestamp, a count of 0, no trips, no vehicles.
-const NOTHING: [u8; 4] = [0, 0, 0, 0];
+ghost use Rattle.overlay_bodies.specs.promises.Bodies.{AlertsIn, Left, VehiclesIn};
+ghost use Rattle.overlay_bodies.specs.promises.Bodies.{withAlerts, withVehicles, frontW, Lists};
 
 // A feed that stands from `body` on, with its parts at p: a sheet's alerts in place of its own.
 pub fn alerts_over(out: &mut [u8], w: Put, old: &[u8], body: usize, p: Parts, sheet: &[u8]) -> Put
@@ -30,17 +26,6 @@ pub fn alerts_over(out: &mut [u8], w: Put, old: &[u8], body: usize, p: Parts, sh
         → Adds (now (out .entry)) w (now (out .exit)) r (write feed (withAlerts F vs))) ⌝ }
 {
     let w1 = formats_write::stretch(out, w, old, body, p.alerts);
-    let n = sheet.len();
-    formats_write::stretch(out, w1, sheet, 1, n)
-}
-
-// A feed that has a sheet's alerts alone.
-pub fn alerts_alone(out: &mut [u8], w: Put, sheet: &[u8]) -> Put
-    ensures { λ r. ⌜
-        ((vs : List Alert) → AlertsIn (now (sheet .entry)) vs
-        → Adds (now (out .entry)) w (now (out .exit)) r (write feed (withAlerts noFeed vs))) ⌝ }
-{
-    let w1 = formats_write::stretch(out, w, &NOTHING, 0, 4);
     let n = sheet.len();
     formats_write::stretch(out, w1, sheet, 1, n)
 }
@@ -107,26 +92,4 @@ pub fn vehicles_over(
     let w1 = write_front(out, w, old, body, p);
     let w2 = write_left(out, w1, kept, sheet, old, p.vehicles, limit);
     formats_write::stretch(out, w2, old, p.alerts, p.end)
-}
-
-// A feed that has the vehicles of a sheet alone.
-pub fn vehicles_alone(out: &mut [u8], w: Put, kept: u64, sheet: &[u8], limit: u64) -> Put
-    ensures { λ r. ⌜
-        ((xs : Vehicles) (clock : ℤ) → zag limit ≡ clock -ℤ pos 900 → VehiclesAlone (now (sheet .entry)) xs
-        → kept ≡ length (withoutStale clock (puts texts xs []))
-        → Adds (now (out .entry)) w (now (out .exit)) r
-        (write feed (withVehicles noFeed (withoutStale clock (puts texts xs []))))) ⌝ }
-{
-    let w1 = formats_write::stretch(out, w, &NOTHING, 0, 3);
-    let w2 = write_left(out, w1, kept, sheet, &NOTHING, 0, limit);
-    formats_write::byte(out, w2, 0)
-}
-
-// How many of a sheet's vehicles are left for a feed that has none.
-pub fn count_alone(sheet: &[u8], limit: u64) -> u64
-    ensures { λ r. ⌜
-        ((xs : Vehicles) (clock : ℤ) → zag limit ≡ clock -ℤ pos 900 → VehiclesAlone (now (sheet .entry)) xs
-        → Counted r (length (withoutStale clock (puts texts xs [])))) ⌝ }
-{
-    count_left(sheet, &NOTHING, 0, limit)
 }

@@ -1,3 +1,1 @@
-pub mod Seven
 pub mod Sheets
-pub mod Vehicles

@@ -1,6 +1,6 @@
 -- Law. A feed's body by its parts.
-use mathlib.Core.Path.{_≡_, refl, sym, ap, _∙_}
-use mathlib.Core.List.{List, [], _∷_, _++_, append-assoc}
+use mathlib.Core.Path.{_≡_, sym, ap, _∙_}
+use mathlib.Core.List.{List, _++_, append-assoc}
 use Prim.Native.Nat.{ℕ, _≤_}
 use native.Mathlib.Omega.{arith}
 use lib.ListN.{length}
@@ -18,13 +18,13 @@ use Rattle.formats_read.specs.laws.Rewriting.{kept}
 use Rattle.decode.specs.Sizes.{mostTrips}
 use Rattle.decode.specs.Trip.{tripEntry}
 use Rattle.alerts.specs.Alert.{Alert, alert}
-use Rattle.overlay.specs.State.{Feed, Vehicles, timestamp, vehicleEntry, feed, noFeed}
+use Rattle.overlay.specs.State.{Feed, Vehicles, timestamp, vehicleEntry, feed}
 use Rattle.overlay.specs.State.{timestampOf, countOf, tripsOf, vehiclesOf, alertsOf}
 use Rattle.overlay_feeds.specs.declared.Parts.{Parts}
 use Rattle.overlay_feeds.specs.promises.Parts.{PartsOf}
 use Rattle.overlay_vehicles.specs.promises.Merge.{Both, Counts}
 use Rattle.overlay_vehicles.specs.promises.Writes.{Writes}
-use Rattle.overlay_bodies.specs.promises.Bodies.{AlertsIn, VehiclesIn, VehiclesAlone, Left}
+use Rattle.overlay_bodies.specs.promises.Bodies.{AlertsIn, VehiclesIn, Left}
 use Rattle.overlay_bodies.specs.promises.Bodies.{withAlerts, withVehicles, frontW, Lists}
 
 -- two values, one behind the other
@@ -41,7 +41,7 @@ pair-here {a} {b} {s} {p} {m} {q} {x} {y} h k = record {
 regroup : (a b c d e : List ℕ) → (a ++ (b ++ (c ++ d))) ++ e ≡ a ++ (b ++ (c ++ (d ++ e)))
 regroup a b c d e = simp append-assoc
 
--- AN ALERT SHEET: the feed's parts up to its alerts, and the sheet's; or no parts
+-- AN ALERT SHEET: the feed's parts up to its alerts, and the sheet's
 module _ {sheet : List ℕ} {vs : List Alert} (A : AlertsIn sheet vs) {l m o : List ℕ} {r q j : Put} where
   pub alerts-over : {old : List ℕ} {F : Feed} {p e : ℕ} {P : Parts} → PartsOf old F p e P
       → (p ≤ P .alerts → P .alerts ≤ length old → Adds l r m q (slice p (P .alerts) old))
@@ -54,11 +54,6 @@ module _ {sheet : List ℕ} {vs : List Alert} (A : AlertsIn sheet vs) {l m o : L
       (regroup (write (optional timestamp) (timestampOf F)) (numberW (countOf F))
       (write (list mostTrips tripEntry) (tripsOf F)) (write (list 1024 vehicleEntry) (vehiclesOf F))
       (write (list 256 alert) vs))
-
-  pub alerts-new : Adds l r m q (0 ∷ 0 ∷ 0 ∷ 0 ∷ [])
-      → (1 ≤ length sheet → length sheet ≤ length sheet → Adds m q o j (slice 1 (length sheet) sheet))
-      → Adds l r o j (write feed (withAlerts noFeed vs))
-  alerts-new z g = then z (kept A g)
 
 -- A VEHICLE SHEET
 module _ {sheet old : List ℕ} {at : ℕ} {xs ys : Vehicles} (I : VehiclesIn sheet old at xs ys) where
@@ -87,19 +82,6 @@ module _ {sheet old : List ℕ} {at n a m b limit : ℕ} (N : ReadsNumber sheet 
     of = λ xs ys clock e I k. then (same A (ap numberW k)) (W .of xs ys clock e (both-of I N M));
   }
 
--- a feed that has no vehicles
-no-vehicles : Here (list 1024 vehicleEntry) (0 ∷ 0 ∷ 0 ∷ 0 ∷ []) 0 1 []
-no-vehicles = record { written = refl; fits = (omega arith, tt); forward = omega arith; within = omega arith }
-
-pub alone : {sheet : List ℕ} {xs : Vehicles} → VehiclesAlone sheet xs → VehiclesIn sheet (0 ∷ 0 ∷ 0 ∷ 0 ∷ []) 0 xs []
-alone I = record {
-  sheet-here = I .here;
-  sheet-ascends = I .ascends;
-  till = 1;
-  old-here = no-vehicles;
-  old-ascends = refl;
-}
-
 regroup-left : (a b c d e : List ℕ) → ((a ++ (b ++ c)) ++ d) ++ e ≡ a ++ (b ++ (c ++ (d ++ e)))
 regroup-left a b c d e = simp append-assoc
 
@@ -122,8 +104,3 @@ module _ {old : List ℕ} {F : Feed} {p e : ℕ} {P : Parts} (S : PartsOf old F 
         (regroup-left (write (optional timestamp) (timestampOf F)) (numberW (length (tripsOf F)))
         (write (list mostTrips tripEntry) (tripsOf F)) (write (list 1024 vehicleEntry) vs)
         (write (list 256 alert) (alertsOf F)))
-
-pub vehicles-new : {l m o i : List ℕ} {r q j z : Put} (vs : Vehicles) → Adds l r m q (0 ∷ 0 ∷ 0 ∷ [])
-    → Adds m q o j (write (list 1024 vehicleEntry) vs) → Adds o j i z (0 ∷ [])
-    → Adds l r i z (write feed (withVehicles noFeed vs))
-vehicles-new vs A B C = then A (then B C)

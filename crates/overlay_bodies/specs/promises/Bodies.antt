@@ -32,7 +32,7 @@ pub record VehiclesIn (sheet : List ℕ) (old : List ℕ) (at : ℕ) (xs ys : Ve
   pub old-here : Here (list 1024 vehicleEntry) old at till ys
   pub old-ascends : ascending texts ys ≡ true
 
--- the vehicles of a sheet for a feed that has none
+-- the vehicles of a sheet
 pub record VehiclesAlone (sheet : List ℕ) (xs : Vehicles) : Type 0 where
   pub here : Here (list 1024 vehicleEntry) sheet 1 (length sheet) xs
   pub ascends : ascending texts xs ≡ true

@@ -1,35 +1,41 @@
 -- `after_alerts` meets its contract.
 use borrow.Author.Needs.{needs}
-use Rattle.overlay_open.specs.laws.Held.{feeds-up}
+use Rattle.overlay_sheets.specs.laws.Sheets.{alerts-full}
 use Rattle.overlay_sheets.proofs.after_alerts.Statement.{statement}
 use Rattle.overlay_sheets.proofs.after_alerts.Tie as tie
 
-abbrev entry : tie.After-slice-known2 → tie.After-entry
-entry c = c .before .before .before .before .before
+abbrev known : tie.After-slice-known2 → tie.After-from
+known c = c .before .before .before .before .before
 
-abbrev place : tie.After-slice-known3 → tie.After-place
-place c = c .before .before .before .before .before
+abbrev new : tie.After-slice-known3 → tie.After-from2
+new c = c .before .before .before .before .before .before
 
-found : tie.Need-returns
-found c = λ s vs h u I w.
-    let e = entry c in
-    let P = e .before .before .find-feed .ensures .to h (feeds-up s u) in
-    c .before .before .alerts-found .ensures s _ vs h u (P .found _ _ _ (e .entry .given .1)) I w
+full : tie.Need-returns
+full c = λ s vs h u I w. alerts-full (c .before .before .spot .ensures) (c .enum-told .given .1) h u vs
 
-lost : tie.Need-returns-2
-lost c = λ s vs h u I w.
-    let e = place c in
-    let P = e .before .before .find-feed .ensures .to h (feeds-up s u) in
-    c .before .before .alerts-made .ensures s _ vs h u (P .lost _ _ (e .place .given .1)) I w
+put-known : tie.Need-returns-2
+put-known c = λ s vs h u I w.
+    let e = known c in
+    let B = e .before .before .spot .ensures .to h u .known _ _ _ (e .from .given .1) in
+    c .before .before .put-alerts .ensures s vs B I w
+
+put-new : tie.Need-returns-3
+put-new c = λ s vs h u I w.
+    let e = new c in
+    let B = e .before .before .spot .ensures .to h u .new _ _ (e .from2 .given .1) in
+    c .before .before .put-alerts2 .ensures s vs B I w
 
 pub after-alerts-spec : {M : Type 1} → statement M
 after-alerts-spec = tie.close (tie.spec
     (λ c κs. search needs)
     (λ c. search needs)
-    (λ c κs. search needs)
     (λ c. search needs)
     (λ c κs. search needs)
     (λ c. search needs)
-    found
     (λ c. search needs)
-    lost)
+    (λ c κs. search needs)
+    full
+    (λ c. search needs)
+    put-known
+    (λ c. search needs)
+    put-new)
