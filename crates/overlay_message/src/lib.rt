@@ -3,11 +3,10 @@
 use decode_index::Left;
 use formats_write::OptionalSigned;
 use formats_write::Put;
-use overlay_feeds::FeedPlace;
-use overlay_feeds::Front;
 use overlay_feeds::Parts;
+use overlay_frame::FeedSpot;
+use overlay_frame::NO_FEED;
 use realtime_views::Timestamp;
-ghost use mathlib.Core.Bool.{cond};
 ghost use mathlib.Core.Path.{_≡_};
 ghost use mathlib.Core.Option.{some};
 ghost use Prim.Native.Nat.{ℕ, _≤_};
@@ -25,7 +24,6 @@ ghost use Rattle.decode.specs.Sizes.{mostFeed, mostMessage, mostOld};
 ghost use Rattle.decode_slots.specs.Index.{index};
 ghost use Rattle.decode_slots.specs.Places.{held};
 ghost use Rattle.decode_slots.specs.promises.Index.{Lent};
-ghost use Rattle.decode_index.specs.promises.Leaving.{Old};
 ghost use Rattle.decode_index.specs.promises.Message.{JudgedMessage};
 ghost use Rattle.decode_write.specs.promises.Slots.{Writable};
 ghost use Rattle.decode_write.specs.promises.Written.{signedW};
@@ -35,14 +33,8 @@ ghost use Rattle.overlay.specs.State as state;
 ghost use Rattle.overlay_feeds.specs.promises.Parts.{PartsOf};
 ghost use Rattle.overlay_frame.specs.promises.Frame.{Spot};
 ghost use Rattle.overlay_open.specs.promises.Held.{Open};
-ghost use Rattle.overlay_message.specs.promises.Message.{Exchanges, Known, Leads, Unknown};
+ghost use Rattle.overlay_message.specs.promises.Message.{Leads, Ready};
 ghost use Rattle.overlay_message.specs.promises.Message.{feedAfter, timestampAfter};
-
-// A feed that isn't there yet: no timestamp, a count of 0, no trips, no vehicles, no alerts.
-const NO_FEED: [u8; 5] = [0, 0, 0, 0, 0];
-
-// The feeds of a state.
-const MOST_FEEDS: u64 = 4;
 
 // 64 bits read as signed, as their zigzag code.
 fn signed_code(n: u64) -> u64
@@ -174,18 +166,8 @@ fn write_state(
     overlay_frame::closing(new, w2, old, to, end)
 }
 
-// Where the state goes on behind its feed: where that ends, or, where there is none, where it goes in.
-fn behind(known: bool, stop: usize, from: usize) -> usize
-    ensures { λ r. ⌜ r ≡ cond known stop from ⌝ }
-{
-    if known {
-        return stop;
-    }
-    from
-}
-
-// What the message s leaves of the feed with this front goes into the state, where it is known or isn't there yet; or
-// its trips pass a limit of question 7.
+// What the message s leaves of the feed whose body stands in `home` at `body` goes into the state; or its trips pass a
+// limit of question 7.
 fn change(
     new: &mut [u8],
     keys: &mut [u8],
@@ -195,26 +177,26 @@ fn change(
     s: &[u8],
     old: &[u8],
     end: usize,
-    home: &[u8],
-    front: Front,
     from: usize,
     known: bool,
     count: u64,
+    home: &[u8],
+    body: usize,
 ) -> Put
     requires { ⌜ Lent (now keys) (now marks) (now order) ⌝ }
     requires { ⌜ (length (now feed) ≤ mostFeed) × (length (now s) ≤ mostMessage) ⌝ }
     requires { ⌜ JudgedMessage (now s) ⌝ }
-    requires { ⌜ Old (now home) (front .trips) ⌝ }
+    requires { ⌜ Ready (now old) end (now feed) from known count (now home) body ⌝ }
     ensures { λ r. ⌜
-        Exchanges (now (new .entry)) (now (new .exit)) r (now (feed .entry)) (now (s .entry)) (now (old .entry)) end
-        (now (home .entry)) front from known count ⌝ }
+        Leads (now (new .entry)) (now (new .exit)) r (now (feed .entry)) (now (s .entry)) (now (old .entry)) ⌝ }
 {
+    let front = overlay_feeds::read_front(home, body);
     match decode_index::leave(keys, marks, order, feed, s, home, front.trips) {
         Left::ManyTrips => Put::Full,
         Left::ManyUpdates => Put::Full,
         Left::Trips(n, vehicles) => {
             let p = overlay_feeds::read_back(home, front, vehicles);
-            let to = behind(known, p.end, from);
+            let to = overlay_frame::behind(known, p.end, from);
             write_state(
                 new,
                 keys,
@@ -233,86 +215,6 @@ fn change(
             )
         }
     }
-}
-
-// The feed stands at `from`, and its id ends at `body`.
-fn change_known(
-    new: &mut [u8],
-    keys: &mut [u8],
-    marks: &mut [u32],
-    order: &mut [u32],
-    feed: &[u8],
-    s: &[u8],
-    old: &[u8],
-    end: usize,
-    from: usize,
-    body: usize,
-) -> Put
-    requires { ⌜ Lent (now keys) (now marks) (now order) ⌝ }
-    requires { ⌜ (length (now feed) ≤ mostFeed) × (length (now s) ≤ mostMessage) ⌝ }
-    requires { ⌜ JudgedMessage (now s) ⌝ }
-    requires { ⌜ Known (now old) end (now feed) from body ⌝ }
-    ensures { λ r. ⌜
-        Leads (now (new .entry)) (now (new .exit)) r (now (feed .entry)) (now (s .entry)) (now (old .entry)) ⌝ }
-{
-    let front = overlay_feeds::read_front(old, body);
-    let count = overlay_feeds::read_head(old).count;
-    change(
-        new,
-        keys,
-        marks,
-        order,
-        feed,
-        s,
-        old,
-        end,
-        old,
-        front,
-        from,
-        true,
-        count,
-    )
-}
-
-// The feed isn't there, and would stand at `from`.
-fn change_new(
-    new: &mut [u8],
-    keys: &mut [u8],
-    marks: &mut [u32],
-    order: &mut [u32],
-    feed: &[u8],
-    s: &[u8],
-    old: &[u8],
-    end: usize,
-    from: usize,
-) -> Put
-    requires { ⌜ Lent (now keys) (now marks) (now order) ⌝ }
-    requires { ⌜ (length (now feed) ≤ mostFeed) × (length (now s) ≤ mostMessage) ⌝ }
-    requires { ⌜ JudgedMessage (now s) ⌝ }
-    requires { ⌜ Unknown (now old) end (now feed) from ⌝ }
-    ensures { λ r. ⌜
-        Leads (now (new .entry)) (now (new .exit)) r (now (feed .entry)) (now (s .entry)) (now (old .entry)) ⌝ }
-{
-    let count = overlay_feeds::read_head(old).count;
-    if count >= MOST_FEEDS {
-        return Put::Full;
-    }
-    let front = overlay_feeds::read_front(&NO_FEED, 0);
-    change(
-        new,
-        keys,
-        marks,
-        order,
-        feed,
-        s,
-        old,
-        end,
-        &NO_FEED,
-        front,
-        from,
-        false,
-        count + 1,
-    )
 }
 
 // The state that stands in `old` up to `end`, after a judged message of a feed; or it passes a limit of question 7, or
@@ -334,12 +236,41 @@ pub fn after_message(
     ensures { λ r. ⌜
         Leads (now (new .entry)) (now (new .exit)) r (now (feed .entry)) (now (s .entry)) (now (old .entry)) ⌝ }
 {
-    match overlay_feeds::find_feed(old, feed) {
-        FeedPlace::At(_, from, body) => {
-            change_known(new, keys, marks, order, feed, s, old, end, from, body)
+    match overlay_frame::spot(old, feed) {
+        FeedSpot::Full => Put::Full,
+        FeedSpot::Known(from, body, count) => {
+            change(
+                new,
+                keys,
+                marks,
+                order,
+                feed,
+                s,
+                old,
+                end,
+                from,
+                true,
+                count,
+                old,
+                body,
+            )
         }
-        FeedPlace::Missing(_, from) => {
-            change_new(new, keys, marks, order, feed, s, old, end, from)
+        FeedSpot::New(from, count) => {
+            change(
+                new,
+                keys,
+                marks,
+                order,
+                feed,
+                s,
+                old,
+                end,
+                from,
+                false,
+                count,
+                &NO_FEED,
+                0,
+            )
         }
     }
 }
