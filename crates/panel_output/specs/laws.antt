@@ -1,3 +1,4 @@
+pub mod Changed
 pub mod Ending
 pub mod Ends
 pub mod Lengths

@@ -12,8 +12,6 @@ use Rattle.basics.specs.Texts.{same}
 use Rattle.basics.specs.laws.Booleans.{both-true}
 use Rattle.basics.specs.laws.Texts.{same-true}
 use Rattle.formats.specs.Class.{token, inClass}
-use Rattle.formats.specs.Format.{write}
-use Rattle.formats_judge.specs.Judged.{ok}
 use Rattle.formats_write.specs.declared.Put.{Put}
 use Rattle.realtime.specs.Tree.{Tree, tree}
 use Rattle.realtime.specs.Schema.{feedMessage, feed}
@@ -22,13 +20,12 @@ use Rattle.realtime.specs.declared.Verdict.{Verdict}
 use Rattle.decode.specs.Sizes.{keysLength, marksLength, orderLength, mostFeed, mostOld}
 use Rattle.decode_slots.specs.promises.Index.{Lent}
 use Rattle.decode_index.specs.promises.Message.{JudgedMessage}
-use Rattle.overlay.specs.State.{State, overlay}
-use Rattle.overlay.specs.Image.{room, stateOf}
+use Rattle.overlay.specs.Image.{stateOf}
 use Rattle.overlay.specs.Change.{afterMessage}
 use Rattle.overlay_open.specs.promises.Held.{Open}
-use Rattle.overlay_message.specs.promises.Message.{Answers, Leads}
-use Rattle.panel.specs.Outcome.{Outcome, refused, accepted, need, needSome}
-use Rattle.panel.specs.Questions.{Lengths, feedOk}
+use Rattle.overlay_message.specs.promises.Message.{Leads}
+use Rattle.panel.specs.Outcome.{Outcome, refused, need, needSome}
+use Rattle.panel.specs.Questions.{feedOk}
 use Rattle.panel.specs.Message.{messageAsks, treeAsks}
 use Rattle.panel.specs.Calls as calls
 use Rattle.panel.specs.Given.{Given}
@@ -36,7 +33,7 @@ use Rattle.panel.specs.Lengths.{sized}
 use Rattle.panel.specs.promises.Ends.{changedState, treeOutcome}
 use Rattle.panel_output.specs.declared.Ending.{Ending}
 use Rattle.panel_output.specs.declared.Ending.the-variants.{Refused}
-use Rattle.panel_output.specs.laws.Ending.{written-outcome}
+use Rattle.panel_output.specs.laws.Changed.{changed-outcome}
 use Rattle.panel_output.specs.laws.Ends.{cleared}
 use Rattle.panel_output.specs.promises.Ending.{outcomeOf, putEnding, Finished}
 use Rattle.panel_output.specs.promises.Ends.{Ends, Zeros}
@@ -113,17 +110,6 @@ module _ {f m : List ℕ} (P : Passed f m) where
 
 -- ---- how the call ends
 
-changed-outcome : (L : Lengths) (o : List ℕ) {l n : List ℕ} {w : Put} (s : State) → L .overlay ≡ length l
-    → Answers (ok 7 overlay s) l n w (write overlay s) → outcomeOf n (putEnding w) ≡ changedState L o s
-unfolding room
-changed-outcome L o {l} {n} {w} s d A = go (ok 7 overlay s) refl
-  where
-    go : (b : Bool) → ok 7 overlay s ≡ b
-        → outcomeOf n (putEnding w)
-        ≡ need (b && leb (length (write overlay s)) (L .overlay)) 7 (accepted (write overlay s))
-    go true e = rw d (written-outcome (A .yes e))
-    go false e = ap (λ w. outcomeOf n (putEnding w)) (A .no e)
-
 -- question 1, of the lengths of the overlays and of the working buffers
 abbrev pub messageSized : ℕ → List ℕ → ℕ → ℕ → ℕ → ℕ → Bool
 messageSized n o new keys marks order =
@@ -187,7 +173,7 @@ module _ {n : ℕ} {o f s : List ℕ} {new keys marks order : ℕ} {a : Bool}
     message-ends {l} {m} O P k W e =
         let e′ = same-true (length o ∷ new ∷ keys ∷ marks ∷ order ∷ [])
         (n ∷ n ∷ keysLength ∷ marksLength ∷ orderLength ∷ []) (sym A ∙ h) in
-        let d : n ≡ length l = sym (ap (λ l. getD l 1 0) e′) ∙ k in
+        let d : length l ≡ n = sym k ∙ ap (λ l. getD l 1 0) e′ in
         record {
           is = ap (outcomeOf m) e
               ∙ changed-outcome (sized n) o (afterMessage f (P .message) (O .state)) d (W .of (O .is) (P .read))

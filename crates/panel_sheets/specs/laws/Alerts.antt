@@ -17,7 +17,7 @@ use Rattle.overlay.specs.Image.{stateOf}
 use Rattle.overlay.specs.Change.{afterAlerts}
 use Rattle.overlay.specs.laws.Within.{unjudged}
 use Rattle.overlay_bodies.specs.promises.Bodies.{AlertsIn}
-use Rattle.overlay_sheets.specs.promises.Sheets.{Changes}
+use Rattle.overlay_frame.specs.promises.Changes.{Changes}
 use Rattle.panel.specs.Outcome.{Outcome, refused, need, needSome}
 use Rattle.panel.specs.Questions.{Lengths, whole, feedOk, lengthsOk}
 use Rattle.panel.specs.AlertSheet.{alertSheetAsks, alertsAsk}
@@ -25,9 +25,10 @@ use Rattle.panel.specs.promises.Ends.{changedState, alertsOutcome, alertSheetOf
 use Rattle.panel.specs.laws.Lawful.{due-is}
 use Rattle.panel_output.specs.declared.Ending.{Ending}
 use Rattle.panel_output.specs.promises.Ending.{outcomeOf, putEnding}
+use Rattle.panel_output.specs.laws.Changed.{changed-outcome}
 use Rattle.panel_questions.specs.promises.Numbers.{formed, alertNumber}
 use Rattle.panel_questions.specs.laws.Whole.{all-read}
-use Rattle.panel_sheets.specs.laws.Changed.{changed-outcome, alerts-over}
+use Rattle.panel_sheets.specs.laws.Changed.{alerts-over}
 
 -- a sheet that is whole: its alerts
 alerts-in : (sheet : List ℕ) (v : Value alertSheet) → whole alertSheet sheet ≡ some v → AlertsIn sheet (v .1)

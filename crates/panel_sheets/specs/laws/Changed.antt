@@ -1,4 +1,4 @@
--- Law. A changed state as an outcome, and question 7 of one whose new feed fails it.
+-- Law. Question 7 of a changed state whose new feed fails it.
 use mathlib.Core.Path.{_≡_, refl, sym, ap, _∙_}
 use mathlib.Core.Bool.{Bool, true, false, _&&_}
 use mathlib.Core.List.{List, [], _∷_}
@@ -13,7 +13,6 @@ use Rattle.maps.specs.Map.{Ordered, byOrder, put}
 use Rattle.maps.specs.Order.{texts}
 use Rattle.formats.specs.Format.{list, optional, write}
 use Rattle.formats_judge.specs.Judged.{ok}
-use Rattle.formats_write.specs.declared.Put.{Put}
 use Rattle.decode.specs.Sizes.{mostTrips}
 use Rattle.decode.specs.Trip.{tripEntry}
 use Rattle.alerts.specs.Alert.{Alert, alert}
@@ -22,24 +21,9 @@ use Rattle.overlay.specs.State.{timestampOf, tripsOf, vehiclesOf}
 use Rattle.overlay.specs.Image.{room}
 use Rattle.overlay.specs.Change.{feedAt, putFeed, afterAlerts}
 use Rattle.overlay_bodies.specs.promises.Bodies.{withAlerts}
-use Rattle.overlay_sheets.specs.promises.Sheets.{Changes}
 use Rattle.panel.specs.Outcome.{refused, accepted, need}
 use Rattle.panel.specs.Questions.{Lengths}
 use Rattle.panel.specs.promises.Ends.{changedState}
-use Rattle.panel_output.specs.promises.Ending.{outcomeOf, putEnding}
-use Rattle.panel_output.specs.laws.Ending.{written-outcome}
-
--- what is written, or not, is the outcome
-pub changed-outcome : (L : Lengths) (old : List ℕ) {l m : List ℕ} {q : Put} (s : State) → length l ≡ L .overlay
-    → Changes l m q s → outcomeOf m (putEnding q) ≡ changedState L old s
-unfolding room
-changed-outcome L old {l} {m} {q} s d C = go (ok 7 overlay s) refl
-  where
-    go : (b : Bool) → ok 7 overlay s ≡ b
-        → outcomeOf m (putEnding q)
-        ≡ need (b && leb (length (write overlay s)) (L .overlay)) 7 (accepted (write overlay s))
-    go true e = rw (sym d) (written-outcome (C .few e))
-    go false e = ap (λ q. outcomeOf m (putEnding q)) (C .many e)
 
 -- what holds of every entry after a put holds of the one that was put
 module _ {K : Type 0} (O : Ordered K) {A : Type 0} (p : K × A → Bool) (k : K) (v : A) where

@@ -21,7 +21,7 @@ use Rattle.overlay.specs.State.{State, Vehicles, vehicleSheet}
 use Rattle.overlay.specs.Image.{stateOf}
 use Rattle.overlay.specs.Change.{afterVehicles}
 use Rattle.overlay_bodies.specs.promises.Bodies.{VehiclesAlone}
-use Rattle.overlay_sheets.specs.promises.Sheets.{Changes}
+use Rattle.overlay_frame.specs.promises.Changes.{Changes}
 use Rattle.panel.specs.Outcome.{Outcome, refused, need, needSome}
 use Rattle.panel.specs.Questions.{Lengths, whole, feedOk, lengthsOk}
 use Rattle.panel.specs.VehicleSheet.{keysAscend, vehiclesIn, vehicleSheetAsks, vehiclesAsk}
@@ -29,9 +29,9 @@ use Rattle.panel.specs.promises.Ends.{changedState, vehiclesOutcome, vehicleShe
 use Rattle.panel.specs.laws.Lawful.{due-is}
 use Rattle.panel_output.specs.declared.Ending.{Ending}
 use Rattle.panel_output.specs.promises.Ending.{outcomeOf, putEnding}
+use Rattle.panel_output.specs.laws.Changed.{changed-outcome}
 use Rattle.panel_questions.specs.promises.Numbers.{formed, timed, vehicleNumber, ClockIs}
 use Rattle.panel_questions.specs.laws.Whole.{some-is, all-read}
-use Rattle.panel_sheets.specs.laws.Changed.{changed-outcome}
 
 -- a sheet that is whole and whose keys ascend: its vehicles
 module _ (sheet : List ℕ) (v : Value vehicleSheet) where
