@@ -1,6 +1,7 @@
 pub mod Buffer
 pub mod Shown
 pub mod WorkedLookup
+pub mod WorkedValid
 pub mod Worked
 pub mod Keys
 pub mod Counts

@@ -7,11 +7,12 @@ use mathlib.Core.Option.{none, some}
 use mathlib.Core.Bool.{Bool, true, false}
 use Prim.Native.Nat.{ℕ}
 use Prim.Native.String.{String}
+use lib.ListN.{length, replicate}
 use Rattle.alerts.specs.Text.{text}
 use Rattle.alerts.specs.Alert.{Alert}
 use Rattle.alerts.specs.Index.{alert-candidates-for-leg}
 use Rattle.alerts.specs.Applies.{product-code-token, fold-alert-blob, commercial-lines-in-text}
-use Rattle.alerts.specs.Applies.{is-road-traffic-alert, alert-applies-to-leg-with-mode}
+use Rattle.alerts.specs.Applies.{window, text-compatible, is-road-traffic-alert, alert-applies-to-leg-with-mode}
 use Rattle.alerts.specs.Label.{label}
 
 -- an alert with a header, by its ids
@@ -25,6 +26,9 @@ candidates a = alert-candidates-for-leg (a ∷ []) (text "f:1") (text "f:R") (te
 abbrev applied : Alert → Bool
 applied a = alert-applies-to-leg-with-mode a (text "f:1") (text "f:R") (text "B") (text "f:A") (text "f:B") (text "RER")
 
+abbrev compatible : String → String → Bool
+compatible s short = text-compatible (fold-alert-blob (text s)) (text short)
+
 abbrev lines : String → List (List ℕ)
 lines s = commercial-lines-in-text (fold-alert-blob (text s))
 
@@ -32,6 +36,10 @@ lines s = commercial-lines-in-text (fold-alert-blob (text s))
 other-date : (candidates (saying "Retard" ("f:1@20260101" ∷ []) [] []) ≡ 0 ∷ [])
     × (applied (saying "Retard" ("f:1@20260101" ∷ []) [] []) ≡ false)
 other-date = (refl, refl)
+
+-- another trip of the feed is none
+other-trip : candidates (saying "Retard" ("f:2" ∷ []) [] []) ≡ []
+other-trip = refl
 
 -- a trip id without its feed reaches no leg; a stop id without it does
 bare-trip : candidates (saying "Retard" ("1" ∷ []) [] []) ≡ []
@@ -56,6 +64,18 @@ this-line = refl
 advised-line : applied (saying "RER D interrompu. Reportez-vous sur le RER B." [] ("f:R" ∷ []) []) ≡ false
 advised-line = refl
 
+-- before a full stop, too
+advised-stop : compatible "Metro 4 interrompu. Reportez-vous sur la 1." "1" ≡ false
+advised-stop = refl
+
+-- the advice is looked for from 48 bytes before a needle to 24 past it
+windows : (length (window (replicate 200 32) 100 7) ≡ 79) × (length (window (replicate 200 32) 9 7) ≡ 40)
+windows = (refl, refl)
+
+-- an alert about road traffic applies to no rail leg
+road-on-rails : applied (saying "Trafic routier" ("f:1" ∷ []) [] []) ≡ false
+road-on-rails = refl
+
 -- lines by parts of words: 1 in 14, B in "Préférer bus", A in "opérera"
 lines-named : (lines "Metro 14" ≡ text "1" ∷ text "14" ∷ []) × (lines "Tram T3a interrompu" ≡ text "T3" ∷ [])
     × (lines "Préférer bus" ≡ text "B" ∷ []) × (lines "opérera" ≡ text "A" ∷ [])
@@ -66,9 +86,12 @@ accented-road : (is-road-traffic-alert (saying "arrêt déplacé circulation" []
     × (is-road-traffic-alert (saying "Arret Deplace Circulation" [] [] []) ≡ true)
 accented-road = (refl, refl)
 
--- a header that is empty gives no label
+-- a header that is empty gives no label; without a header 120 characters of the description do
 empty-header : label (saying "" [] [] []) ≡ []
 empty-header = refl
+
+long-description : label (inl tt, (inr (replicate 200 97), (inl tt, ([], ([], []))))) ≡ replicate 120 97
+long-description = refl
 
 -- the row P of the ride checks: what is a product code
 pub product-codes : (product-code-token (text "C017") ≡ none)
