@@ -8,7 +8,7 @@ use lib.Dec.{ltb, leb}
 use lib.ListN.{length, take}
 use Rattle.formats.specs.Class.{printable, inClass}
 use Rattle.realtime.specs.Tree.{Tree}
-use Rattle.realtime_views.specs.Views.{trip, deleted}
+use Rattle.realtime.specs.Views.{trip, deleted}
 use Rattle.decode.specs.Trip.{Trip, dateOf, routeOf, directionOf, timeOf}
 use Rattle.basics.specs.Options.{Maybe}
 use Rattle.basics.specs.Texts.{same}

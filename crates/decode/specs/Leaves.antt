@@ -6,8 +6,8 @@ use lib.IntN.{ℤ}
 use lib.Dec.{eqb}
 use mathlib.Core.Option.{Option·map}
 use Rattle.realtime.specs.Tree.{Tree, rep}
-use Rattle.realtime_views.specs.Typed.{int64}
-use Rattle.realtime_views.specs.Views.{header}
+use Rattle.realtime.specs.Typed.{int64}
+use Rattle.realtime.specs.Views.{header}
 use Rattle.decode.specs.Trip.{Trip}
 use Rattle.basics.specs.Options.{Maybe, maybe}
 use Rattle.maps.specs.Map.{puts}

@@ -3,7 +3,7 @@ use Prim.Native.Nat.{ℕ}
 use mathlib.Core.Bool.{Bool, cond}
 use mathlib.Core.List.{List, [], map}
 use Rattle.realtime.specs.Tree.{Tree, sub, rep}
-use Rattle.realtime_views.specs.Views.{trip, stopUpdate}
+use Rattle.realtime.specs.Views.{trip, stopUpdate}
 use Rattle.decode.specs.Trip.{StopUpdate, Trip, updateWith, tripWith}
 use Rattle.basics.specs.Options.{maybe}
 use Rattle.maps.specs.Map.{puts}

@@ -15,8 +15,8 @@ use Rattle.realtime.specs.Tree.{Tree, Leaf, count, words, tree, last, sub, rep}
 use Rattle.realtime.specs.Schema.{fieldRows, feed, feedMessage, feedEntity, tripUpdate, tripDescriptor}
 use Rattle.realtime.specs.Judge.{rules, asked, textsFine, numbersFine, limit}
 use Rattle.realtime.specs.declared.Verdict.{Verdict}
-use Rattle.realtime_views.specs.Typed.{textIn}
-use Rattle.realtime_views.specs.Views.{trip, deleted}
+use Rattle.realtime.specs.Typed.{textIn}
+use Rattle.realtime.specs.Views.{trip, deleted}
 use Rattle.realtime_views.specs.promises.Walks as walks
 use Rattle.realtime_views.specs.laws.Walks.{leftEntities, found, yielded}
 use Rattle.realtime_views.specs.promises.Walks.{Yield, NextEntity}

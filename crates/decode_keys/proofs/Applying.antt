@@ -6,7 +6,7 @@ use mathlib.Core.List.{List, []}
 use native.Mathlib.Omega.{arith}
 use lib.ListN.{length, take, drop}
 use Rattle.realtime.specs.Schema as schema
-use Rattle.realtime_views.specs.Views.{trip}
+use Rattle.realtime.specs.Views.{trip}
 use Rattle.realtime_views.specs.promises.Views.{spanIn, TripRead, DeletedRead}
 use Rattle.realtime_views.specs.declared.Trip.{Trip}
 use Rattle.maps.specs.Map.{puts}

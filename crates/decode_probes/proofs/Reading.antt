@@ -12,7 +12,7 @@ use Rattle.realtime.specs.Schema.{feed}
 use Rattle.realtime.specs.Judge.{Rules, asked, textsFine, numbersFine}
 use Rattle.realtime.specs.declared.Verdict.{Verdict}
 use Rattle.basics.specs.Texts.{same}
-use Rattle.realtime_views.specs.Views.{TripView}
+use Rattle.realtime.specs.Views.{TripView}
 use Rattle.realtime_views.specs.promises.Views.{spanIn, viewTrip}
 use Rattle.realtime_views.specs.declared.Trip.{Trip}
 use Rattle.decode_probes.specs.Answers.{ofWhole, textsAre}

@@ -7,8 +7,8 @@ use lib.IntN.{ℤ, pos}
 use Rattle.realtime.specs.Tree.{Tree}
 use Rattle.realtime.specs.declared.Verdict.{Verdict}
 use Rattle.basics.specs.Texts.{same}
-use Rattle.realtime_views.specs.Typed.{orZero}
-use Rattle.realtime_views.specs.Views.{HeaderView, TripView, EventView, StopView}
+use Rattle.realtime.specs.Typed.{orZero}
+use Rattle.realtime.specs.Views.{HeaderView, TripView, EventView, StopView}
 use Rattle.decode_probes.specs.declared.HeaderNumbers.{HeaderNumbers}
 use Rattle.decode_probes.specs.declared.TripNumbers.{TripNumbers}
 use Rattle.decode_probes.specs.declared.EventNumbers.{EventNumbers}

@@ -12,10 +12,10 @@ use decode::sizes::ORDER_LENGTH;
 use decode::sizes::UPDATES_LENGTH;
 use decode_index::Left;
 use formats_judge::Judge;
-use realtime::FEED_ENTITY;
-use realtime::FEED_MESSAGE;
-use realtime::STOP_TIME_UPDATE;
 use realtime::Verdict;
+use realtime_read::FEED_ENTITY;
+use realtime_read::FEED_MESSAGE;
+use realtime_read::STOP_TIME_UPDATE;
 use realtime_views::Delay;
 use realtime_views::Direction;
 use realtime_views::Event;
@@ -38,8 +38,8 @@ ghost use Rattle.formats_judge.specs.Judged.{judgeTo};
 ghost use Rattle.realtime.specs.Tree.{tree};
 ghost use Rattle.realtime.specs.Schema.{feed, feedMessage, feedEntity, stopTimeUpdate};
 ghost use Rattle.realtime.specs.Judge.{asked, rules};
-ghost use Rattle.realtime_views.specs.Typed.{orZero};
-ghost use Rattle.realtime_views.specs.Views.{header, stopUpdate, trip};
+ghost use Rattle.realtime.specs.Typed.{orZero};
+ghost use Rattle.realtime.specs.Views.{header, stopUpdate, trip};
 ghost use Rattle.realtime_views.specs.promises.Views.{SpanInside, spanIn, viewDelay, viewDirection, viewEvent};
 ghost use Rattle.realtime_views.specs.promises.Views.{viewHeader, viewTime, viewTimestamp};
 ghost use Rattle.decode.specs.Sizes.{mostTrips, updatesLength};
@@ -75,14 +75,14 @@ fn question_of(v: Verdict) -> u32
 pub extern "C" fn trips_judge(s: &[u8]) -> u32
     ensures { λ r. ⌜ r ≡ questionOf (asked rules feedMessage (tree feed feedMessage (now (s .entry)))) ⌝ }
 {
-    question_of(realtime::judge(s, FEED_MESSAGE))
+    question_of(realtime_read::judge(s, FEED_MESSAGE))
 }
 
 // Whether a message of a type is not broken.
 fn is_whole(s: &[u8], message: u64) -> bool
     ensures { λ r. ⌜ r ≡ isWhole (tree feed message (now (s .entry))) ⌝ }
 {
-    match realtime::judge(s, message) {
+    match realtime_read::judge(s, message) {
         Verdict::Broken => false,
         Verdict::Text => true,
         Verdict::Time => true,

@@ -8,7 +8,7 @@ use lib.ListN.{length, take, drop}
 use Rattle.basics.specs.Lists.{All}
 use Rattle.realtime.specs.Tree.{Tree, tree}
 use Rattle.realtime.specs.Schema.{feed, stopTimeUpdate}
-use Rattle.realtime_views.specs.Views.{stopUpdate}
+use Rattle.realtime.specs.Views.{stopUpdate}
 use Rattle.realtime_views.specs.promises.Views.{SequenceRead}
 use Rattle.realtime_views.specs.promises.Walks.{NextUpdate}
 use Rattle.realtime_views.specs.promises.Starts.{atMerged}

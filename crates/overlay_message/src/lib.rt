@@ -18,7 +18,7 @@ ghost use Rattle.formats_write.specs.promises.Given.{givenSigned, optionalW};
 ghost use Rattle.realtime.specs.Tree.{Tree, tree};
 ghost use Rattle.realtime.specs.Schema.{feedMessage};
 ghost use Rattle.realtime.specs.Schema as schema;
-ghost use Rattle.realtime_views.specs.Typed.{int64};
+ghost use Rattle.realtime.specs.Typed.{int64};
 ghost use Rattle.realtime_views.specs.promises.Views.{viewTimestamp};
 ghost use Rattle.decode.specs.Sizes.{mostFeed, mostMessage, mostOld};
 ghost use Rattle.decode_slots.specs.Index.{index};

@@ -6,8 +6,8 @@ use decode::sizes::MOST_MESSAGE;
 use decode::sizes::ORDER_LENGTH;
 use overlay_open::Opened;
 use panel_output::Ending;
-use realtime::FEED_MESSAGE;
 use realtime::Verdict;
+use realtime_read::FEED_MESSAGE;
 ghost use mathlib.Core.Path.{_≡_};
 ghost use mathlib.Core.List.{[], _∷_};
 ghost use Prim.Native.Nat.{_≤_};
@@ -49,7 +49,7 @@ fn message_number(feed: &[u8], s: &[u8]) -> u32
         return 3;
     }
     number_by(
-        realtime::judge(s, FEED_MESSAGE),
+        realtime_read::judge(s, FEED_MESSAGE),
         panel_questions::feed_ok(feed),
     )
 }

@@ -11,8 +11,8 @@
 // its sequence, its stop, arrival and departure as delay and time, and whether it is skipped. '-' is absent.
 // What the readers answer is proved in `realtime` and `realtime_views`; the functions here write it out and promise
 // nothing of what was written, so they have no `ensures`.
-use realtime::FEED_MESSAGE;
 use realtime::Verdict;
+use realtime_read::FEED_MESSAGE;
 use realtime_views::Delay;
 use realtime_views::Direction;
 use realtime_views::Event;
@@ -205,7 +205,7 @@ fn write_entities(s: &[u8]) {
 }
 
 fn write_message(s: &[u8]) {
-    match realtime::judge(s, FEED_MESSAGE) {
+    match realtime_read::judge(s, FEED_MESSAGE) {
         Verdict::Broken => write(b"4"),
         Verdict::Text => write(b"5"),
         Verdict::Time => write(b"6"),

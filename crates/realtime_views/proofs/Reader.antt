@@ -10,7 +10,7 @@ use lib.Dec.{eqb}
 use borrow.Author.Tests.{eq-eqb, ne-eqb}
 use lib.Seq.{take-length}
 use Rattle.realtime.specs.Tree.{Schema, Tree, tree}
-use Rattle.realtime.specs.promises.Steps.{Stepped}
+use Rattle.realtime_read.specs.promises.Steps.{Stepped}
 use Rattle.realtime_views.specs.laws.Fold.{Walked, walk-starts, walk-ends, walk-breaks, walk-number, walk-text}
 use Rattle.realtime_views.specs.laws.Fold.{walk-message}
 use Rattle.realtime_views.specs.promises.Fold.{inside, Takes, folded}
@@ -21,7 +21,7 @@ use Rattle.realtime_views.specs.promises.Scalars.{Slot, fieldOf, at, sai
 use Rattle.realtime_views.specs.promises.Scalars.{own, takesAlong}
 use Rattle.realtime_views.specs.declared.Scalar.{Scalar}
 use Rattle.realtime_views.specs.declared.Scalars.{Scalars}
-use Rattle.realtime.specs.declared.Step.{Step}
+use Rattle.realtime_read.specs.declared.Step.{Step}
 
 -- the loop stands at `at` with d, and started at `from` with d₀
 pub record Reading {D B : Type 0} (L : Lens D B) (φ : Takes B) (σ : Schema) (t : ℕ) (s : List ℕ) (from : ℕ) (d₀ : D)

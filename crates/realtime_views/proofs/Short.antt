@@ -18,10 +18,10 @@ use Rattle.wire.specs.declared.Cursor.{Cursor}
 use Rattle.wire.specs.declared.GotNumber.{GotNumber}
 use Rattle.wire.specs.declared.GotText.{GotText}
 use Rattle.realtime.specs.Schema.{fieldRows, feed, tripUpdate, stopTimeUpdate, stopTimeEvent}
-use Rattle.realtime.specs.promises.Steps.{Stepped}
-use Rattle.realtime.specs.declared.Step.{Step}
-use Rattle.realtime.proofs.Turn as turn
-use Rattle.realtime.proofs.Turn.{Here, at-end, some-number, some-text, some-message}
+use Rattle.realtime_read.specs.promises.Steps.{Stepped}
+use Rattle.realtime_read.specs.declared.Step.{Step}
+use Rattle.realtime_read.proofs.Turn as turn
+use Rattle.realtime_read.proofs.Turn.{Here, at-end, some-number, some-text, some-message}
 use Rattle.realtime_views.specs.promises.Last.{taking}
 use Rattle.realtime_views.specs.promises.Numbers.{plain, sequence, isPart, EventReads, NumberReads, StopReads}
 use Rattle.realtime_views.specs.promises.Numbers.{fromStop}

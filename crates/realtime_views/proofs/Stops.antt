@@ -9,8 +9,8 @@ use lib.ListN.{length, take, drop, length-take}
 use borrow.Author.Tests.{eq-eqb, ne-eqb}
 use Rattle.realtime.specs.Tree.{aNumber, aText, aMessage, Schema}
 use Rattle.realtime.specs.Schema.{fieldRows, feed, stopTimeUpdate, stopTimeEvent}
-use Rattle.realtime.specs.promises.Steps.{Lies, Stepped}
-use Rattle.realtime.specs.declared.Step.{Step}
+use Rattle.realtime_read.specs.promises.Steps.{Lies, Stepped}
+use Rattle.realtime_read.specs.declared.Step.{Step}
 use Rattle.realtime_views.specs.promises.Fold.{inside}
 use Rattle.realtime_views.specs.promises.Reading.{Lens, Reads}
 use Rattle.realtime_views.specs.promises.Last.{Single, taking}

@@ -7,8 +7,8 @@ use mathlib.Core.Option.{some}
 use lib.ListN.{length, take}
 use Rattle.realtime.specs.Tree.{aMessage}
 use Rattle.realtime.specs.Schema.{fieldRows, feed, feedEntity, tripUpdate}
-use Rattle.realtime.specs.promises.Steps.{Stepped}
-use Rattle.realtime.specs.declared.Step.{Step}
+use Rattle.realtime_read.specs.promises.Steps.{Stepped}
+use Rattle.realtime_read.specs.declared.Step.{Step}
 use Rattle.realtime_views.specs.promises.Reading.{Reads}
 use Rattle.realtime_views.specs.promises.Scalars.{scalars, kept, blank, own, takesAlong, TripReady, UpdateReads}
 use Rattle.realtime_views.specs.promises.Scalars.{TripReads}

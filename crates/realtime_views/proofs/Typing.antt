@@ -21,11 +21,11 @@ use Rattle.realtime_views.specs.promises.Last.{taking}
 use Rattle.realtime_views.specs.promises.Numbers.{orZeroAt, singleText, singleNumber, plain, spans, valueOf}
 use Rattle.realtime_views.specs.promises.Numbers.{noNumber, noSpan, fromEvent, EventsRead, NumberReady}
 use Rattle.realtime_views.specs.promises.Numbers.{NumberReads, StopReads}
-use Rattle.realtime_views.specs.Typed.{uint32, int32, int64, bool, enum, numberIn, textIn, orZero}
+use Rattle.realtime.specs.Typed.{uint32, int32, int64, bool, enum, numberIn, textIn, orZero}
 use Rattle.basics.specs.Options.{someAnd}
 use Rattle.realtime_views.specs.promises.Narrow.{toSpan, toTimestamp, toDirection, toDelay, isValue, toHeader}
 use Rattle.realtime_views.specs.promises.Narrow.{toTrip}
-use Rattle.realtime_views.specs.Views.{event}
+use Rattle.realtime.specs.Views.{event}
 use Rattle.realtime_views.specs.promises.Views.{spanIn, viewTimestamp, viewDirection, viewDelay, viewTime}
 use Rattle.realtime_views.specs.promises.Views.{viewEvent, SpanInside, HeaderRead, DeletedRead, TripRead}
 use Rattle.realtime_views.specs.promises.Views.{StopRead, SequenceRead}

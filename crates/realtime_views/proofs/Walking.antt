@@ -11,8 +11,8 @@ use borrow.Author.Tests.{eq-eqb, ne-eqb, eqb-true, eqb-false}
 use Rattle.basics.specs.laws.Options.{none-some}
 use Rattle.realtime.specs.Tree.{aMessage, Schema, Tree, end, num, txt, msg, tree, join, sub, rep}
 use Rattle.basics.specs.Options.{bindO}
-use Rattle.realtime.specs.laws.Steps.{step-is}
-use Rattle.realtime.specs.promises.Steps.{Goes, Stepped}
+use Rattle.realtime_read.specs.laws.Steps.{step-is}
+use Rattle.realtime_read.specs.promises.Steps.{Goes, Stepped}
 use Rattle.realtime.specs.Schema.{fieldRows, feed, feedMessage, feedEntity, tripUpdate}
 use Rattle.realtime_views.specs.laws.Reading.{front-part, front-rest}
 use Rattle.realtime_views.specs.promises.Walks.{leftOf, left, met, SoundWalk, ahead, Walks, typeOf, Yields}
@@ -20,7 +20,7 @@ use Rattle.realtime_views.specs.promises.Walks.{NextEntity, NextUpdate}
 use Rattle.realtime_views.specs.declared.Met.{Met}
 use Rattle.realtime_views.specs.declared.Walk.{Walk}
 use Rattle.realtime_views.specs.declared.Item.{Item}
-use Rattle.realtime.specs.declared.Step.{Step}
+use Rattle.realtime_read.specs.declared.Step.{Step}
 
 -- what a field in front, inside or outside, does to what is left
 module _ (a k : ℕ) where

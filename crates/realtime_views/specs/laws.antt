@@ -4,4 +4,3 @@ pub mod Last
 pub mod Scalars
 pub mod Walks
 pub mod Starts
-pub mod Examples

@@ -1,16 +1,16 @@
 // The merged messages of a feed, read after the validator: a broken message is answered with anything.
-use realtime::FEED_ENTITY;
-use realtime::FEED_MESSAGE;
-use realtime::STOP_TIME_EVENT;
-use realtime::STOP_TIME_UPDATE;
-use realtime::Step;
-use realtime::TRIP_UPDATE;
-use realtime::fields::feed_entity;
-use realtime::fields::feed_message;
-use realtime::fields::stop_time_event;
-use realtime::fields::stop_time_update;
-use realtime::fields::trip_update;
-use realtime::next;
+use realtime_read::FEED_ENTITY;
+use realtime_read::FEED_MESSAGE;
+use realtime_read::STOP_TIME_EVENT;
+use realtime_read::STOP_TIME_UPDATE;
+use realtime_read::Step;
+use realtime_read::TRIP_UPDATE;
+use realtime_read::fields::feed_entity;
+use realtime_read::fields::feed_message;
+use realtime_read::fields::stop_time_event;
+use realtime_read::fields::stop_time_update;
+use realtime_read::fields::trip_update;
+use realtime_read::next;
 use wire::Cursor;
 use wire::GotNumber;
 use wire::GotText;
@@ -28,7 +28,7 @@ ghost use Rattle.realtime_views.specs.promises.Narrow.{isValue, toDelay,
 ghost use Rattle.realtime_views.specs.promises.Narrow.{toTimestamp, toTrip};
 ghost use Rattle.realtime_views.specs.promises.Numbers.{EventReads, NumberReads, NumberReady, StopReads, isPart};
 ghost use Rattle.realtime_views.specs.promises.Numbers.{fromDelay, fromEvent, fromStop, fromTime, noNumbers};
-ghost use Rattle.realtime_views.specs.Typed as typed;
+ghost use Rattle.realtime.specs.Typed as typed;
 ghost use Rattle.realtime_views.specs.promises.Walks.{NextEntity, NextUpdate, SoundWalk, Walks, Yields, met};
 ghost use Rattle.realtime_views.specs.promises.Walks.{typeOf};
 ghost use Rattle.realtime_views.specs.promises.Starts.{atMerged, atPlain};

@@ -5,7 +5,7 @@ use mathlib.Core.List.{List, [], _∷_}
 use mathlib.Core.Option.{some}
 use lib.ListN.{length, take, drop}
 use Rattle.decode.specs.Sizes.{mostTrips, mostId, mostDate, mostTime}
-use Rattle.realtime_views.specs.Views.{trip}
+use Rattle.realtime.specs.Views.{trip}
 use Rattle.realtime_views.specs.promises.Views.{spanIn, viewDirection}
 use Rattle.realtime.specs.Tree.{Tree, tree}
 use Rattle.realtime.specs.Schema.{feedEntity}

@@ -2,7 +2,7 @@
 use borrow.Author.Needs.{needs}
 use mathlib.Core.Path.{sym, ap, _∙_}
 use Rattle.realtime.specs.Schema.{feedMessage}
-use Rattle.realtime_views.specs.Views.{header}
+use Rattle.realtime.specs.Views.{header}
 use Rattle.decode_probes.specs.Answers.{headerNumbers, noHeader}
 use Rattle.decode_probes.proofs.Reading.{of-whole, of-broken}
 use Rattle.decode_probes.proofs.trips_header.Statement.{statement}

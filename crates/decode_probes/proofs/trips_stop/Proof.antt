@@ -2,7 +2,7 @@
 use borrow.Author.Needs.{needs}
 use mathlib.Core.Path.{sym, ap, _∙_}
 use Rattle.realtime.specs.Schema.{stopTimeUpdate}
-use Rattle.realtime_views.specs.Views.{stopUpdate}
+use Rattle.realtime.specs.Views.{stopUpdate}
 use Rattle.decode_probes.specs.Answers.{stopNumbersOf, noStop}
 use Rattle.decode_probes.proofs.Reading.{of-whole, of-broken, all-of}
 use Rattle.decode_probes.proofs.trips_stop.Statement.{statement}

@@ -4,7 +4,7 @@ use mathlib.Core.Path.{sym, ap, _∙_}
 use mathlib.Core.Bool.{false}
 use Rattle.realtime.specs.Schema.{stopTimeUpdate}
 use Rattle.basics.specs.Texts.{same}
-use Rattle.realtime_views.specs.Views.{stopUpdate}
+use Rattle.realtime.specs.Views.{stopUpdate}
 use Rattle.decode_probes.proofs.Reading.{of-whole, of-broken, all-of}
 use Rattle.decode_probes.proofs.trips_stop_text.Statement.{statement}
 use Rattle.decode_probes.proofs.trips_stop_text.Tie as tie

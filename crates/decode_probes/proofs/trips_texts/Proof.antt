@@ -3,7 +3,7 @@ use borrow.Author.Needs.{needs}
 use mathlib.Core.Path.{sym, _∙_}
 use mathlib.Core.Bool.{false}
 use Rattle.realtime.specs.Schema.{feedEntity}
-use Rattle.realtime_views.specs.Views.{trip}
+use Rattle.realtime.specs.Views.{trip}
 use Rattle.decode_probes.specs.Answers.{textsAre}
 use Rattle.decode_probes.proofs.Reading.{of-whole, of-broken, all-of, texts-read}
 use Rattle.decode_probes.proofs.trips_texts.Statement.{statement}

@@ -2,7 +2,7 @@
 use borrow.Author.Needs.{needs}
 use mathlib.Core.Path.{sym, ap, _∙_}
 use Rattle.realtime.specs.Schema.{feedEntity}
-use Rattle.realtime_views.specs.Views.{trip}
+use Rattle.realtime.specs.Views.{trip}
 use Rattle.decode_probes.specs.Answers.{tripNumbersOf, noTrip}
 use Rattle.decode_probes.proofs.Reading.{of-whole, of-broken, all-of}
 use Rattle.decode_probes.proofs.trips_trip.Statement.{statement}

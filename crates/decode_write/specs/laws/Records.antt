@@ -22,8 +22,8 @@ use Rattle.maps.specs.laws.Map.{map-length}
 use Rattle.realtime.specs.Schema.{feedEntity, stopTimeUpdate}
 use Rattle.realtime.specs.Schema as schema
 use Rattle.realtime_views.specs.declared.Trip as read
-use Rattle.realtime_views.specs.Views.{TripView}
-use Rattle.realtime_views.specs.Views as views
+use Rattle.realtime.specs.Views.{TripView}
+use Rattle.realtime.specs.Views as views
 use Rattle.realtime_views.specs.promises.Views.{TripRead, viewTrip}
 use Rattle.decode.specs.Record.{bit, updatesIn, tripIn}
 use Rattle.decode.specs.Sizes.{mostUpdates, beyond, keyBytes}

@@ -21,7 +21,7 @@ use Rattle.formats_write.specs.promises.Adds.{Adds}
 use Rattle.formats_write.specs.promises.Given.{optionalW, textW}
 use Rattle.realtime_views.specs.declared.Span.{Span}
 use Rattle.formats_read.specs.laws.Progress.{one-more}
-use Rattle.realtime_views.specs.Views.{StopView, TripView}
+use Rattle.realtime.specs.Views.{StopView, TripView}
 use Rattle.realtime.specs.Schema.{stopTimeUpdate}
 use Rattle.realtime.specs.Schema as schema
 use Rattle.realtime_views.specs.declared.StopUpdate as read

@@ -5,7 +5,7 @@ use lib.IntN.{ℤ}
 use Rattle.basics.specs.Options.{maybe}
 use Rattle.formats.specs.Number.{numberW, zig}
 use Rattle.formats_write.specs.promises.Given.{optionalW, textW}
-use Rattle.realtime_views.specs.Views.{EventView, StopView, TripView}
+use Rattle.realtime.specs.Views.{EventView, StopView, TripView}
 use Rattle.realtime_views.specs.declared.Trip.{Trip}
 use Rattle.realtime_views.specs.promises.Views.{SpanInside}
 use Rattle.decode.specs.Record.{bit}

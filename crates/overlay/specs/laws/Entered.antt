@@ -19,9 +19,9 @@ use Rattle.realtime.specs.Tree.{Tree, Leaf, count, words, tree, last, sub, rep}
 use Rattle.realtime.specs.Schema.{feedMessage, feedEntity, tripUpdate, tripDescriptor, stopTimeUpdate, stopTimeEvent}
 use Rattle.realtime.specs.Schema.{fieldRows, feed}
 use Rattle.realtime.specs.Judge.{rules, textsFine, numbersFine, numberRule, limit}
-use Rattle.realtime_views.specs.Typed.{int32, int64, uint32, numberIn, orZero}
-use Rattle.realtime_views.specs.Typed as typed
-use Rattle.realtime_views.specs.Views as view
+use Rattle.realtime.specs.Typed.{int32, int64, uint32, numberIn, orZero}
+use Rattle.realtime.specs.Typed as typed
+use Rattle.realtime.specs.Views as view
 use Rattle.decode.specs.Trip.{Trip, StopUpdate, delay, instant, number32, stopUpdate, trip, routeOf, dateOf, timeOf}
 use Rattle.decode.specs.Trip.{updatesOf}
 use Rattle.basics.specs.Options.{maybe}

@@ -20,7 +20,7 @@ use Rattle.formats_write.specs.promises.Given.{optionalW, givenSigned}
 use Rattle.realtime.specs.Tree.{Tree, tree}
 use Rattle.realtime.specs.Schema.{feedMessage}
 use Rattle.realtime.specs.Schema as schema
-use Rattle.realtime_views.specs.Typed.{int64}
+use Rattle.realtime.specs.Typed.{int64}
 use Rattle.realtime_views.specs.declared.Header.{Header}
 use Rattle.realtime_views.specs.declared.Timestamp.{Timestamp}
 use Rattle.realtime_views.specs.promises.Views.{HeaderRead, viewTimestamp}

@@ -11,7 +11,7 @@ use Rattle.formats_write.specs.declared.Put.{Put}
 use Rattle.realtime.specs.Tree.{Tree, tree}
 use Rattle.realtime.specs.Schema.{feedMessage}
 use Rattle.realtime.specs.Schema as schema
-use Rattle.realtime_views.specs.Typed.{int64}
+use Rattle.realtime.specs.Typed.{int64}
 use Rattle.decode.specs.Leaves.{Trips, timestampIn, countWithoutAt}
 use Rattle.decode.specs.Sizes.{mostOld}
 use Rattle.overlay.specs.Change.{afterMessage}

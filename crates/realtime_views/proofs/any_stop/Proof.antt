@@ -4,7 +4,7 @@ use Prim.Native.Nat.{_-_}
 use native.Mathlib.Omega.{arith}
 use denote.Ref.{now}
 use lib.ListN.{length}
-use Rattle.realtime.specs.laws.Steps.{step-is}
+use Rattle.realtime_read.specs.laws.Steps.{step-is}
 use Rattle.realtime_views.proofs.Stops.{Stops, stops-start, stops-end, stops-break, stops-sequence}
 use Rattle.realtime_views.proofs.Stops.{stops-relationship, stops-number, stops-stop, stops-text, stops-arrival}
 use Rattle.realtime_views.proofs.Stops.{stops-departure, stops-message, begins-inside}

@@ -5,7 +5,7 @@ use native.Mathlib.Omega.{arith}
 use mathlib.Core.Path.{refl, sym}
 use lib.ListN.{length}
 use Rattle.realtime.specs.Schema.{feed}
-use Rattle.realtime.specs.laws.Steps.{step-is}
+use Rattle.realtime_read.specs.laws.Steps.{step-is}
 use Rattle.realtime_views.specs.promises.Last.{taking}
 use Rattle.realtime_views.specs.promises.Numbers.{plain, orZeroAt}
 use Rattle.realtime_views.proofs.Reader.{Reading, begins, says, stops}

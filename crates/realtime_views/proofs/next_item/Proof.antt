@@ -8,8 +8,8 @@ use mathlib.Core.List.{List}
 use denote.Ref.{now}
 use lib.ListN.{length}
 use Rattle.realtime.specs.Schema.{feed}
-use Rattle.realtime.specs.promises.Steps.{Stepped}
-use Rattle.realtime.specs.declared.Step.{Step}
+use Rattle.realtime_read.specs.promises.Steps.{Stepped}
+use Rattle.realtime_read.specs.declared.Step.{Step}
 use Rattle.realtime_views.proofs.Walking.{met-end, met-broken, met-sought, other-goes, Leads, leads}
 use Rattle.realtime_views.proofs.Walking.{in-breaks, in-other-on, yields, out-ends, out-breaks, out-other-on}
 use Rattle.realtime_views.proofs.Walking.{opens}

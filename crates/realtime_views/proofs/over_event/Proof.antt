@@ -3,7 +3,7 @@ use borrow.Author.Needs.{needs}
 use Prim.Native.Nat.{_-_}
 use native.Mathlib.Omega.{arith}
 use lib.ListN.{length}
-use Rattle.realtime.specs.laws.Steps.{step-is}
+use Rattle.realtime_read.specs.laws.Steps.{step-is}
 use Rattle.realtime_views.proofs.Stops.{Events, event-starts, event-ends, event-breaks, event-delay, event-time}
 use Rattle.realtime_views.proofs.Stops.{event-number, event-text, event-message}
 use Rattle.realtime_views.proofs.over_event.Statement.{statement}

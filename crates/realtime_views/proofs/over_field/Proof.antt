@@ -8,7 +8,7 @@ use mathlib.Core.List.{[], _∷_}
 use denote.Ref.{now}
 use lib.ListN.{length}
 use Rattle.realtime.specs.Schema.{feed}
-use Rattle.realtime.specs.laws.Steps.{step-is}
+use Rattle.realtime_read.specs.laws.Steps.{step-is}
 use Rattle.realtime_views.specs.promises.Scalars.{scalars, own, takesAlong}
 use Rattle.realtime_views.proofs.Reader.{Reading, begins, says, stops, on-number, on-text, ready, taken, passed}
 use Rattle.realtime_views.proofs.over_field.Statement.{statement}

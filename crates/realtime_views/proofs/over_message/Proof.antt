@@ -6,7 +6,7 @@ use mathlib.Core.Path.{refl}
 use native.Mathlib.Omega.{arith}
 use lib.ListN.{length}
 use Rattle.realtime.specs.Schema.{feed}
-use Rattle.realtime.specs.laws.Steps.{step-is}
+use Rattle.realtime_read.specs.laws.Steps.{step-is}
 use Rattle.realtime_views.specs.promises.Scalars.{scalars, own}
 use Rattle.realtime_views.proofs.Reader.{Reading, begins, says, stops, past-message, keep-number, keep-text}
 use Rattle.realtime_views.proofs.over_message.Statement.{statement}

@@ -4,7 +4,7 @@ use Prim.Native.Nat.{_-_}
 use native.Mathlib.Omega.{arith}
 use denote.Ref.{now}
 use lib.ListN.{length}
-use Rattle.realtime.specs.laws.Steps.{step-is}
+use Rattle.realtime_read.specs.laws.Steps.{step-is}
 use Rattle.realtime_views.proofs.Reader.{ready}
 use Rattle.realtime_views.proofs.Trips.{Updates, updates-start, updates-end, updates-break, updates-number}
 use Rattle.realtime_views.proofs.Trips.{updates-text, updates-trip, updates-other}

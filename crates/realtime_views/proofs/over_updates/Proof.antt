@@ -4,7 +4,7 @@ use Prim.Native.Nat.{_-_}
 use native.Mathlib.Omega.{arith}
 use denote.Ref.{now}
 use lib.ListN.{length}
-use Rattle.realtime.specs.laws.Steps.{step-is}
+use Rattle.realtime_read.specs.laws.Steps.{step-is}
 use Rattle.realtime_views.proofs.Trips.{Entities, entities-start, entities-end, entities-break, entities-number}
 use Rattle.realtime_views.proofs.Trips.{entities-text, entities-ready, entities-taken, entities-other}
 use Rattle.realtime_views.proofs.over_updates.Statement.{statement}

@@ -1,6 +1,6 @@
 -- `realtime_views::stop_from` meets its contract, field by field. Assumes nothing.
 use lib.Dec.{eqb}
-use Rattle.realtime_views.specs.Typed.{enum}
+use Rattle.realtime.specs.Typed.{enum}
 use Rattle.realtime_views.proofs.stop_from.Statement.{statement}
 use Rattle.realtime_views.proofs.stop_from.Tie as tie
 

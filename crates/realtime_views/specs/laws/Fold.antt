@@ -9,8 +9,8 @@ use lib.Dec.{eqb}
 use Rattle.basics.specs.laws.Options.{none-some}
 use Rattle.realtime.specs.Tree.{Schema, Tree, end, num, txt, msg, tree, join, sub}
 use Rattle.basics.specs.Options.{bindO}
-use Rattle.realtime.specs.promises.Steps.{Stepped}
-use Rattle.realtime.specs.declared.Step.{Step}
+use Rattle.realtime_read.specs.promises.Steps.{Stepped}
+use Rattle.realtime_read.specs.declared.Step.{Step}
 use Rattle.realtime_views.specs.promises.Fold.{Takes, folded, inside, Made}
 
 pub folded-join : {B : Type 0} (φ : Takes B) (v : B) (a b : Tree) → folded φ v (join a b) ≡ folded φ (folded φ v a) b

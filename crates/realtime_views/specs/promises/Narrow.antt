@@ -2,7 +2,7 @@
 use Prim.Native.Nat.{ℕ}
 use mathlib.Core.Bool.{Bool, false}
 use lib.Dec.{eqb}
-use Rattle.realtime_views.specs.Typed.{uint32, int32, enum}
+use Rattle.realtime.specs.Typed.{uint32, int32, enum}
 use Rattle.realtime_views.specs.declared.Scalar.{Scalar}
 use Rattle.realtime_views.specs.declared.Span.{Span}
 use Rattle.realtime_views.specs.declared.Timestamp.{Timestamp}

@@ -13,7 +13,7 @@ use Rattle.realtime_views.specs.promises.Fold.{inside}
 use Rattle.realtime_views.specs.promises.Last.{Single, taking}
 use Rattle.realtime_views.specs.laws.Reading.{front-part}
 use Rattle.realtime_views.specs.promises.Reading.{Lens, Reads}
-use Rattle.realtime_views.specs.Typed.{uint32, int32, int64, enum}
+use Rattle.realtime.specs.Typed.{uint32, int32, int64, enum}
 use Rattle.realtime_views.specs.declared.Span.{Span}
 use Rattle.realtime_views.specs.declared.Delay.{Delay}
 use Rattle.realtime_views.specs.declared.Time.{Time}

@@ -17,8 +17,8 @@ use Rattle.realtime_views.specs.declared.Header.{Header}
 use Rattle.realtime_views.specs.declared.Trip.{Trip}
 use Rattle.realtime_views.specs.declared.Event.{Event}
 use Rattle.realtime_views.specs.declared.StopUpdate.{StopUpdate}
-use Rattle.realtime_views.specs.Views.{HeaderView, header, deleted, TripView, trip, EventView, StopView}
-use Rattle.realtime_views.specs.Views.{stopUpdate}
+use Rattle.realtime.specs.Views.{HeaderView, header, deleted, TripView, trip, EventView, StopView}
+use Rattle.realtime.specs.Views.{stopUpdate}
 
 -- what the code's answers say of the bytes s
 abbrev pub spanIn : List ℕ → Span → List ℕ

@@ -9,7 +9,7 @@ use lib.Dec.{eqb}
 use Rattle.realtime.specs.Tree.{Kind, aNumber, aText, aMessage, Schema, Tree, tree, join, sub, rep}
 use Rattle.basics.specs.Options.{bindO}
 use Rattle.realtime.specs.Schema.{feed, feedMessage, feedEntity, tripUpdate, stopTimeUpdate}
-use Rattle.realtime.specs.declared.Step.{Step}
+use Rattle.realtime_read.specs.declared.Step.{Step}
 use Rattle.realtime_views.specs.declared.Met.{Met}
 use Rattle.realtime_views.specs.declared.Walk.{Walk}
 use Rattle.realtime_views.specs.declared.Item.{Item}

@@ -1,0 +1,28 @@
+-- Promise. Judgements of parts, put together.
+use Prim.Native.Nat.{ℕ}
+use mathlib.Core.Bool.{Bool, true, false}
+use Rattle.formats.specs.Class.{printable, allowed}
+use Rattle.realtime.specs.declared.Verdict.{Verdict}
+
+-- a byte of a printable text
+abbrev pub sign : ℕ → Bool
+sign b = allowed printable b
+
+abbrev pub fine : Verdict → Bool
+fine Verdict.Broken = false
+fine Verdict.Text = false
+fine Verdict.Time = false
+fine Verdict.Fine = true
+
+-- Of two judgements of parts, the one that is asked first
+abbrev pub askedFirst : Verdict → Verdict → Verdict
+askedFirst Verdict.Broken b = Verdict.Broken
+askedFirst Verdict.Text Verdict.Broken = Verdict.Broken
+askedFirst Verdict.Text Verdict.Text = Verdict.Text
+askedFirst Verdict.Text Verdict.Time = Verdict.Text
+askedFirst Verdict.Text Verdict.Fine = Verdict.Text
+askedFirst Verdict.Time Verdict.Broken = Verdict.Broken
+askedFirst Verdict.Time Verdict.Text = Verdict.Text
+askedFirst Verdict.Time Verdict.Time = Verdict.Time
+askedFirst Verdict.Time Verdict.Fine = Verdict.Time
+askedFirst Verdict.Fine b = b
