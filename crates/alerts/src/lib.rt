@@ -14,7 +14,7 @@ fn goes_on(b: u8) -> bool
 }
 
 // Where the first n characters of s end.
-pub fn characters_end(s: &[u8], n: usize) -> usize
+fn characters_end(s: &[u8], n: usize) -> usize
     ensures { λ r. ⌜ Ends (now (s .entry)) n r ⌝ }
 {
     let mut left = n;

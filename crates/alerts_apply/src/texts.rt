@@ -41,14 +41,18 @@ fn is_given(s: &[u8], at: usize) -> bool
 pub fn label(s: &[u8], at: usize) -> Span
     ensures { λ r. ⌜ Labelled (now (s .entry)) at (r .from) (r .to) ⌝ }
 {
-    if is_given(s, at) {
-        return text_at(s, at);
+    let present = is_given(s, at);
+    let header = text_at(s, at);
+    let description = text_at(s, past_optional_text(s, at));
+    let h = header.from;
+    let i = header.to;
+    let d = description.from;
+    let e = description.to;
+    let n = alerts::label(present, &s[h..i], &s[d..e]).len();
+    if present {
+        return Span { from: h, to: h + n };
     }
-    let t = text_at(s, past_optional_text(s, at));
-    let a = t.from;
-    let e = t.to;
-    let n = alerts::characters_end(&s[a..e], 120);
-    Span { from: a, to: a + n }
+    Span { from: d, to: d + n }
 }
 
 // Whether three texts and a byte are shorter than a buffer.

@@ -1,8 +1,8 @@
 -- Law. The texts of an alert at a place, as its bytes say them.
 use mathlib.Core.Path.{_≡_, refl, sym, ap, _∙_}
-use mathlib.Core.List.{List, []}
-use mathlib.Core.Bool.{Bool, true, false, not}
-use Prim.Native.Nat.{ℕ, _+_, _-_, _≤_, _<_}
+use mathlib.Core.List.{List, [], _∷_}
+use mathlib.Core.Bool.{Bool, true, false, cond, not}
+use Prim.Native.Nat.{ℕ, zero, suc, _+_, _-_, _≤_, _<_}
 use native.Mathlib.Omega.{arith}
 use lib.Dec.{ltb, eqb}
 use lib.ListN.{length, getD, take, drop}
@@ -19,7 +19,7 @@ use Rattle.formats_read.specs.laws.Here.{halves, choice-in, first, second}
 use Rattle.formats_skip.specs.promises.Passes.{Passes}
 use Rattle.formats_skip.specs.laws.Leads.{lead-field, lead-here, lead-optional-text}
 use Rattle.alerts.specs.Alert.{alert, Alert, header, description, cause, isGiven, orEmptyText}
-use Rattle.alerts.specs.Label.{characters, labelOf}
+use Rattle.alerts.specs.Label.{continues, characters, labelOf}
 use Rattle.alerts.specs.promises.Label.{Ends}
 use Rattle.alerts_text.specs.promises.Blob.{roadOf, Answered}
 use Rattle.alerts_text.specs.promises.Marked.{Roomy}
@@ -91,9 +91,35 @@ part-length s a e h k = ap length (slice-is a e s h k) ∙ length-slice a e s k
 
 -- ---- the label
 
+-- the first characters of a text are its front
+front-taken : (n : ℕ) (s : List ℕ) → take (length (characters n s)) s ≡ characters n s
+front-taken zero [] = refl
+front-taken (suc n) [] = refl
+front-taken zero (b ∷ s) = go (continues b) (front-taken zero s)
+  where
+    go : (t : Bool) → take (length (characters zero s)) s ≡ characters zero s
+        → take (length (cond t (b ∷ characters zero s) [])) (b ∷ s) ≡ cond t (b ∷ characters zero s) []
+    go true h = ap (λ l. b ∷ l) h
+    go false h = refl
+front-taken (suc n) (b ∷ s) = ap (λ l. b ∷ l) (front-taken (cond (continues b) (suc n) n) s)
+
+front-short : (n : ℕ) (s : List ℕ) → length (characters n s) ≤ length s
+front-short zero [] = omega arith
+front-short (suc n) [] = omega arith
+front-short zero (b ∷ s) = go (continues b) (front-short zero s)
+  where
+    go : (t : Bool) → length (characters zero s) ≤ length s
+        → length (cond t (b ∷ characters zero s) []) ≤ length (b ∷ s)
+    go true h = omega (arith, h)
+    go false h = omega arith
+front-short (suc n) (b ∷ s) = omega (arith, front-short (cond (continues b) (suc n) n) s)
+
+characters-front : (n : ℕ) (s : List ℕ) → Ends s n (length (characters n s))
+characters-front n s = record { within = front-short n s; taken = front-taken n s }
+
 module _ {s : List ℕ} {p : ℕ} where
-  pub label-header : {a e : ℕ} {t : Bool} → Given s p t → t ≡ true → Shown s p a e → Labelled s p a e
-  label-header G f S = record {
+  at-header : {a e : ℕ} {t : Bool} → Given s p t → t ≡ true → Shown s p a e → Labelled s p a e
+  at-header G f S = record {
     is = λ {v} h.
         let g : isGiven (header v) ≡ true = sym (G .is (halves h .first)) ∙ f in
         of-header S h ∙ sym (ap (λ b. labelOf b (orEmptyText (header v)) (orEmptyText (description v))) g);
@@ -101,10 +127,20 @@ module _ {s : List ℕ} {p : ℕ} where
     within = S .within;
   }
 
-  pub label-description : {m a e n : ℕ} {t : Bool} → Given s p t → t ≡ false
+  -- l is the label, of a header that stands from a up to e and of the text d
+  pub label-header : (a e : ℕ) (d l : List ℕ) {t : Bool} → Given s p t → t ≡ true → Shown s p a e
+      → l ≡ labelOf t (take (e - a) (drop a s)) d → Labelled s p a (a + length l)
+  label-header a e d l G f S i =
+      let b = take (e - a) (drop a s) in
+      let n : length l ≡ e - a =
+      ap length (i ∙ ap (λ t. labelOf t b d) f) ∙ part-length s a e (S .forward) (S .within) in
+      let z : a + length l ≡ e = omega (arith, n, S .forward) in
+      rw z (at-header G f S)
+
+  at-description : {m a e n : ℕ} {t : Bool} → Given s p t → t ≡ false
       → Passes (optional (text 0 Class.any)) s p m → Shown s m a e → Ends (take (e - a) (drop a s)) 120 n
       → Labelled s p a (a + n)
-  label-description {m} {a} {e} {n} G f P S E = record {
+  at-description {m} {a} {e} {n} G f P S E = record {
     is = λ {v} h.
         let g : isGiven (header v) ≡ false = sym (G .is (halves h .first)) ∙ f in
         let b : take (e - a) (drop a s) ≡ orEmptyText (description v) =
@@ -125,6 +161,15 @@ module _ {s : List ℕ} {p : ℕ} where
           let z : a + n - a ≡ n = omega arith in
           sym (slice-is a (a + n) s (omega arith) (omega arith)) ∙ ap (λ j. take j (drop a s)) z
           ∙ sym (take-take n (e - a) (drop a s) l′)
+
+  -- l is the label, of the text h and of a description that stands from a up to e
+  pub label-description : (a e : ℕ) (h l : List ℕ) {m : ℕ} {t : Bool} → Given s p t → t ≡ false
+      → Passes (optional (text 0 Class.any)) s p m → Shown s m a e → l ≡ labelOf t h (take (e - a) (drop a s))
+      → Labelled s p a (a + length l)
+  label-description a e h l G f P S i =
+      let b = take (e - a) (drop a s) in
+      let n : length l ≡ length (characters 120 b) = ap length (i ∙ ap (λ t. labelOf t h b) f) in
+      rw n (at-description G f P S (characters-front 120 b))
 
 -- ---- room for the texts
 
