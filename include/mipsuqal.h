@@ -1,9 +1,10 @@
 /* Mipsuqal: the live journey card. The calls of the proved library, for C11 and C++17.
  *
- * Every call returns 0 (accepted) or the number of the first question that is answered by no (enum mipsuqal_refusal).
- * A refused call leaves zeros in its output and the old overlay as it was. A slice is two arguments: where it begins
- * and how many elements it has. What is asked of memory: each slice is valid for its length, one that is written
- * overlaps no other, and words are aligned. Nothing else is asked: a wrong length is answered by 1.
+ * Each of the panel's six calls returns 0 (accepted) or the number of the first question that is answered by no (enum
+ * mipsuqal_refusal). A refused one leaves zeros in its output. Each leaves the old overlay as it was, and zeros in its
+ * working buffers. A slice is two arguments: where it begins and how many elements it has. What is asked of memory:
+ * each slice is valid for its length, one that is written overlaps no other, and words are aligned. Nothing else is
+ * asked: a wrong length is answered by 1.
  *
  * docs/CALLS.md and docs/LAYOUT.md say every form to the byte; docs/GUIDE.md says how to use it. */
 #ifndef MIPSUQAL_H
@@ -87,12 +88,6 @@ uint32_t mipsuqal_report(const uint8_t *old_overlay, size_t old_length, const ui
  * 0 overlay, 1 card, 2 report, 3 keys .. 9 known; 0 for any other number. */
 size_t mipsuqal_length(uint32_t number);
 
-/* A list of calls run from a fresh overlay on, on two overlays that take turns, and what each gave: to be tried with
- * scripts (docs/CALLS.md, "A list of calls"). It is in a library of its own: `rt staticlib panel_replay`. */
-uint32_t mipsuqal_replay(const uint8_t *script, size_t script_length, uint8_t *a, size_t a_length, uint8_t *b,
-                         size_t b_length, uint8_t *out, size_t out_length, uint8_t *keys, size_t keys_length,
-                         uint32_t *marks, size_t marks_length, uint32_t *order, size_t order_length);
-
 /* ---- one thing to declare: the working buffers ---- */
 
 /* They may hold anything before a call, and hold zeros after it. Some 364 KB: static or allocated, not on a stack. */
@@ -135,6 +130,14 @@ static inline uint32_t mipsuqal_finish_card(const uint8_t *old_overlay, const ui
                          MIPSUQAL_CANDIDATES, work->met, MIPSUQAL_MET, work->noted, MIPSUQAL_NOTED, work->known,
                          MIPSUQAL_KNOWN);
 }
+
+/* ---- for tests, in a library of its own: `rt staticlib panel_replay` ---- */
+
+/* A list of calls run from a fresh overlay on, on two overlays that take turns, and in `out` what each gave. Returns 0;
+ * or 1, and zeros in `out`. No promise says what it leaves in the other five that it writes (docs/TEST-CALLS.md). */
+uint32_t mipsuqal_replay(const uint8_t *script, size_t script_length, uint8_t *a, size_t a_length, uint8_t *b,
+                         size_t b_length, uint8_t *out, size_t out_length, uint8_t *keys, size_t keys_length,
+                         uint32_t *marks, size_t marks_length, uint32_t *order, size_t order_length);
 
 #ifdef __cplusplus
 }

@@ -68,7 +68,7 @@ static uint8_t *lengths(uint8_t *to, const size_t *of, size_t count) {
     return to;
 }
 
-/* A step as a script has it (docs/CALLS.md, "A list of calls"). */
+/* A step as a script has it (docs/TEST-CALLS.md). */
 static uint8_t *written(uint8_t *to, const struct step *step, size_t length) {
     *to++ = (uint8_t)step->kind;
     to = text(to, step->feed, strlen(step->feed));
