@@ -3,7 +3,7 @@
 use mathlib.Core.List.{List, [], _∷_, _++_}
 use mathlib.Core.Option.{Option, none, some}
 use mathlib.Core.Bool.{Bool, cond, _||_}
-use Prim.Native.Nat.{ℕ, suc}
+use Prim.Native.Nat.{ℕ, zero, suc}
 use Rattle.basics.specs.Lists.{any, member, isEmpty, concatMap}
 use Rattle.alerts.specs.Text.{rsplit-once}
 use Rattle.basics.specs.Texts.{same}
@@ -93,6 +93,16 @@ lookups x trip route from to =
 
 abbrev pub alert-candidates-for-leg : List Alert → List ℕ → List ℕ → List ℕ → List ℕ → List ℕ
 alert-candidates-for-leg l trip route from to = distinct [] (lookups (rebuild-alert-index l) trip route from to)
+
+-- the alert with a number, as a list of none or one
+abbrev pub numbered : List Alert → ℕ → List Alert
+numbered [] i = []
+numbered (a ∷ l) zero = a ∷ []
+numbered (a ∷ l) (suc i) = numbered l i
+
+-- the candidates' alerts, in the order that the index gives
+abbrev pub candidateAlerts : List Alert → List ℕ → List ℕ → List ℕ → List ℕ → List Alert
+candidateAlerts l trip route from to = concatMap (numbered l) (alert-candidates-for-leg l trip route from to)
 
 -- The search: an alert is a candidate where one of its ids, or what the index makes of it, is one of the leg's keys
 abbrev pub meets : List (List ℕ) → List (List ℕ) → Bool

@@ -59,7 +59,7 @@ unfoldable pub late : Feeds → Transit → Bool
 late B t = live B t && not (isZero (departs B t .delay) && isZero (arrives B t .delay))
 
 -- the alerts of the trip's feed that are candidates and apply. The Rust asks the alerts at the numbers that the index
--- gives: status and headers are the same (laws/ByIndex)
+-- gives (`ByIndex`): status and headers are the same (laws/ByIndex)
 abbrev pub alertsIn : Option Records → List Alert
 alertsIn none = []
 alertsIn (some R) = R .alerts

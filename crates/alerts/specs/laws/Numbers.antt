@@ -3,15 +3,15 @@
 use mathlib.Core.Path.{_≡_, refl, sym, ap, _∙_}
 use mathlib.Core.List.{List, [], _∷_}
 use mathlib.Core.Bool.{Bool, true, false, cond, not, _&&_, _||_}
-use Prim.Native.Nat.{ℕ, zero, suc, _+_, _≤_, _<_}
+use Prim.Native.Nat.{ℕ, suc, _+_, _≤_, _<_}
 use native.Mathlib.Omega.{arith}
 use lib.Dec.{eqb}
 use lib.ListN.{length}
 use borrow.Author.Tests.{eqb-true, eq-eqb}
-use Rattle.basics.specs.Lists.{All, any, member, concatMap}
+use Rattle.basics.specs.Lists.{All, any, member}
 use Rattle.alerts.specs.Alert.{Alert}
 use Rattle.alerts.specs.Index.{distinct, lookups, rebuild-alert-index, alert-candidates-for-leg}
-use Rattle.alerts.specs.Index.{candidate, numbersWhere, search}
+use Rattle.alerts.specs.Index.{candidate, numbersWhere, search, numbered, candidateAlerts}
 use Rattle.basics.specs.laws.Lists.{any-join}
 use Rattle.basics.specs.laws.Booleans.{false-true, or-false}
 use Rattle.alerts.specs.laws.Candidates.{member-distinct, search-is-index, any-candidates}
@@ -90,12 +90,6 @@ module _ (l : List Alert) (trip route from to : List ℕ) where
 
 -- ---- the alerts that are numbered
 
--- the alert with a number, as a list of none or one
-abbrev pub numbered : List Alert → ℕ → List Alert
-numbered [] i = []
-numbered (a ∷ l) zero = a ∷ []
-numbered (a ∷ l) (suc i) = numbered l i
-
 -- numbers from one more on
 any-later : (f : ℕ → Bool) (p : Alert → Bool) (i : ℕ) (l : List Alert)
     → any f (numbersWhere p (suc i) l) ≡ any (λ j. f (suc j)) (numbersWhere p i l)
@@ -120,12 +114,9 @@ any-numbered q p (a ∷ l) = go (p a) (any-later (λ i. any q (numbered (a ∷ l
     go false e = e
 
 module _ (l : List Alert) (trip route from to : List ℕ) where
-  -- the candidates' alerts, in the order that the index gives
-  abbrev pub candidateAlerts : List Alert
-  candidateAlerts = concatMap (numbered l) (alert-candidates-for-leg l trip route from to)
-
   -- WHATEVER IS ASKED OF SOME CANDIDATE is asked of some alert that the search takes
-  pub any-candidate : (q : Alert → Bool) → any q candidateAlerts ≡ any (λ a. candidate trip route from to a && q a) l
+  pub any-candidate : (q : Alert → Bool)
+      → any q (candidateAlerts l trip route from to) ≡ any (λ a. candidate trip route from to a && q a) l
   any-candidate q =
       any-join q (numbered l) (alert-candidates-for-leg l trip route from to)
       ∙ any-candidates l trip route from to (λ i. any q (numbered l i))

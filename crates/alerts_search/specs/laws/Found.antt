@@ -13,7 +13,7 @@ use Rattle.formats.specs.Format.{list}
 use Rattle.formats_read.specs.promises.Here.{Here}
 use Rattle.alerts.specs.Alert.{alert, Alert}
 use Rattle.alerts.specs.Index.{candidate, numbersWhere, search}
-use Rattle.alerts.specs.laws.Numbers.{numbered}
+use Rattle.alerts.specs.Index.{numbered}
 use Rattle.alerts_search.specs.promises.Candidates.{Candidates}
 use Rattle.alerts_search.specs.promises.Places.{Stands, Noted}
 use Rattle.alerts_search.specs.laws.Candidates.{numbers-few}

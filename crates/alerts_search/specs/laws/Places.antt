@@ -14,7 +14,7 @@ use Rattle.formats_read.specs.promises.Reads.{ReadsNumber}
 use Rattle.formats_read.specs.laws.Walk.{Walk, begin, onward, ended, of-list}
 use Rattle.formats_skip.specs.promises.Passes.{Passes}
 use Rattle.alerts.specs.Alert.{alert, Alert}
-use Rattle.alerts.specs.laws.Numbers.{numbered}
+use Rattle.alerts.specs.Index.{numbered}
 use Rattle.alerts_search.specs.promises.Places.{Kept, Stands, Noted}
 
 module _ (l : List ℕ) (i p : ℕ) where

@@ -7,7 +7,7 @@ use Rattle.basics.specs.Lists.{All}
 use Rattle.formats.specs.Format.{list}
 use Rattle.formats_read.specs.promises.Here.{Here}
 use Rattle.alerts.specs.Alert.{alert, Alert}
-use Rattle.alerts.specs.laws.Numbers.{numbered}
+use Rattle.alerts.specs.Index.{numbered}
 
 -- p was kept at i
 pub record Kept (old new : List ℕ) (i p : ℕ) : Type 0 where

@@ -1,5 +1,5 @@
--- Law. Status and headers as the Rust finds them, in a loop over the numbers that a feed's alert index gives for a
--- leg, are those of `Enrich`, which asks each alert of the feed whether it is a candidate.
+-- Law. Status and headers as the Rust finds them, by the numbers that a feed's alert index gives for a leg, are those
+-- of `Enrich`, which asks each alert of the feed whether it is a candidate.
 use mathlib.Core.Path.{_≡_, refl, sym, ap, _∙_}
 use mathlib.Core.Bool.{Bool, true, false, cond, not, _&&_}
 use mathlib.Core.List.{List, map}
@@ -8,42 +8,17 @@ use Rattle.basics.specs.Lists.{any, filter, isEmpty, concatMap}
 use Rattle.basics.specs.Texts.{same}
 use Rattle.alerts.specs.Alert.{Alert}
 use Rattle.alerts.specs.Index.{candidate}
-use Rattle.alerts.specs.Applies.{alert-applies-to-leg-with-mode}
 use Rattle.alerts.specs.Label.{label}
 use Rattle.basics.specs.laws.Lists.{any-same, any-join}
-use Rattle.alerts.specs.laws.Numbers.{candidateAlerts, any-candidate}
+use Rattle.alerts.specs.laws.Numbers.{any-candidate}
 use Rattle.overlay.specs.Records.{Feeds}
 use Rattle.overlay.specs.Lookup.{feed-of}
 use Rattle.journey.specs.Card.{Transit}
 use Rattle.journey.specs.Enrich.{cancels, live, late, alertsIn, applies, alerts-of}
 use Rattle.journey.specs.Enrich.{disrupted, status-of, labels-of, headers-of}
-use Rattle.journey.specs.laws.Labels.{any-filter, any-map, setOf, set-same, nonempty-has}
-
--- ---- the Rust's form
-
-abbrev pub passes : Transit → Alert → Bool
-passes t a = alert-applies-to-leg-with-mode a (t .trip) (t .route) (t .short) (t .from) (t .to) (t .mode)
-
--- the alerts at the numbers that the index gives, in that order
-abbrev pub candidatesOf : Feeds → Transit → List Alert
-candidatesOf B t = candidateAlerts (alertsIn (B (feed-of (t .trip)))) (t .trip) (t .route) (t .from) (t .to)
-
-abbrev pub disruptedByIndex : Feeds → Transit → Bool
-disruptedByIndex B t = any (passes t) (candidatesOf B t)
-
-abbrev pub statusByIndex : Feeds → List Transit → ℕ
-statusByIndex B ts =
-    cond (any (cancels B) ts) 4
-    (cond (any (late B) ts) 3 (cond (any (disruptedByIndex B) ts) 2 (cond (any (live B) ts) 1 0)))
-
-abbrev pub labelsByIndex : Feeds → List Transit → List (List ℕ)
-labelsByIndex B ts =
-    filter (λ x. not (isEmpty x)) (concatMap (λ t. map label (filter (passes t) (candidatesOf B t))) ts)
-
-abbrev pub headersByIndex : Feeds → List Transit → List (List ℕ)
-headersByIndex B ts = setOf (labelsByIndex B ts)
-
--- ---- is the definitions'
+use Rattle.journey.specs.ByIndex.{passes, candidatesOf, disruptedByIndex, statusByIndex, labelsByIndex}
+use Rattle.journey.specs.ByIndex.{headersByIndex}
+use Rattle.journey.specs.laws.Labels.{any-filter, any-map, set-same, nonempty-has}
 
 and-assoc : (x y z : Bool) → x && (y && z) ≡ x && y && z
 and-assoc true y z = refl

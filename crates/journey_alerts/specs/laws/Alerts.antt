@@ -13,13 +13,13 @@ use Rattle.decode_slots.specs.Places.{bytesIn}
 use Rattle.alerts.specs.Alert.{Alert, alert}
 use Rattle.alerts.specs.Text.{trim}
 use Rattle.alerts.specs.Label.{label}
-use Rattle.alerts.specs.laws.Numbers.{numbered}
+use Rattle.alerts.specs.Index.{numbered}
 use Rattle.alerts_search.specs.laws.Found.{behind}
 use Rattle.alerts_apply.specs.promises.Hits.{Room}
 use Rattle.alerts_apply.specs.promises.Known.{Knows}
 use Rattle.alerts_apply.specs.promises.Texts.{Labelled}
 use Rattle.journey.specs.Card.{Transit}
-use Rattle.journey.specs.laws.ByIndex.{passes}
+use Rattle.journey.specs.ByIndex.{passes}
 use Rattle.journey_labels.specs.promises.Labels.{SoundLabels}
 use Rattle.journey_alerts.specs.declared.LegTexts.{LegTexts}
 use Rattle.journey_alerts.specs.declared.LegAlerts.{LegAlerts}

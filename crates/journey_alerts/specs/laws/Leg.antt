@@ -37,7 +37,7 @@ use Rattle.overlay_seek.specs.declared.Found.{Found}
 use Rattle.overlay_seek.specs.declared.Found.the-variants.{At, Missing}
 use Rattle.journey.specs.Card.{Transit, transit, transitOf}
 use Rattle.journey.specs.Enrich.{alertsIn, applies, alerts-of, disrupted, labels-of}
-use Rattle.journey.specs.laws.ByIndex.{passes}
+use Rattle.journey.specs.ByIndex.{passes}
 use Rattle.journey.specs.laws.Found.{RecordsJudged}
 use Rattle.journey.specs.laws.Labels.{any-filter}
 use Rattle.journey_labels.specs.promises.Labels.{SoundLabels}

@@ -23,7 +23,7 @@ use Rattle.overlay.specs.Records.{Feeds, shown}
 use Rattle.overlay.specs.laws.Within.{Judged56}
 use Rattle.journey.specs.Card.{Transit, transit, transitOf}
 use Rattle.journey.specs.Enrich.{disrupted, labels-of}
-use Rattle.journey.specs.laws.ByIndex.{passes}
+use Rattle.journey.specs.ByIndex.{passes}
 use Rattle.journey.specs.laws.Headers.{entry}
 use Rattle.journey_finish.specs.promises.Finish.{StateIn}
 use Rattle.journey_labels.specs.promises.Labels.{mostLabels, labels, SoundLabels}
