@@ -14,7 +14,7 @@ use Rattle.basics.specs.Lists.{any, filter, isEmpty}
 use Rattle.basics.specs.Texts.{same}
 use Rattle.alerts.specs.Text.{text, begins, contains, later, find}
 use Rattle.alerts.specs.Applies.{letters, numerals, trams, names, letterRows, names-number, names-tram}
-use Rattle.alerts.specs.Applies.{commercial-lines-in-text, anyMarker, window, markerNear, railModes}
+use Rattle.alerts.specs.Applies.{commercial-lines-in-text, anyMarker, window, markerNear}
 use Rattle.alerts.specs.promises.Reduced.{adviceMarkers, primary, secondary, textOk, road}
 use Rattle.alerts_patterns.specs.promises.Tables.{upTo, nameFilled, patterns, anyIn}
 use Rattle.alerts_patterns.specs.promises.Found.{foundOf}
@@ -25,15 +25,13 @@ use Rattle.alerts_lines.specs.promises.Lines.{allLines, IsLine, mentions, named
 use Rattle.alerts_lines.specs.promises.Marks.{Lines, Marked, anyFrom, picks}
 use Rattle.alerts_lines.specs.declared.Pick.the-variants.{Named, Own, Another, Subject}
 use Rattle.alerts_lines.specs.laws.Choosing.{named-lines, own-lines, other-lines, subject-lines}
-use Rattle.alerts_text.specs.promises.Tables.{lesser, nearMarker, answerOf}
+use Rattle.alerts_text.specs.promises.Tables.{lesser, nearMarker, nearFilled}
 use Rattle.alerts_text.specs.promises.Marked.{okFor, notAdvised, Others, Settles, Opened, MarkedOk}
 use Rattle.alerts_text.specs.declared.lines.Settled.{Settled}
 use Rattle.alerts_text.specs.declared.lines.Settled.the-variants.{Right, Wrong, Open}
-use Rattle.alerts_text.specs.declared.lines.Ask.{Ask}
-use Rattle.alerts_text.specs.declared.lines.Ask.the-variants as ask
 use Rattle.basics.specs.laws.Lists.{any-append, any-same, any-implies}
-use Rattle.basics.specs.laws.Texts.{same-refl, same-true}
-use Rattle.basics.specs.laws.Booleans.{and-true, and-yes, and-no, or-false, both-ways, implied-false}
+use Rattle.basics.specs.laws.Texts.{same-true}
+use Rattle.basics.specs.laws.Booleans.{and-true, and-yes, and-no, or-false, implied-false}
 use Rattle.alerts.specs.laws.Text.{begins-true}
 
 -- the lesser of two numbers
@@ -135,24 +133,16 @@ near-nowhere p s r e h = go (find p s) (sym e ∙ h)
     go none x = refl
     go (some k) x = absurd (let z : _≡_ {A = ℕ} 0 1 = cc in omega arith)
 
--- each question
-module _ (question : Ask) (s n m : List ℕ) (t : Bool) where
-  pub asked-own : question ≡ ask.Own → t ≡ same m n → t ≡ answerOf question s n m
-  asked-own h g = rw h g
-
-  pub asked-advised : question ≡ ask.Advised → t ≡ nearMarker s (nameFilled n m) → t ≡ answerOf question s n m
-  asked-advised h e = rw h e
-
 -- advice
 pub secondary-near : (s n : List ℕ) (t : Bool)
-    → t ≡ any (answerOf ask.Advised s n) (patterns (text "LIGNE #|LIGNES #|METRO #| ET #| # | #.")) → t ≡ true
+    → t ≡ any (nearFilled s n) (patterns (text "LIGNE #|LIGNES #|METRO #| ET #| # | #.")) → t ≡ true
     → true ≡ secondary s n
 secondary-near s n t e h =
     ap (λ x. x || anyMarker adviceMarkers s && (contains (text "RER ") s || contains (text "TRAVAUX SUR") s))
     (sym (sym e ∙ h))
 
 module _ (s n : List ℕ) (t v : Bool)
-    (e : t ≡ any (answerOf ask.Advised s n) (patterns (text "LIGNE #|LIGNES #|METRO #| ET #| # | #."))) (h : t ≡ false)
+    (e : t ≡ any (nearFilled s n) (patterns (text "LIGNE #|LIGNES #|METRO #| ET #| # | #."))) (h : t ≡ false)
     (k : v ≡ anyIn (text "RER |TRAVAUX SUR") n s) where
   elsewhere : secondary s n ≡ anyMarker adviceMarkers s && v
   elsewhere =
@@ -347,10 +337,3 @@ module _ (s : List ℕ) (t : Bool) (ht : t ≡ anyIn (text "TRAFIC ROUTIER") s s
       road-last h w hw =
           hw ∙ or-false (contains (text "CIRCULATION") s)
           ∙ sym (rw (← traffic, not-named, ← stop-word, not-false u stopped, ← moved-word, not-false v h) refl)
-
-same-turned : (s t : List ℕ) → same s t ≡ same t s
-same-turned s t =
-    both-ways (same s t) (same t s) (λ e. rw (same-true s t e) (same-refl t)) (λ e. rw (same-true t s e) (same-refl s))
-
-pub rail-mode : (m : List ℕ) (t : Bool) → t ≡ any (answerOf ask.Own m m) railModes → t ≡ any (same m) railModes
-rail-mode m t e = e ∙ any-same (λ x. same x m) (same m) (λ x. same-turned x m) railModes

@@ -3,20 +3,11 @@ ghost use mathlib.Core.Path.{_≡_};
 ghost use Prim.Native.Nat.{_+_, _-_, _≤_};
 ghost use lib.ListN.{length};
 ghost use Rattle.basics.specs.Lists.{any};
-ghost use Rattle.basics.specs.Texts.{same};
-ghost use Rattle.alerts.specs.Applies.{anyMarker, window, railModes};
+ghost use Rattle.alerts.specs.Applies.{anyMarker, window};
 ghost use Rattle.alerts.specs.promises.Reduced.{adviceMarkers, secondary, road};
 ghost use Rattle.alerts_patterns.specs.promises.Tables.{nameFilled, patterns};
-ghost use Rattle.alerts_text.specs.promises.Tables.{lesser, nearMarker, answerOf};
+ghost use Rattle.alerts_text.specs.promises.Tables.{lesser, nearMarker, nearFilled};
 ghost use Rattle.alerts_text.specs.promises.Marked.{Others, Settles, Opened, MarkedOk};
-
-// What is asked of each piece of a table.
-pub enum Ask {
-    // The piece is the one given.
-    Own,
-    // The pattern stands near a marker of advice.
-    Advised,
-}
 
 // Whether s has a marker of advice.
 fn marked(s: &[u8]) -> bool
@@ -68,7 +59,7 @@ fn filled_len(name: &[u8], pattern: &[u8]) -> usize
 
 // Whether a marker stands near the first place of a pattern.
 fn near_marker(s: &[u8], name: &[u8], pattern: &[u8]) -> bool
-    ensures { λ r. ⌜ r ≡ nearMarker (now (s .entry)) (nameFilled (now (name .entry)) (now (pattern .entry))) ⌝ }
+    ensures { λ r. ⌜ r ≡ nearFilled (now (s .entry)) (now (name .entry)) (now (pattern .entry)) ⌝ }
 {
     match alerts_patterns::find_filled(s, name, pattern) {
         alerts_patterns::Found::At(i) => {
@@ -79,41 +70,27 @@ fn near_marker(s: &[u8], name: &[u8], pattern: &[u8]) -> bool
     }
 }
 
-fn answer(ask: Ask, s: &[u8], name: &[u8], piece: &[u8]) -> bool
-    ensures { λ r. ⌜ r ≡ answerOf ask (now (s .entry)) (now (name .entry)) (now (piece .entry)) ⌝ }
-{
-    match ask {
-        Ask::Own => slices::same(piece, name),
-        Ask::Advised => near_marker(s, name, piece),
-    }
-}
-
-// Whether the answer is yes for a piece of the table.
-fn any_piece(ask: Ask, table: &[u8], name: &[u8], s: &[u8]) -> bool
-    ensures { λ r. ⌜ r ≡ any (answerOf ask (now (s .entry)) (now (name .entry))) (patterns (now (table .entry))) ⌝ }
+// Whether a marker stands near one of the patterns of a table.
+fn any_near(table: &[u8], name: &[u8], s: &[u8]) -> bool
+    ensures { λ r. ⌜ r ≡ any (nearFilled (now (s .entry)) (now (name .entry))) (patterns (now (table .entry))) ⌝ }
 {
     let mut at = 0;
     let mut e = alerts_patterns::next(table, 0, b'|');
     while e < table.len() {
-        if answer(ask, s, name, &table[at..e]) {
+        if near_marker(s, name, &table[at..e]) {
             return true;
         }
         at = e + 1;
         e = alerts_patterns::next(table, at, b'|');
     }
-    answer(ask, s, name, &table[at..])
+    near_marker(s, name, &table[at..])
 }
 
 // Whether s names the line as advice.
 fn secondary(s: &[u8], name: &[u8]) -> bool
     ensures { λ r. ⌜ r ≡ secondary (now (s .entry)) (now (name .entry)) ⌝ }
 {
-    if any_piece(
-        Ask::Advised,
-        b"LIGNE #|LIGNES #|METRO #| ET #| # | #.",
-        name,
-        s,
-    ) {
+    if any_near(b"LIGNE #|LIGNES #|METRO #| ET #| # | #.", name, s) {
         return true;
     }
     if !alerts_patterns::any_in(b"RER |TRAVAUX SUR", name, s) {
@@ -196,16 +173,4 @@ pub fn road_traffic(s: &[u8]) -> bool
         return false;
     }
     alerts_patterns::any_in(b"CIRCULATION", s, s)
-}
-
-// Whether a mode in capitals is one of rail.
-pub fn rail(mode: &[u8]) -> bool
-    ensures { λ r. ⌜ r ≡ any (same (now (mode .entry))) railModes ⌝ }
-{
-    any_piece(
-        Ask::Own,
-        b"RAIL|TRAIN|METRO|SUBWAY|TRAM|TRAMWAY|RER",
-        mode,
-        mode,
-    )
 }

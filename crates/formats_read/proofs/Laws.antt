@@ -17,9 +17,6 @@ use Rattle.formats.specs.declared.Numeral.the-variants.{Got, Bad}
 use Rattle.formats.specs.declared.Skip.{Skip}
 use Rattle.formats.specs.declared.Skip.the-variants.{At, Broken}
 use Rattle.formats.proofs.Numbers.{place}
-use Rattle.formats_write.specs.declared.OptionalText.the-variants.{Present}
-use Rattle.formats_write.specs.declared.Span.{Span}
-use Rattle.formats_write.specs.promises.Given.{givenText, Inside}
 use Rattle.formats_read.specs.promises.Fields.{Has, fieldTo}
 use Rattle.formats_read.specs.laws.Here.{field, reads, passed, signed-here, text-here, choice-in, first, second}
 use Rattle.formats_read.specs.promises.Here.{Here, Field}
@@ -120,8 +117,3 @@ module _ {f : Format} {s : List ℕ} {p q : ℕ} (v : Value (optional f)) (h : H
 
   pub optional-none : (tagAt s p ≡ 1 → ⊥) → inl tt ≡ v
   optional-none t = sym (first v h t .is)
-
-pub optional-text : {l : ℕ} {c : Class} {s : List ℕ} {p q : ℕ} (v : Value (optional (text l c)))
-    → Here (optional (text l c)) s p q v → tagAt s p ≡ 1
-    → (t : Span) → ReadsText s (p + 1) (t .from) (t .to) → (givenText s (Present t) ≡ v) × Inside s (Present t)
-optional-text v h e t T = (optional-some v h _ e (λ x y. T .bytes y), (T .forward, T .within))

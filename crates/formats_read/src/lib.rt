@@ -5,16 +5,14 @@ use formats::Skip;
 use formats::kinds;
 use formats_write::OptionalNumber;
 use formats_write::OptionalSigned;
-use formats_write::OptionalText;
 use formats_write::Span;
 ghost use mathlib.Core.Path.{_≡_};
 ghost use Prim.Native.Nat.{ℕ, _≤_};
 ghost use lib.IntN.{ℤ};
 ghost use lib.ListN.{length};
-ghost use Rattle.formats.specs.Class.{Class};
-ghost use Rattle.formats.specs.Format.{Value, number, signed, float, text, optional};
+ghost use Rattle.formats.specs.Format.{Value, number, signed, float, optional};
 ghost use Rattle.formats.specs.promises.Outcome.{formatAt};
-ghost use Rattle.formats_write.specs.promises.Given.{givenNumber, givenSigned, givenText, Inside};
+ghost use Rattle.formats_write.specs.promises.Given.{givenNumber, givenSigned};
 ghost use Rattle.formats_read.specs.promises.Fields.{Has, fieldTo};
 ghost use Rattle.formats_read.specs.promises.Here.{Here, Field};
 ghost use Rattle.formats_read.specs.promises.Lists.{Reaches};
@@ -171,32 +169,4 @@ pub fn optional_signed(s: &[u8], at: usize) -> OptionalSigned
         return OptionalSigned::Present(signed(s, at + 1));
     }
     OptionalSigned::Absent
-}
-
-pub fn optional_float(s: &[u8], at: usize) -> OptionalNumber
-    ensures { λ r. ⌜
-        ((v : Value (optional float)) (q : ℕ) → Here (optional float) (now (s .entry)) at q v → givenNumber r ≡ v) ⌝ }
-{
-    if s.len() <= at {
-        return OptionalNumber::Absent;
-    }
-    if formats::tag(s, at) == 1 {
-        return OptionalNumber::Present(float(s, at + 1));
-    }
-    OptionalNumber::Absent
-}
-
-pub fn optional_text(s: &[u8], at: usize) -> OptionalText
-    ensures { λ r. ⌜
-        ((l : ℕ) (c : Class) (v : Value (optional (text l c))) (q : ℕ)
-        → Here (optional (text l c)) (now (s .entry)) at q v
-        → (givenText (now (s .entry)) r ≡ v) × Inside (now (s .entry)) r) ⌝ }
-{
-    if s.len() <= at {
-        return OptionalText::Absent;
-    }
-    if formats::tag(s, at) == 1 {
-        return OptionalText::Present(text(s, at + 1));
-    }
-    OptionalText::Absent
 }

@@ -11,17 +11,17 @@ secondary-spec =
     (λ c. search needs)
     (λ c κs. search needs)
     (λ c. secondary-near (c .before .before .before .before .before .args .s .now)
-    (c .before .before .before .before .before .args .name .now) _ (c .before .any-piece .ensures) (c .if1 .taken))
+    (c .before .before .before .before .before .args .name .now) _ (c .before .any-near .ensures) (c .if1 .taken))
     (λ c. search needs)
     (λ c κs. search needs)
     (λ c.
     let piece = c .before .before .before .before in
     let a = piece .before .before .before .before .args in
-    secondary-not (a .s .now) (a .name .now) _ _ (piece .any-piece .ensures) (c .before .before .before .if1 .left)
+    secondary-not (a .s .now) (a .name .now) _ _ (piece .any-near .ensures) (c .before .before .before .if1 .left)
     (c .before .any-in .ensures) (c .if2 .taken))
     (λ c κs. search needs)
     (λ c.
     let other = c .before .before .before .before in
     let a = other .before .before .before .before .before .args in
-    secondary-all (a .s .now) (a .name .now) _ _ (other .before .any-piece .ensures) (other .if1 .left)
+    secondary-all (a .s .now) (a .name .now) _ _ (other .before .any-near .ensures) (other .if1 .left)
     (c .before .before .any-in .ensures) _ (c .before .if2 .left) (c .marked .ensures)))
