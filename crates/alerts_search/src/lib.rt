@@ -1,5 +1,4 @@
-// A leg's alerts: the candidates among a feed's alerts, whether an alert applies to the leg, and its label. An alert
-// is known by its place.
+// A leg's candidates among a feed's alerts: the search by ids, which of them were met, and where the alerts stand.
 pub mod ids; // tests of one id, and of a list of ids
 pub mod marks; // which alerts were met
 pub mod candidates; // the candidates among the alerts of a feed

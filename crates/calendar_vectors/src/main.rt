@@ -1,10 +1,8 @@
 // Runs the dates of standard input on the calendar, and says how many agree. A line has 20 bytes: the seconds since
-// 1970 in ten
-// digits, a space, the date in Paris in eight digits, and a line end. The dates are those of the tz database:
-// midnight in Paris and
-// the second before it, around each change of the clocks and at each new year from 2000 to 2037. What the calendar
-// answers is proved
-// in `calendar`; the functions here promise nothing of what they read, so they have no `ensures`.
+// 1970 in ten digits, a space, the date in Paris in eight digits, and a line end. The dates are those of the tz
+// database: midnight in Paris and the second before it, around each change of the clocks and at each new year from
+// 2000 to 2037. What the calendar answers is proved in `calendar`; the functions here promise nothing of what they
+// read, so they have no `ensures`.
 ghost use Prim.Native.Nat.{_+_, _≤_};
 ghost use lib.ListN.{length};
 use libc::STDIN_FILENO;

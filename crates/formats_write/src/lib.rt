@@ -1,6 +1,6 @@
 // Writers into a lent slice, from its start on, with a room test: each takes the next place and answers the place
-// past what it wrote,
-// or that there is no room. So a value's writing is a straight line of calls, with no early return.
+// past what it wrote, or that there is no room. So a value's writing is a straight line of calls, with no early
+// return.
 ghost use mathlib.Core.Path.{_≡_};
 ghost use mathlib.Core.List.{[], _∷_};
 ghost use Prim.Native.Nat.{_<_, _≤_};

@@ -25,8 +25,8 @@ abbrev pub deleted : Tree → Bool
 deleted e = someAnd bool (numberIn (last 2 e))
 
 -- The trip of an entity, by all its trip_updates, 3, and their trips, 1: trip_id 1, start_time 2, start_date 3,
--- schedule_relationship 4, CANCELED is 3,
--- route_id 5, direction_id 6; the delay, 5, of the trip_updates. An absent text is empty
+-- schedule_relationship 4, CANCELED is 3, route_id 5, direction_id 6; the delay, 5, of the trip_updates. An absent
+-- text is empty
 pub record TripView : Type 0 where
   pub id : List ℕ
   pub time : List ℕ

@@ -140,8 +140,7 @@ pub enum Step {
 }
 
 // Past the field behind a key. The slice goes as a part of its own: one that is handed to a function that calls
-// itself would lie
-// in memory, in the callers too.
+// itself would lie in memory, in the callers too.
 fn past(s: &[u8], from: Cursor, field: u64, wire: u64) -> Skipped
     ensures { λ r. ⌜ r ≡ skippedAt (now (s .entry)) (from .at) field wire 16 ⌝ }
 {
@@ -325,8 +324,7 @@ fn judge_number(message: u64, field: u64, value: u64) -> Verdict
 }
 
 // The judgement of a message of a type, by its own bytes. It steps by itself and not by `next`, which the compiler
-// would leave a
-// function of its own: that takes twice the time.
+// would leave a function of its own: that takes twice the time.
 pub fn judge(s: &[u8], message: u64) -> Verdict
     ensures { λ r. ⌜ r ≡ asked rules message (tree feed message (now (s .entry))) ⌝ }
 {

@@ -1,8 +1,7 @@
-// Messages in hexadecimal, a line each, and what the readers answer of them; a line that begins with '#' is handed on.
-// The lines of `stdin` are the vectors of the wire format and of merging (Protocol Buffers, "Encoding"; document 01,
-// "Wire reader"), and cases of our own at the
-// edges of the questions 4, 5 and 6. Those of `stdout` were written by a model of the two papers that shares nothing
-// with this code, and read by eye.
+// Messages in hexadecimal, a line each, and what the readers answer of them; a line that begins with '#' is handed
+// on. The lines of `stdin` are the vectors of the wire format and of merging (Protocol Buffers, "Encoding"; document
+// 01, "Wire reader"), and cases of our own at the edges of the questions 4, 5 and 6. Those of `stdout` were written
+// by a model of the two papers that shares nothing with this code, and read by eye.
 //
 // A line of the answer: the number of the question that says no, or 0; then whether the message is DIFFERENTIAL, its
 // timestamp, and each entity in brackets:

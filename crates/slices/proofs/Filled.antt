@@ -1,6 +1,5 @@
 -- A list that is overwritten with one value from the front on, element by element or in blocks: the one law of every
--- fill,
--- whatever the width of its elements. Assumes nothing.
+-- fill, whatever the width of its elements. Assumes nothing.
 use mathlib.Core.Path.{_≡_, refl, ap, _∙_}
 use mathlib.Core.List.{List, _++_, append-assoc, append-nil}
 use Prim.Native.Nat.{ℕ, _+_, _-_, _≤_, _<_}

@@ -1,6 +1,5 @@
 // Calls of `slices` and `wire` for a C host: bench/bytes.c measures them, and runs the wire reader on an input too
-// long for a
-// program's own arrays.
+// long for a program's own arrays.
 ghost use mathlib.Core.Path.{_≡_};
 ghost use lib.ListN.{length, replicate};
 ghost use Rattle.slices.specs.Lists.{zeros, lexOf};

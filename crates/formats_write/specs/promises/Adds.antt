@@ -9,9 +9,8 @@ use Rattle.formats_write.specs.declared.Put.{Put}
 use Rattle.formats_write.specs.declared.Put.the-variants.{At, Full}
 
 -- From the output l and the place r to the output m and the place q a writer has added the bytes x: they stand from
--- its place on, every
--- other byte is as it was, and the next place is past them; or they do not fit, and of the output only its length is
--- known.
+-- its place on, every other byte is as it was, and the next place is past them; or they do not fit, and of the output
+-- only its length is known.
 pub record Adds (l : List ℕ) (r : Put) (m : List ℕ) (q : Put) (x : List ℕ) : Type 0 where
   pub size : length m ≡ length l
   pub full : r ≡ Full → q ≡ Full
