@@ -1,3 +1,4 @@
+-- What the proofs of several functions use.
 pub mod Leads
 pub mod Bytewise
 pub mod Printable

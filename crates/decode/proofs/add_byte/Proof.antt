@@ -1,3 +1,4 @@
+-- `decode::add_byte` meets its contract.
 use borrow.Author.Needs.{needs}
 -- `decode::add_byte` writes a byte. Assumes nothing.
 use Rattle.decode.proofs.Writing.{added-byte}

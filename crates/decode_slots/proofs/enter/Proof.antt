@@ -1,3 +1,4 @@
+-- `decode_slots::enter` meets its contract.
 use borrow.Author.Needs.{needs}
 -- `decode_slots::enter` stores what slot n has, and its rank. Assumes nothing.
 use mathlib.Core.Path.{ap, _∙_}

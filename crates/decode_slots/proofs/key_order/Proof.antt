@@ -1,3 +1,4 @@
+-- `decode_slots::key_order` meets its contract.
 use borrow.Author.Needs.{needs}
 -- `decode_slots::key_order` answers the order of two keys. Assumes nothing.
 use Rattle.decode_slots.proofs.key_order.Statement.{statement}

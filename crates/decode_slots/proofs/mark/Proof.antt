@@ -1,3 +1,4 @@
+-- `decode_slots::mark` meets its contract.
 use borrow.Author.Needs.{needs}
 -- `decode_slots::mark` stores the place of a slot. Assumes nothing.
 use native.Mathlib.Omega.{arith}

@@ -1,3 +1,4 @@
+-- `decode_updates::is_at` meets its contract.
 use borrow.Author.Needs.{needs}
 -- `decode_updates::is_at` looks at the update at rank r. Assumes nothing.
 use native.Mathlib.Omega.{arith}

@@ -1,3 +1,4 @@
+-- `formats::float` meets its contract.
 use borrow.Author.Needs.{needs}
 use Rattle.formats.proofs.Numbers.{float-end}
 use Rattle.formats.proofs.float.Statement.{statement}

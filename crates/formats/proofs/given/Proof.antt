@@ -1,3 +1,4 @@
+-- `formats::given` meets its contract.
 use borrow.Author.Needs.{needs}
 use Rattle.formats.proofs.Passes.{given-end, given-good, given-bad}
 use Rattle.formats.proofs.given.Statement.{statement}

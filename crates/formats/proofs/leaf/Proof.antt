@@ -1,3 +1,4 @@
+-- `formats::leaf` meets its contract.
 use borrow.Author.Needs.{needs}
 use Rattle.formats.proofs.Parts.{begins, count-within}
 use Rattle.formats.proofs.Passes.{leaf-0, leaf-1, leaf-6, leaf-6-bad, leaf-7, leaf-bad, leaf-4, leaf-4-over}

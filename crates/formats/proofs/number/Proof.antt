@@ -1,3 +1,4 @@
+-- `formats::number` meets its contract.
 use borrow.Author.Needs.{needs}
 use Rattle.formats.proofs.Numbers.{at-end, front-good, front-more}
 use Rattle.formats.proofs.number.Statement.{statement}

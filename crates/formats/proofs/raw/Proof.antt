@@ -1,3 +1,4 @@
+-- `formats::raw` meets its contract.
 use borrow.Author.Needs.{needs}
 use Rattle.formats.proofs.Passes.{raw-good, raw-bad}
 use Rattle.formats.proofs.raw.Statement.{statement}

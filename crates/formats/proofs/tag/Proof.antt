@@ -1,3 +1,4 @@
+-- `formats::tag` meets its contract.
 use borrow.Author.Needs.{needs}
 use Rattle.formats.proofs.Passes.{tag-end, tag-in}
 use Rattle.formats.proofs.tag.Statement.{statement}

@@ -1,3 +1,4 @@
+-- `formats::word` meets its contract.
 use borrow.Author.Needs.{needs}
 use Rattle.formats.proofs.Nodes.{word-end, word-past}
 use Rattle.formats.proofs.word.Statement.{statement}

@@ -1,3 +1,4 @@
+-- `formats_check::at_most` meets its contract.
 use Rattle.formats_check.specs.laws.Elements.{small-no, small-over, small-so}
 use borrow.Author.Needs.{needs}
 use Rattle.formats_check.proofs.at_most.Statement.{statement}

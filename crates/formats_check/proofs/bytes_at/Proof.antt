@@ -1,3 +1,4 @@
+-- `formats_check::bytes_at` meets its contract.
 use Rattle.formats_check.specs.laws.Climbing.{span-no, span-so}
 use Rattle.formats_check.specs.laws.Elements.{in-place, text-no, text-over, text-short}
 use borrow.Author.Needs.{needs}

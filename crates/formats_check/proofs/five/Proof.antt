@@ -1,3 +1,4 @@
+-- `formats_check::five` meets its contract.
 use borrow.Author.Needs.{needs}
 use denote.Ref.{now}
 use Rattle.formats_check.specs.laws.Five.{none-got, five-got}

@@ -1,3 +1,4 @@
+-- `formats_check::float` meets its contract.
 use Rattle.formats_check.specs.laws.Elements.{float-no, float-so}
 use borrow.Author.Needs.{needs}
 use Rattle.formats_check.proofs.float.Statement.{statement}

@@ -1,3 +1,4 @@
+-- `formats_check::follows` meets its contract.
 use Rattle.formats_check.specs.laws.Climbing.{follows-less, follows-same, follows-more}
 use borrow.Author.Needs.{needs}
 use Rattle.formats_check.proofs.follows.Statement.{statement}

@@ -1,3 +1,4 @@
+-- `formats_check::number_at` meets its contract.
 use borrow.Author.Needs.{needs}
 use Rattle.formats.proofs.Numbers.{at-end, front-good}
 use Rattle.formats_check.proofs.number_at.Statement.{statement}

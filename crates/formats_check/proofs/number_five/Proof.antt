@@ -1,3 +1,4 @@
+-- `formats_check::number_five` meets its contract.
 use borrow.Author.Needs.{needs}
 use Rattle.formats_check.specs.laws.Five.{one-got}
 use Rattle.formats_check.proofs.number_five.Statement.{statement}

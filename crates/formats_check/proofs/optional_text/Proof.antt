@@ -1,3 +1,4 @@
+-- `formats_check::optional_text` meets its contract.
 use Rattle.formats_check.specs.laws.Checked.{optional-absent, optional-end, optional-given, optional-other}
 use borrow.Author.Needs.{needs}
 use Rattle.formats_check.proofs.optional_text.Statement.{statement}

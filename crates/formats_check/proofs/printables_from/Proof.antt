@@ -1,3 +1,4 @@
+-- `formats_check::printables_from` meets its contract.
 use Prim.Native.Nat.{_≤_}
 use Rattle.formats.specs.Class.{printable}
 use Rattle.formats.specs.Format.{text}

@@ -1,3 +1,4 @@
+-- `formats_check::text` meets its contract.
 use Rattle.formats_check.specs.laws.Climbing.{span-is, span-none}
 use borrow.Author.Needs.{needs}
 use Rattle.formats_check.proofs.text.Statement.{statement}

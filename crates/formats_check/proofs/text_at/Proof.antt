@@ -1,3 +1,4 @@
+-- `formats_check::text_at` meets its contract.
 use Rattle.formats_check.specs.laws.Climbing.{span-forward, span-within, class-none, class-so, class-other}
 use borrow.Author.Needs.{needs}
 use Rattle.formats_check.proofs.text_at.Statement.{statement}

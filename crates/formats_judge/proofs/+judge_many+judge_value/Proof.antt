@@ -1,3 +1,4 @@
+-- `formats_judge::judge_many` and `formats_judge::judge_value` meet their contracts.
 use mathlib.Core.Path.{_≡_, refl}
 use Prim.Native.Nat.{ℕ, _+_, _*_, _≤_, _<_}
 use native.Mathlib.Omega.{arith}

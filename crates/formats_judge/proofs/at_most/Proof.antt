@@ -1,3 +1,4 @@
+-- `formats_judge::at_most` meets its contract.
 use Rattle.formats_judge.proofs.Rules.{even-even, even-odd, odd-even, odd-odd}
 use Rattle.formats_judge.proofs.at_most.Statement.{statement}
 use Rattle.formats_judge.proofs.at_most.Tie as tie

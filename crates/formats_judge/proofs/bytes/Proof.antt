@@ -1,3 +1,4 @@
+-- `formats_judge::bytes` meets its contract.
 use native.Mathlib.Omega.{arith}
 use borrow.Author.Needs.{needs}
 use Rattle.formats_judge.proofs.Leaves.{bytes-over, bytes-good}

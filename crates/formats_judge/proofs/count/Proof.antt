@@ -1,3 +1,4 @@
+-- `formats_judge::count` meets its contract.
 use Rattle.formats_judge.proofs.Rules.{count-in, count-over}
 use Rattle.formats_judge.proofs.count.Statement.{statement}
 use Rattle.formats_judge.proofs.count.Tie as tie

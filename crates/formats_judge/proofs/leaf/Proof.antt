@@ -1,3 +1,4 @@
+-- `formats_judge::leaf` meets its contract.
 use borrow.Author.Needs.{needs}
 use Rattle.formats.proofs.Parts.{begins, count-within}
 use Rattle.formats_judge.proofs.Leaves.{leaf-0, leaf-1, leaf-6, leaf-6-bad, leaf-7, leaf-7-bad, leaf-bad, leaf-2}

@@ -1,3 +1,4 @@
+-- `formats_judge::range` meets its contract.
 use Rattle.formats_judge.proofs.Rules.{range-low, range-high, range-in}
 use Rattle.formats_judge.proofs.range.Statement.{statement}
 use Rattle.formats_judge.proofs.range.Tie as tie

@@ -1,3 +1,4 @@
+-- `formats_judge::signed_range` meets its contract.
 use borrow.Author.Needs.{needs}
 use Rattle.formats_judge.proofs.Rules.{both-yes, second-no, first-no}
 use Rattle.formats_judge.proofs.signed_range.Statement.{statement}

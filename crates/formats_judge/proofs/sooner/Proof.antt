@@ -1,3 +1,4 @@
+-- `formats_judge::sooner` meets its contract.
 use Rattle.formats_judge.proofs.Rules.{sooner-zero, sooner-none, sooner-first, sooner-second}
 use Rattle.formats_judge.proofs.sooner.Statement.{statement}
 use Rattle.formats_judge.proofs.sooner.Tie as tie

@@ -1,3 +1,4 @@
+-- `formats_judge::text` meets its contract.
 use borrow.Author.Needs.{needs}
 use Rattle.formats_judge.proofs.Rules.{text-good, text-class, text-over}
 use Rattle.formats_judge.proofs.text.Statement.{statement}

@@ -1,3 +1,4 @@
+-- `formats_text::eight` meets its contract.
 use Rattle.formats_text.proofs.Printable.{span-eight}
 use borrow.Author.Needs.{needs}
 use Rattle.formats_text.proofs.eight.Statement.{statement}

@@ -1,3 +1,4 @@
+-- `formats_text::in_class` meets its contract.
 use borrow.Author.Needs.{needs}
 use Rattle.formats_text.proofs.Bytewise.{class-any, class-printable, class-empty, class-token, class-utf8}
 use Rattle.formats_text.proofs.in_class.Statement.{statement}

@@ -1,3 +1,4 @@
+-- `formats_text::in_token` meets its contract.
 use Rattle.formats_text.proofs.Bytewise.{token-in, token-low, token-high}
 use Rattle.formats_text.proofs.in_token.Statement.{statement}
 use Rattle.formats_text.proofs.in_token.Tie as tie

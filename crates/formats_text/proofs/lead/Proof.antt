@@ -1,3 +1,4 @@
+-- `formats_text::lead` meets its contract.
 use Rattle.formats_text.proofs.Leads.{lead-1, lead-trail, lead-2, lead-E0, lead-E1, lead-ED, lead-EE, lead-F0}
 use Rattle.formats_text.proofs.Leads.{lead-F1, lead-F4, lead-F5}
 use Rattle.formats_text.proofs.lead.Statement.{statement}

@@ -1,3 +1,4 @@
+-- `formats_text::step` meets its contract.
 use borrow.Author.Needs.{needs}
 use Rattle.formats_text.proofs.Leads.{step-lead, step-low, step-high, step-good}
 use Rattle.formats_text.proofs.step.Statement.{statement}

@@ -1,3 +1,4 @@
+-- `overlay_keys::decimal` meets its contract.
 use native.Mathlib.Omega.{arith}
 use borrow.Author.Needs.{needs}
 use Rattle.overlay_keys.specs.laws.Piece.{piece-inside, decimal-none, decimal-one, decimal-stop, decimal-more}

@@ -1,3 +1,4 @@
+-- `overlay_keys::byte` meets its contract.
 use Rattle.overlay_keys.specs.laws.Piece.{byte-end, byte-other, byte-so}
 use borrow.Author.Needs.{needs}
 use Rattle.overlay_keys.proofs.byte.Statement.{statement}

@@ -1,3 +1,4 @@
+-- `overlay_keys::dated` meets its contract.
 use Rattle.overlay_keys.specs.laws.Keys.{dated-long, dated-mark, dated-none, dated-other, dated-short, dated-so}
 use Rattle.overlay_keys.specs.laws.Piece.{piece-inside}
 use borrow.Author.Needs.{needs}

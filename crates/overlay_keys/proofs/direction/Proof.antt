@@ -1,3 +1,4 @@
+-- `overlay_keys::direction` meets its contract.
 use Rattle.overlay_keys.specs.laws.Keys.{direction-bad, direction-end, direction-none, direction-so}
 use borrow.Author.Needs.{needs}
 use Rattle.overlay_keys.proofs.direction.Statement.{statement}

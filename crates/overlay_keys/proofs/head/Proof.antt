@@ -1,3 +1,4 @@
+-- `overlay_keys::head` meets its contract.
 use native.Mathlib.Omega.{arith}
 use Rattle.overlay_keys.specs.laws.Keys.{head-between, head-mark, head-route, head-so, route-inside}
 use Rattle.overlay_keys.specs.laws.Piece.{piece-inside, piece-forward}

@@ -1,3 +1,4 @@
+-- `overlay_keys::incomplete` meets its contract.
 use Rattle.overlay_keys.specs.laws.Keys.{incomplete-route, incomplete-so, incomplete-time, incomplete-way}
 use Rattle.overlay_keys.specs.laws.Keys.{span-inside}
 use borrow.Author.Needs.{needs}

@@ -1,3 +1,4 @@
+-- `overlay_keys::key_ok` meets its contract.
 use Rattle.overlay_keys.specs.laws.Keys.{key-empty, key-long, key-raw}
 use borrow.Author.Needs.{needs}
 use Rattle.overlay_keys.proofs.key_ok.Statement.{statement}

@@ -1,3 +1,4 @@
+-- `overlay_keys::longer` meets its contract.
 use Rattle.overlay_keys.specs.laws.Keys.{longer-date, longer-dated, longer-delay, longer-flag, longer-so}
 use Rattle.overlay_keys.specs.laws.Keys.{span-inside}
 use borrow.Author.Needs.{needs}

@@ -1,3 +1,4 @@
+-- `overlay_keys::matches` meets its contract.
 use Rattle.overlay_keys.specs.laws.Keys.{head-inside, match-head, match-so, match-tail}
 use borrow.Author.Needs.{needs}
 use Rattle.overlay_keys.proofs.matches.Statement.{statement}

@@ -1,3 +1,4 @@
+-- `overlay_keys::piece` meets its contract.
 use Rattle.overlay_keys.specs.laws.Piece.{piece-other, piece-short, piece-so}
 use borrow.Author.Needs.{needs}
 use Rattle.overlay_keys.proofs.piece.Statement.{statement}

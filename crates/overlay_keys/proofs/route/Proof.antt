@@ -1,3 +1,4 @@
+-- `overlay_keys::route` meets its contract.
 use Rattle.overlay_keys.specs.laws.Keys.{route-colon, route-feed, route-none, route-so}
 use Rattle.overlay_keys.specs.laws.Piece.{piece-inside}
 use borrow.Author.Needs.{needs}

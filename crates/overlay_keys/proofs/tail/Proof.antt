@@ -1,3 +1,4 @@
+-- `overlay_keys::tail` meets its contract.
 use Rattle.overlay_keys.specs.laws.Keys.{tail-between, tail-date, tail-mark, tail-so}
 use Rattle.overlay_keys.specs.laws.Piece.{piece-inside}
 use borrow.Author.Needs.{needs}

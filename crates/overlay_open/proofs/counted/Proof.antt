@@ -1,3 +1,4 @@
+-- `overlay_open::counted` meets its contract.
 use Rattle.overlay_open.specs.laws.Feed.{counted-no, counted-over, counted-so}
 use Rattle.overlay_noted.specs.laws.Passes.{unless-no}
 use Rattle.overlay_open.specs.laws.Records.{counted-put}

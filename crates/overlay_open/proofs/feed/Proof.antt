@@ -1,3 +1,4 @@
+-- `overlay_open::feed` meets its contract.
 use Rattle.formats_check.specs.laws.Checked.{behind-no, behind-so}
 use Rattle.overlay_noted.specs.laws.Passes.{unless-no}
 use Rattle.overlay_open.specs.laws.Records.{feed-put}

@@ -1,3 +1,4 @@
+-- `overlay_open::feed_entry` meets its contract.
 use Rattle.formats_check.specs.laws.Climbing.{span-forward, span-within}
 use Rattle.overlay_open.specs.laws.Feed.{feed-id, feed-none, feed-so}
 use Rattle.overlay_noted.specs.laws.Passes.{unless-no}

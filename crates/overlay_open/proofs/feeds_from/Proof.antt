@@ -1,3 +1,4 @@
+-- `overlay_open::feeds_from` meets its contract.
 use mathlib.Core.Path.{_≡_}
 use Prim.Native.Nat.{_≤_, _+_}
 use native.Mathlib.Omega.{arith}

@@ -1,3 +1,4 @@
+-- `overlay_open::open_noted` meets its contract.
 use Rattle.formats_check.specs.laws.Checked.{tested-in}
 use Rattle.overlay_open.specs.laws.Opened.{open-none, open-rest, open-so}
 use Rattle.overlay_open.specs.laws.Feeds.{notes-no, notes-so}

@@ -1,3 +1,4 @@
+-- `overlay_open::optional_timestamp` meets its contract.
 use Rattle.formats_check.specs.laws.Checked.{optional-end, optional-absent, optional-other, optional-given}
 use borrow.Author.Needs.{needs}
 use Rattle.overlay_open.proofs.optional_timestamp.Statement.{statement}

@@ -1,3 +1,4 @@
+-- `overlay_open::records` meets its contract.
 use Rattle.formats_check.specs.laws.Checked.{both-no, both-so, tested}
 use Rattle.overlay_noted.specs.laws.Passes.{unless-no}
 use Rattle.overlay_open.specs.laws.Records.{records-put}

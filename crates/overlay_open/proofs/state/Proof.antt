@@ -1,3 +1,4 @@
+-- `overlay_open::state` meets its contract.
 use Rattle.overlay_open.specs.laws.Feed.{state-layout, state-version, state-so}
 use Rattle.overlay_noted.specs.laws.Passes.{unless-no}
 use Rattle.overlay_open.specs.laws.Feeds.{state-put}

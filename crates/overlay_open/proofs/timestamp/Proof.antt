@@ -1,3 +1,4 @@
+-- `overlay_open::timestamp` meets its contract.
 use Rattle.overlay_open.specs.laws.Feed.{timestamp-no, timestamp-so}
 use borrow.Author.Needs.{needs}
 use Rattle.overlay_open.proofs.timestamp.Statement.{statement}

@@ -1,3 +1,4 @@
+-- `overlay_records::alerts` meets its contract.
 use Rattle.formats_check.specs.laws.Elements.{in-place}
 use Rattle.formats_check.specs.laws.Walks.{all-many, all-no, all-so}
 use borrow.Author.Needs.{needs}

@@ -1,3 +1,4 @@
+-- `overlay_records::alerts_from` meets its contract.
 use Prim.Native.Nat.{_≤_}
 use lib.ListN.{length}
 use Rattle.formats_check.specs.laws.Checked.{check-in}

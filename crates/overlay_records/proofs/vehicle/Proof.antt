@@ -1,3 +1,4 @@
+-- `overlay_records::vehicle` meets its contract.
 use Rattle.formats_check.specs.laws.Checked.{then-no, then-so}
 use borrow.Author.Needs.{needs}
 use Rattle.overlay_records.proofs.vehicle.Statement.{statement}

@@ -1,3 +1,4 @@
+-- `overlay_records::vehicle_entry` meets its contract.
 use Rattle.overlay_records.specs.laws.Records.{vehicle-key, vehicle-none, vehicle-so}
 use borrow.Author.Needs.{needs}
 use Rattle.overlay_records.proofs.vehicle_entry.Statement.{statement}

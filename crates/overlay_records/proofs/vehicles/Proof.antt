@@ -1,3 +1,4 @@
+-- `overlay_records::vehicles` meets its contract.
 use Rattle.formats_check.specs.laws.Elements.{in-place}
 use Rattle.formats_check.specs.laws.Climbing.{climbs-no, climbs-many, climbs-so}
 use borrow.Author.Needs.{needs}

@@ -1,3 +1,4 @@
+-- `overlay_records::vehicles_from` meets its contract.
 use Prim.Native.Nat.{_≤_}
 use native.Mathlib.Omega.{arith}
 use lib.ListN.{length}

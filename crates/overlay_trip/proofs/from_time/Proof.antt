@@ -1,3 +1,4 @@
+-- `overlay_trip::from_time` meets its contract.
 use Rattle.formats_check.specs.laws.Checked.{behind-no, behind-so, tested}
 use borrow.Author.Needs.{needs}
 use Rattle.overlay_trip.proofs.from_time.Statement.{statement}

@@ -1,3 +1,4 @@
+-- `overlay_trip::instant` meets its contract.
 use Rattle.overlay_trip.specs.laws.Trip.{instant-no, instant-odd, instant-over, instant-so}
 use borrow.Author.Needs.{needs}
 use Rattle.overlay_trip.proofs.instant.Statement.{statement}

@@ -1,3 +1,4 @@
+-- `overlay_trip::optional_instant` meets its contract.
 use Rattle.formats_check.specs.laws.Checked.{optional-end, optional-absent, optional-given, optional-other}
 use borrow.Author.Needs.{needs}
 use Rattle.overlay_trip.proofs.optional_instant.Statement.{statement}

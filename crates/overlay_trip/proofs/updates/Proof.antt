@@ -1,3 +1,4 @@
+-- `overlay_trip::updates` meets its contract.
 use Rattle.formats_check.specs.laws.Elements.{in-place}
 use Rattle.formats_check.specs.laws.Rising.{ascend-no, ascend-many, ascend-so}
 use borrow.Author.Needs.{needs}

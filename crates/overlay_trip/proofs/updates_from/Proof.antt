@@ -1,3 +1,4 @@
+-- `overlay_trip::updates_from` meets its contract.
 use borrow.Author.Needs.{needs}
 use Prim.Native.Nat.{_≤_}
 use lib.ListN.{length}

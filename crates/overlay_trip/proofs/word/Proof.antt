@@ -1,3 +1,4 @@
+-- `overlay_trip::word` meets its contract.
 use Rattle.overlay_trip.specs.laws.Trip.{delay-no, delay-over, delay-so, number32-no, number32-over, number32-so}
 use borrow.Author.Needs.{needs}
 use Rattle.overlay_trip.proofs.word.Statement.{statement}

@@ -1,3 +1,4 @@
+-- `overlay_trips::adds` meets its contract.
 use Rattle.overlay_trips.specs.laws.Trips.{plain-feed, plain-key, plain-so}
 use borrow.Author.Needs.{needs}
 use Rattle.overlay_trips.proofs.adds.Statement.{statement}

@@ -1,3 +1,4 @@
+-- `overlay_trips::has_at` meets its contract.
 use Prim.Native.Nat.{_≤_, _-_}
 use lib.ListN.{length}
 use Rattle.overlay_trips.specs.laws.Trips.{Seeking, seek-start, seek-end, seek-so, seek-on}

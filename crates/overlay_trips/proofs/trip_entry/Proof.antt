@@ -1,3 +1,4 @@
+-- `overlay_trips::trip_entry` meets its contract.
 use Rattle.overlay_trips.specs.laws.Trips.{trip-key, key-inside, trip-none, trip-other, trip-so}
 use borrow.Author.Needs.{needs}
 use Rattle.overlay_trips.proofs.trip_entry.Statement.{statement}

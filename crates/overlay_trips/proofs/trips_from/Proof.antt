@@ -1,3 +1,4 @@
+-- `overlay_trips::trips_from` meets its contract.
 use Prim.Native.Nat.{_≤_, _+_}
 use native.Mathlib.Omega.{arith}
 use lib.ListN.{length}

@@ -1,3 +1,4 @@
+-- `panel_turn::is_accepted` meets its contract.
 use Rattle.panel_turn.specs.promises.Turns.{acceptedOf}
 use mathlib.Core.Path.{sym, ap}
 -- `is_accepted` meets its contract.

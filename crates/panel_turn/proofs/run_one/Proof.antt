@@ -1,3 +1,4 @@
+-- `panel_turn::run_one` meets its contract.
 use Rattle.panel_turn.specs.laws.Steps.{turned-writing, turned-card, turned-report}
 -- `run_one` meets its contract.
 use borrow.Author.Needs.{needs}

@@ -1,3 +1,4 @@
+-- `panel_turn::step_writing` meets its contract.
 use Rattle.panel_turn.specs.laws.Steps.{writing-told}
 -- `step_writing` meets its contract.
 use borrow.Author.Needs.{needs}

@@ -1,3 +1,4 @@
+-- `panel_turn::take_turn` meets its contract.
 use lib.Seq.{length-take-le}
 use mathlib.Core.Path.{sym}
 use Rattle.panel_turn.specs.laws.Steps.{turn-on, turn-back}

@@ -1,3 +1,4 @@
+-- `panel_turn::tell` meets its contract.
 use Rattle.panel_turn.specs.laws.Steps.{tells-none, tells-number}
 -- `tell` meets its contract.
 use borrow.Author.Needs.{needs}

@@ -1,3 +1,4 @@
+-- `panel_writing::fresh` meets its contract.
 use mathlib.Core.Path.{sym}
 use mathlib.Core.List.{[]}
 use lib.Seq.{length-take-le}

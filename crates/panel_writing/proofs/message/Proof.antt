@@ -1,3 +1,4 @@
+-- `panel_writing::message` meets its contract.
 use lib.Dec.{leb}
 use Rattle.panel_writing.specs.laws.Ran.{fits, message-ran, message-unlent, lent-so}
 use borrow.Author.Needs.{needs}

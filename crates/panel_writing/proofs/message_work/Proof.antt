@@ -1,3 +1,4 @@
+-- `panel_writing::message_work` meets its contract.
 use Rattle.panel_writing.specs.laws.Ran.{work-read}
 use borrow.Author.Needs.{needs}
 use Rattle.panel_writing.proofs.message_work.Statement.{statement}

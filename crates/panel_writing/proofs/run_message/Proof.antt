@@ -1,3 +1,4 @@
+-- `panel_writing::run_message` meets its contract.
 use Rattle.panel.specs.Lengths.{sized}
 use mathlib.Core.Path.{sym}
 use lib.Seq.{length-take-le}

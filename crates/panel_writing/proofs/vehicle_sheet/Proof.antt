@@ -1,3 +1,4 @@
+-- `panel_writing::vehicle_sheet` meets its contract.
 use mir.Syntax.{w64}
 use mir.Facts.{toZ-ofZ}
 use Rattle.panel.specs.Lengths.{sized}

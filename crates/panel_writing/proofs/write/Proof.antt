@@ -1,3 +1,4 @@
+-- `panel_writing::write` meets its contract.
 use Rattle.panel_writing.specs.laws.Kinds.{fresh-writes, message-writes, alerts-write, vehicles-write, other-kind}
 use borrow.Author.Needs.{needs}
 use Rattle.panel_writing.proofs.write.Statement.{statement}
