@@ -49,7 +49,7 @@ pub fn behind(known: bool, stop: usize, from: usize) -> usize
     from
 }
 
-// Its first byte, version and number of feeds.
+// The overlay's first byte, its version and its number of feeds.
 fn head(out: &mut [u8], w: Put, version: u64, count: u64) -> Put
     ensures { λ r. ⌜ Adds (now (out .entry)) w (now (out .exit)) r (headW version count) ⌝ }
 {
