@@ -63,7 +63,7 @@ pub fn look(s: &[u8], at: usize, b: &[u8], places: &[u32]) -> LegRealtime
     let row = r.row;
     let f = r.from;
     let t = r.to;
-    journey_legs::endpoints(s, at, b, row, &b[f..t])
+    journey_stops::endpoints(s, at, b, row, &b[f..t])
 }
 
 // The place of its vehicle.
@@ -94,9 +94,9 @@ fn finish_by(
     ensures { λ r. ⌜ FinishesBy (now (s .entry)) at to (now (b .entry)) row (now (feed .entry))
         (now (out .entry)) w (now (out .exit)) r ⌝ }
 {
-    let r = journey_legs::endpoints(s, at, b, row, feed);
+    let r = journey_stops::endpoints(s, at, b, row, feed);
     let v = vehicle(s, at, b, places);
-    journey_legs::transit(s, at, to, b, row, feed, r, v, out, w)
+    journey_stops::transit(s, at, to, b, row, feed, r, v, out, w)
 }
 
 // The leg from `at` up to `to`, finished.

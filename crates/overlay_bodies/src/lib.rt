@@ -36,7 +36,7 @@ pub fn count_left(sheet: &[u8], old: &[u8], at: usize, limit: u64) -> u64
 {
     let n = formats_read::number(sheet, 1);
     let m = formats_read::number(old, at);
-    overlay_vehicles::count_entries(sheet, n.next, n.value, old, m.next, m.value, limit)
+    overlay_merge::count_entries(sheet, n.next, n.value, old, m.next, m.value, limit)
 }
 
 // The list of them: `kept` are left.
@@ -55,7 +55,7 @@ fn write_left(
     let n = formats_read::number(sheet, 1);
     let m = formats_read::number(old, at);
     let w1 = formats_write::number(out, w, kept);
-    overlay_vehicles::write_entries(out, w1, sheet, n.next, n.value, old, m.next, m.value, limit)
+    overlay_merge::write_entries(out, w1, sheet, n.next, n.value, old, m.next, m.value, limit)
 }
 
 // Timestamp, count of all keys and trips of a feed that stands from `body` on.

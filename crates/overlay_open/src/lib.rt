@@ -68,7 +68,7 @@ fn records(
     ensures { λ x. ⌜ Unless x Skip.Broken (RecordsPut records (λ v. v) (now (s .entry)) at r entry
         (now (noted .entry)) (now (noted .exit))) ⌝ }
 {
-    let Skip::At(p) = overlay_trips::trips(c, id, s, at, noted, 2048 * r) else {
+    let Skip::At(p) = overlay_keyed::trips(c, id, s, at, noted, 2048 * r) else {
         return Skip::Broken;
     };
     let Skip::At(q) = overlay_records::vehicles(s, p) else {

@@ -116,6 +116,6 @@ pub fn read_clock(clock: i64) -> Clock
     }
     Clock {
         fine: true,
-        limit: overlay_vehicles::limit_of(clock),
+        limit: overlay_merge::limit_of(clock),
     }
 }

@@ -5,7 +5,7 @@ use Rattle.journey.specs.Enrich.{enrichLeg}
 use Rattle.journey_finish.proofs.each_leg.Statement.{statement}
 use Rattle.journey_finish.proofs.each_leg.Tie as tie
 use Rattle.journey_finish.specs.promises.Finish.{StateIn}
-use Rattle.journey_legs.specs.laws.Advance.{Advance, start, step, stop}
+use Rattle.journey_stops.specs.laws.Advance.{Advance, start, step, stop}
 use Rattle.overlay.specs.Records.{shown}
 use Rattle.overlay.specs.State.{State}
 use Rattle.overlay.specs.laws.Within.{Judged56}

@@ -35,9 +35,9 @@ use Rattle.journey.specs.laws.Found.{FoundJudged, resolve-gives}
 use Rattle.journey_places.specs.declared.LegPlaces.{LegPlaces}
 use Rattle.journey_places.specs.promises.Places.{LegAt}
 use Rattle.journey_leg.specs.declared.LegRealtime.{LegRealtime}
-use Rattle.journey_legs.specs.promises.Stops.{LegKnown, LegAnew}
-use Rattle.journey_legs.specs.laws.Endpoints.{leg-written}
-use Rattle.journey_legs.specs.laws.Stops.{found-so}
+use Rattle.journey_stops.specs.promises.Stops.{LegKnown, LegAnew}
+use Rattle.journey_stops.specs.laws.Endpoints.{leg-written}
+use Rattle.journey_stops.specs.laws.Stops.{found-so}
 use Rattle.journey_finish.specs.declared.RowPlace.{RowPlace}
 use Rattle.journey_finish.specs.promises.Finish.{LegResolved, RowAt, Looks, LegVehicle, FinishesBy, Finishes}
 

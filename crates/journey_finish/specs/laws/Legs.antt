@@ -21,7 +21,7 @@ use Rattle.overlay.specs.Records.{shown}
 use Rattle.overlay.specs.laws.Within.{Judged56, elements}
 use Rattle.journey.specs.Card.{leg}
 use Rattle.journey.specs.Enrich.{enrichLeg}
-use Rattle.journey_legs.specs.laws.Advance.{list-mapped}
+use Rattle.journey_stops.specs.laws.Advance.{list-mapped}
 use Rattle.journey_finish.specs.promises.Finish.{StateIn, Finishes, LegDone, EachDone, LegsDone}
 
 module _ {s : List ℕ} {p q : ℕ} {b : List ℕ} {l m : List ℕ} {w r : Put} where

@@ -27,7 +27,7 @@ use Rattle.journey.specs.Enrich.{trip-rt, departs, arrives, cancels, enrichTran
 use Rattle.journey.specs.laws.Found.{FeedsJudged}
 use Rattle.journey_times.specs.promises.Realtime.{realtimeOf}
 use Rattle.journey_leg.specs.declared.LegRealtime.{LegRealtime}
-use Rattle.journey_legs.specs.promises.Stops.{Holds}
+use Rattle.journey_stops.specs.promises.Stops.{Holds}
 use Rattle.journey_finish.specs.declared.RowPlace.{RowPlace}
 
 -- the state that stands in b, whose feeds ascend and are within the questions

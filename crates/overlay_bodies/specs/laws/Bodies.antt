@@ -22,8 +22,8 @@ use Rattle.overlay.specs.State.{Feed, Vehicles, timestamp, vehicleEntry, feed}
 use Rattle.overlay.specs.State.{timestampOf, countOf, tripsOf, vehiclesOf, alertsOf}
 use Rattle.overlay_feeds.specs.declared.Parts.{Parts}
 use Rattle.overlay_feeds.specs.promises.Parts.{PartsOf}
-use Rattle.overlay_vehicles.specs.promises.Merge.{Both, Counts}
-use Rattle.overlay_vehicles.specs.promises.Writes.{Writes}
+use Rattle.overlay_merge.specs.promises.Merge.{Both, Counts}
+use Rattle.overlay_merge.specs.promises.Writes.{Writes}
 use Rattle.overlay_bodies.specs.promises.Bodies.{AlertsIn, VehiclesIn, Left}
 use Rattle.overlay_bodies.specs.promises.Bodies.{withAlerts, withVehicles, frontW, Lists}
 

@@ -18,7 +18,7 @@ use Rattle.alerts.specs.Alert.{Alert, alert}
 use Rattle.overlay.specs.State.{Feed, Vehicles, timestamp, vehicleEntry, feedWith}
 use Rattle.overlay.specs.State.{timestampOf, countOf, tripsOf, vehiclesOf, alertsOf}
 use Rattle.overlay.specs.Change.{withoutStale}
-use Rattle.overlay_vehicles.specs.promises.Merge.{Counted}
+use Rattle.overlay_merge.specs.promises.Merge.{Counted}
 
 -- a sheet's alerts, from its second byte to its end
 abbrev pub AlertsIn : List ℕ → List Alert → Type 0

@@ -21,8 +21,8 @@ use Rattle.overlay.specs.State.{State, vehicle, overlay, feedsOf, tripsOf, vehi
 use Rattle.overlay.specs.Valid.{tripValid, countValid, feedValid, within, valid}
 use Rattle.overlay.specs.laws.Within.{all-true}
 use Rattle.overlay_trip.specs.laws.Trip.{tripGood, trip-good}
-use Rattle.overlay_trips.specs.promises.Trips.{plain, isCount, tripsGood}
-use Rattle.overlay_trips.specs.promises.Trips as trips
+use Rattle.overlay_keyed.specs.promises.Trips.{plain, isCount, tripsGood}
+use Rattle.overlay_keyed.specs.promises.Trips as trips
 use Rattle.overlay_records.specs.promises.Vehicles.{vehiclesGood}
 use Rattle.overlay_open.specs.promises.State.{recordsGood, entryGood, stateGood}
 use Rattle.overlay_open.specs.laws.Fine.{within-fine}

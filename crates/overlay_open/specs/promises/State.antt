@@ -9,7 +9,7 @@ use Rattle.formats_check.specs.laws.Climbing.{climbTest, weightless, whatever}
 use Rattle.decode.specs.Trip.{tripEntry}
 use Rattle.alerts.specs.Alert.{alert}
 use Rattle.overlay.specs.State.{vehicleEntry, timestamp, feed, feedEntry, overlay}
-use Rattle.overlay_trips.specs.promises.Trips.{tripsGood}
+use Rattle.overlay_keyed.specs.promises.Trips.{tripsGood}
 use Rattle.overlay_records.specs.promises.Vehicles.{vehiclesGood}
 
 -- what a feed has behind its count, and from its count on

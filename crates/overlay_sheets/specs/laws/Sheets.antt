@@ -36,7 +36,7 @@ use Rattle.overlay_frame.specs.promises.Frame.{Spot, openingW, closingW}
 use Rattle.overlay_frame.specs.laws.Body.{of-feed, few-feeds, goes}
 use Rattle.overlay_frame.specs.laws.Changes.{within-seven, over-seven}
 use Rattle.overlay_frame.specs.laws.Frame.{framed}
-use Rattle.overlay_vehicles.specs.promises.Merge.{Counted}
+use Rattle.overlay_merge.specs.promises.Merge.{Counted}
 use Rattle.overlay_bodies.specs.promises.Bodies.{AlertsIn, VehiclesIn, VehiclesAlone, Left, withAlerts, withVehicles}
 
 -- A FIFTH FEED

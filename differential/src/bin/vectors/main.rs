@@ -1,4 +1,4 @@
-//! Writes the fixed lists of calls that the program `panel_vectors` replays without any Rust, and what it must write of
+//! Writes the fixed lists of calls that the program `replay_vectors` replays without any Rust, and what it must write of
 //! each: the numbers by document 01's second reading, and the sum of every byte that is told, by the original's
 //! answers. usage: vectors SCRIPTS STDOUT
 mod named;
@@ -13,7 +13,7 @@ use differential::turns::{lengths, Lists, Turn};
 use std::collections::BTreeMap;
 use std::fs::write;
 
-/// The length of an overlay in `panel_vectors`, and what it lends for what is told.
+/// The length of an overlay in `replay_vectors`, and what it lends for what is told.
 const OVERLAY: usize = 16_384;
 const TOLD: usize = 262_144;
 
@@ -116,7 +116,7 @@ fn within_what_is_lent(turn: Turn) -> Turn {
     Turn { spoilt: None, wrong: turn.wrong.map(|(buffer, _)| (buffer, -1)), ..turn }
 }
 
-/// A list in the form of `panel_script/Script: script`.
+/// A list in the form of `replay_script/Script: script`.
 fn script(list: &[Turn]) -> Vec<u8> {
     let mut bytes = Vec::new();
     number(&mut bytes, list.len());
