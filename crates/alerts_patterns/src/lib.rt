@@ -7,12 +7,12 @@ ghost use Prim.Native.Nat.{_+_, _≤_, _<_};
 ghost use lib.Dec.{eqb};
 ghost use lib.ListN.{length, drop};
 ghost use Rattle.alerts.specs.Text.{begins, contains, find};
-ghost use Rattle.alerts_patterns.specs.promises.Found.{foundOf, Skips, SkipsName, Seeks, SeeksTo, between};
-ghost use Rattle.alerts_patterns.specs.promises.Found.{anyPair};
+ghost use Rattle.alerts_patterns.specs.promises.Occurrence.{foundOf, Skips, SkipsName, Seeks, SeeksTo, between};
+ghost use Rattle.alerts_patterns.specs.promises.Occurrence.{anyPair};
 ghost use Rattle.alerts_patterns.specs.promises.Tables.{upTo, nameFilled, anyIn, anyAt};
 
-// Where a text is first found.
-pub enum Found {
+// Where a text first occurs.
+pub enum Occurrence {
     At(usize),
     Nowhere,
 }
@@ -248,26 +248,26 @@ fn skip_around(s: &[u8], i: usize, before: &[u8], name: &[u8], after: &[u8]) -> 
 }
 
 // Where the three parts first stand in s.
-pub fn find_around(s: &[u8], before: &[u8], name: &[u8], after: &[u8]) -> Found
+pub fn find_around(s: &[u8], before: &[u8], name: &[u8], after: &[u8]) -> Occurrence
     ensures { λ r. ⌜ r ≡
         foundOf (find (now (before .entry) ++ now (name .entry) ++ now (after .entry)) (now (s .entry))) ⌝ }
 {
     let mut i = skip_around(s, 0, before, name, after);
     while i < s.len() {
         if around_at(s, i, before, name, after) {
-            return Found::At(i);
+            return Occurrence::At(i);
         }
         let from = i + 1;
         i = skip_around(s, from, before, name, after);
     }
     if around_at(s, i, before, name, after) {
-        return Found::At(i);
+        return Occurrence::At(i);
     }
-    Found::Nowhere
+    Occurrence::Nowhere
 }
 
 // Where a pattern, with the name in its place, first stands in s.
-pub fn find_filled(s: &[u8], name: &[u8], pattern: &[u8]) -> Found
+pub fn find_filled(s: &[u8], name: &[u8], pattern: &[u8]) -> Occurrence
     ensures { λ r. ⌜ r ≡ foundOf (find (nameFilled (now (name .entry)) (now (pattern .entry))) (now (s .entry))) ⌝ }
 {
     let h = next(pattern, 0, b'#');
@@ -284,8 +284,8 @@ pub fn contains_filled(s: &[u8], name: &[u8], pattern: &[u8]) -> bool
     ensures { λ r. ⌜ r ≡ contains (nameFilled (now (name .entry)) (now (pattern .entry))) (now (s .entry)) ⌝ }
 {
     match find_filled(s, name, pattern) {
-        Found::At(_) => true,
-        Found::Nowhere => false,
+        Occurrence::At(_) => true,
+        Occurrence::Nowhere => false,
     }
 }
 

@@ -17,9 +17,9 @@ use Rattle.alerts.specs.Applies.{letters, numerals, trams, names, letterRows, n
 use Rattle.alerts.specs.Applies.{commercial-lines-in-text, anyMarker, window, markerNear}
 use Rattle.alerts.specs.promises.Reduced.{adviceMarkers, primary, secondary, textOk, road}
 use Rattle.alerts_patterns.specs.promises.Tables.{upTo, nameFilled, patterns, anyIn}
-use Rattle.alerts_patterns.specs.promises.Found.{foundOf}
-use Rattle.alerts_patterns.specs.declared.Found.{Found}
-use Rattle.alerts_patterns.specs.declared.Found.the-variants.{At, Nowhere}
+use Rattle.alerts_patterns.specs.promises.Occurrence.{foundOf}
+use Rattle.alerts_patterns.specs.declared.Occurrence.{Occurrence}
+use Rattle.alerts_patterns.specs.declared.Occurrence.the-variants.{At, Nowhere}
 use Rattle.alerts_patterns.specs.laws.Patterns.{filled-none, filled-here, tail-whole}
 use Rattle.alerts_lines.specs.promises.Lines.{allLines, IsLine, mentions, namedOf, subjectOf, otherSubject}
 use Rattle.alerts_lines.specs.promises.Marks.{Lines, Marked, anyFrom, picks}
@@ -110,7 +110,7 @@ find-room p (b ∷ s) i e = go (begins p (b ∷ s)) refl (find p s) refl e (find
 unAt : {x y : ℕ} → At x ≡ At y → x ≡ y
 unAt e = cc
 
-pub found-room : (p s : List ℕ) (i n : ℕ) (r : Found) → r ≡ foundOf (find p s) → r ≡ At i → n ≡ length p
+pub found-room : (p s : List ℕ) (i n : ℕ) (r : Occurrence) → r ≡ foundOf (find p s) → r ≡ At i → n ≡ length p
     → i + n ≤ length s
 found-room p s i n r e h g = rw g (go (find p s) refl (sym e ∙ h))
   where
@@ -118,7 +118,7 @@ found-room p s i n r e h g = rw g (go (find p s) refl (sym e ∙ h))
     go none eo x = absurd (let z : _≡_ {A = ℕ} 0 1 = cc in omega arith)
     go (some k) eo x = omega (arith, find-room p s k eo, unAt x)
 
-pub near-found : (p s : List ℕ) (i n : ℕ) (r : Found) (t : Bool) → r ≡ foundOf (find p s) → r ≡ At i → n ≡ length p
+pub near-found : (p s : List ℕ) (i n : ℕ) (r : Occurrence) (t : Bool) → r ≡ foundOf (find p s) → r ≡ At i → n ≡ length p
     → t ≡ anyMarker adviceMarkers (window s i n) → t ≡ nearMarker s p
 near-found p s i n r t e h g x = x ∙ go (find p s) (sym e ∙ h)
   where
@@ -126,7 +126,7 @@ near-found p s i n r t e h g x = x ∙ go (find p s) (sym e ∙ h)
     go none x = absurd (let z : _≡_ {A = ℕ} 0 1 = cc in omega arith)
     go (some k) x = rw (unAt x, g) refl
 
-pub near-nowhere : (p s : List ℕ) (r : Found) → r ≡ foundOf (find p s) → r ≡ Nowhere → false ≡ nearMarker s p
+pub near-nowhere : (p s : List ℕ) (r : Occurrence) → r ≡ foundOf (find p s) → r ≡ Nowhere → false ≡ nearMarker s p
 near-nowhere p s r e h = go (find p s) (sym e ∙ h)
   where
     go : (o : Option ℕ) → foundOf o ≡ Nowhere → false ≡ markerNear adviceMarkers s p o

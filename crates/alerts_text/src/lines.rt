@@ -62,11 +62,11 @@ fn near_marker(s: &[u8], name: &[u8], pattern: &[u8]) -> bool
     ensures { λ r. ⌜ r ≡ nearFilled (now (s .entry)) (now (name .entry)) (now (pattern .entry)) ⌝ }
 {
     match alerts_patterns::find_filled(s, name, pattern) {
-        alerts_patterns::Found::At(i) => {
+        alerts_patterns::Occurrence::At(i) => {
             let n = filled_len(name, pattern);
             marked_near(s, i, n)
         }
-        alerts_patterns::Found::Nowhere => false,
+        alerts_patterns::Occurrence::Nowhere => false,
     }
 }
 

@@ -11,9 +11,9 @@ use lib.ListN.{length, take, drop, set, length-append, length-drop}
 use lib.Seq.{set-split, length-take-le}
 use borrow.Author.Tests.{lt-ltb, le-ltb}
 use Rattle.slices.specs.Lists.{pasted}
-use Rattle.realtime_views.specs.promises.Views.{spanIn, SpanInside, viewDirection}
+use Rattle.realtime_views.specs.promises.Views.{partIn, PartInside, viewDirection}
 use Rattle.realtime_views.specs.declared.Trip.{Trip}
-use Rattle.realtime_views.specs.declared.Span.{Span}
+use Rattle.realtime_views.specs.declared.TextPart.{TextPart}
 use Rattle.basics.specs.Options.{Maybe, maybe}
 use Rattle.decode.specs.Key.{decimalOf, directionText, prefixed, datedKey, headOf, tailOf}
 use Rattle.basics.specs.Lists.{isEmpty}
@@ -99,30 +99,30 @@ nothing [] h = refl
 nothing (b ∷ x) h = absurd (omega arith)
 
 -- a route, with the feed in front
-pub routed : {o₀ o₁ o₂ o₃ : List ℕ} {at p q r : ℕ} (feed s x : List ℕ) (route : Span) → SpanInside (length s) route
-    → (route .len ≡ 0 → ⊥) → x ≡ spanIn s route
+pub routed : {o₀ o₁ o₂ o₃ : List ℕ} {at p q r : ℕ} (feed s x : List ℕ) (route : TextPart) → PartInside (length s) route
+    → (route .len ≡ 0 → ⊥) → x ≡ partIn s route
     → Added o₀ at feed o₁ p → Added o₁ p (58 ∷ []) o₂ q → Added o₂ q x o₃ r
-    → Added o₀ at (prefixed feed (spanIn s route)) o₃ r
+    → Added o₀ at (prefixed feed (partIn s route)) o₃ r
 routed feed s x route i z e f g h =
-    let l : length (spanIn s route) ≡ route .len = span-length s (spanIn s route) (route .start) (route .len) refl i in
-    rw (nonempty (spanIn s route) (λ q. z (sym l ∙ q)), ← e) (joined 58 f g h)
+    let l : length (partIn s route) ≡ route .len = span-length s (partIn s route) (route .start) (route .len) refl i in
+    rw (nonempty (partIn s route) (λ q. z (sym l ∙ q)), ← e) (joined 58 f g h)
 
-pub unrouted : (out feed s : List ℕ) (at : ℕ) (route : Span) → route .len ≡ 0 → at ≤ length out
-    → Added out at (prefixed feed (spanIn s route)) out at
+pub unrouted : (out feed s : List ℕ) (at : ℕ) (route : TextPart) → route .len ≡ 0 → at ≤ length out
+    → Added out at (prefixed feed (partIn s route)) out at
 unrouted out feed s at route z h = rw z (none out at h)
 
 -- the lengths of the parts of an incomplete key
-pub prefixed-short : (feed s : List ℕ) (route : Span) → length feed ≤ 16 → SpanInside (length s) route
-    → route .len ≤ 64 → length (prefixed feed (spanIn s route)) ≤ 81
-prefixed-short feed s route h i g = go (isEmpty (spanIn s route))
+pub prefixed-short : (feed s : List ℕ) (route : TextPart) → length feed ≤ 16 → PartInside (length s) route
+    → route .len ≤ 64 → length (prefixed feed (partIn s route)) ≤ 81
+prefixed-short feed s route h i g = go (isEmpty (partIn s route))
   where
-    go : (b : Bool) → length (cond b [] (feed ++ 58 ∷ spanIn s route)) ≤ 81
+    go : (b : Bool) → length (cond b [] (feed ++ 58 ∷ partIn s route)) ≤ 81
     go true = omega arith
     go false =
         omega (
           arith,
-          length-append feed (58 ∷ spanIn s route),
-          span-length s (spanIn s route) (route .start)
+          length-append feed (58 ∷ partIn s route),
+          span-length s (partIn s route) (route .start)
               (route .len) refl i,
         )
 
@@ -131,9 +131,9 @@ shown-short (inl u) = omega arith
 shown-short (inr n) = decimal-short 10 n
 
 module _ (feed s : List ℕ) (t : Trip) (f : length feed ≤ 16) (S : Short s t) where
-  pub spans-head : length (headOf feed (spanIn s (t .route)) (maybe (viewDirection (t .direction)))) ≤ 97
+  pub spans-head : length (headOf feed (partIn s (t .route)) (maybe (viewDirection (t .direction)))) ≤ 97
   spans-head =
-      let route = prefixed feed (spanIn s (t .route)) in
+      let route = prefixed feed (partIn s (t .route)) in
       omega (
         arith,
         length-append ((35 ∷ 114 ∷ 61 ∷ []) ++ route ++ (38 ∷ 100 ∷ 61 ∷ []))
@@ -144,10 +144,10 @@ module _ (feed s : List ℕ) (t : Trip) (f : length feed ≤ 16) (S : Short s t)
         shown-short (maybe (viewDirection (t .direction))),
       )
 
-  spans-tail : length (tailOf (spanIn s (t .date)) (spanIn s (t .time))) ≤ 40
+  spans-tail : length (tailOf (partIn s (t .date)) (partIn s (t .time))) ≤ 40
   spans-tail =
-      let date = spanIn s (t .date) in
-      let time = spanIn s (t .time) in
+      let date = partIn s (t .date) in
+      let time = partIn s (t .time) in
       omega (
         arith,
         length-append ((38 ∷ 115 ∷ 100 ∷ 61 ∷ []) ++ date ++ (38 ∷ 115 ∷ 116 ∷ 61 ∷ [])) time,
@@ -159,13 +159,13 @@ module _ (feed s : List ℕ) (t : Trip) (f : length feed ≤ 16) (S : Short s t)
         S .time .1,
       )
 
-  pub spans-whole : length (headOf feed (spanIn s (t .route)) (maybe (viewDirection (t .direction))) ++ tailOf
-      (spanIn s (t .date)) (spanIn s (t .time))) ≤ 137
+  pub spans-whole : length (headOf feed (partIn s (t .route)) (maybe (viewDirection (t .direction))) ++ tailOf
+      (partIn s (t .date)) (partIn s (t .time))) ≤ 137
   spans-whole =
       omega (
         arith,
-        length-append (headOf feed (spanIn s (t .route)) (maybe (viewDirection (t .direction))))
-            (tailOf (spanIn s (t .date)) (spanIn s (t .time))),
+        length-append (headOf feed (partIn s (t .route)) (maybe (viewDirection (t .direction))))
+            (tailOf (partIn s (t .date)) (partIn s (t .time))),
         spans-head,
         spans-tail,
       )

@@ -2,7 +2,7 @@
 pub mod sizes; // how large things may be
 
 use realtime_views::Direction;
-use realtime_views::Span;
+use realtime_views::TextPart;
 use realtime_views::Trip;
 use sizes::KEY_BYTES;
 ghost use mathlib.Core.Path.{_≡_};
@@ -10,7 +10,7 @@ ghost use Prim.Native.Nat.{_+_, _*_, _≤_, _<_};
 ghost use mathlib.Core.List.{[], _∷_, _++_};
 ghost use lib.ListN.{length, take, drop};
 ghost use Rattle.decode.specs.Key.{decimalOf, datedKey, prefixed, directionText, headOf, tailOf};
-ghost use Rattle.realtime_views.specs.promises.Views.{spanIn, SpanInside, viewDirection};
+ghost use Rattle.realtime_views.specs.promises.Views.{partIn, PartInside, viewDirection};
 ghost use Rattle.basics.specs.Options.{maybe};
 ghost use Rattle.decode.specs.Sizes.{keyBytes, mostFeed, mostId, mostDate, mostTime};
 ghost use Rattle.decode.specs.promises.Written.{Added};
@@ -70,7 +70,7 @@ pub fn write_dated(keys: &mut [u8], n: usize, s: &[u8], t: Trip) -> usize
     requires { ⌜ Room (now keys) n ⌝ }
     requires { ⌜ Short (now s) t ⌝ }
     ensures { λ r. ⌜ Keyed (now (keys .entry)) n
-        (datedKey (spanIn (now (s .entry)) (t .id)) (spanIn (now (s .entry)) (t .date))) (now (keys .exit)) r ⌝ }
+        (datedKey (partIn (now (s .entry)) (t .id)) (partIn (now (s .entry)) (t .date))) (now (keys .exit)) r ⌝ }
 {
     let id = t.id;
     let date = t.date;
@@ -80,11 +80,11 @@ pub fn write_dated(keys: &mut [u8], n: usize, s: &[u8], t: Trip) -> usize
 }
 
 // feed:route, and nothing where there is no route: 16 + 1 + 64 bytes at most.
-fn write_route(keys: &mut [u8], at: usize, feed: &[u8], s: &[u8], route: Span) -> usize
+fn write_route(keys: &mut [u8], at: usize, feed: &[u8], s: &[u8], route: TextPart) -> usize
     requires { ⌜ (at + 81 ≤ length (now keys)) × (length (now feed) ≤ mostFeed) ⌝ }
-    requires { ⌜ SpanInside (length (now s)) route × (route .len ≤ mostId) ⌝ }
+    requires { ⌜ PartInside (length (now s)) route × (route .len ≤ mostId) ⌝ }
     ensures { λ r. ⌜ Added (now (keys .entry)) at
-        (prefixed (now (feed .entry)) (spanIn (now (s .entry)) route)) (now (keys .exit)) r ⌝ }
+        (prefixed (now (feed .entry)) (partIn (now (s .entry)) route)) (now (keys .exit)) r ⌝ }
 {
     if route.len == 0 {
         return at;
@@ -111,7 +111,7 @@ fn write_head(keys: &mut [u8], at: usize, feed: &[u8], s: &[u8], t: Trip) -> usi
     requires { ⌜ (at + 97 ≤ length (now keys)) × (length (now feed) ≤ mostFeed) ⌝ }
     requires { ⌜ Short (now s) t ⌝ }
     ensures { λ r. ⌜ Added (now (keys .entry)) at
-        (headOf (now (feed .entry)) (spanIn (now (s .entry)) (t .route)) (maybe (viewDirection (t .direction))))
+        (headOf (now (feed .entry)) (partIn (now (s .entry)) (t .route)) (maybe (viewDirection (t .direction))))
         (now (keys .exit)) r ⌝ }
 {
     let route = t.route;
@@ -123,12 +123,12 @@ fn write_head(keys: &mut [u8], at: usize, feed: &[u8], s: &[u8], t: Trip) -> usi
 }
 
 // &sd= and a date, &st= and a time: 40 bytes at most.
-fn write_tail(keys: &mut [u8], at: usize, s: &[u8], date: Span, time: Span) -> usize
+fn write_tail(keys: &mut [u8], at: usize, s: &[u8], date: TextPart, time: TextPart) -> usize
     requires { ⌜ at + 40 ≤ length (now keys) ⌝ }
-    requires { ⌜ SpanInside (length (now s)) date × (date .len ≤ mostDate) ⌝ }
-    requires { ⌜ SpanInside (length (now s)) time × (time .len ≤ mostTime) ⌝ }
+    requires { ⌜ PartInside (length (now s)) date × (date .len ≤ mostDate) ⌝ }
+    requires { ⌜ PartInside (length (now s)) time × (time .len ≤ mostTime) ⌝ }
     ensures { λ r. ⌜ Added (now (keys .entry)) at
-        (tailOf (spanIn (now (s .entry)) date) (spanIn (now (s .entry)) time)) (now (keys .exit)) r ⌝ }
+        (tailOf (partIn (now (s .entry)) date) (partIn (now (s .entry)) time)) (now (keys .exit)) r ⌝ }
 {
     let a = add(keys, at, b"&sd=");
     let b = add(keys, a, wire::part(s, date.start, date.len));
@@ -142,8 +142,8 @@ pub fn write_incomplete(keys: &mut [u8], n: usize, feed: &[u8], s: &[u8], t: Tri
     requires { ⌜ length (now feed) ≤ mostFeed ⌝ }
     requires { ⌜ Short (now s) t ⌝ }
     ensures { λ r. ⌜ Keyed (now (keys .entry)) n
-        (headOf (now (feed .entry)) (spanIn (now (s .entry)) (t .route)) (maybe (viewDirection (t .direction)))
-        ++ tailOf (spanIn (now (s .entry)) (t .date)) (spanIn (now (s .entry)) (t .time))) (now (keys .exit)) r ⌝ }
+        (headOf (now (feed .entry)) (partIn (now (s .entry)) (t .route)) (maybe (viewDirection (t .direction)))
+        ++ tailOf (partIn (now (s .entry)) (t .date)) (partIn (now (s .entry)) (t .time))) (now (keys .exit)) r ⌝ }
 {
     let p = write_head(keys, KEY_BYTES * n, feed, s, t);
     let date = t.date;

@@ -7,7 +7,7 @@ use native.Mathlib.Omega.{arith}
 use lib.ListN.{length, take, drop}
 use Rattle.realtime.specs.Schema as schema
 use Rattle.realtime.specs.Views.{trip}
-use Rattle.realtime_views.specs.promises.Views.{spanIn, TripRead, DeletedRead}
+use Rattle.realtime_views.specs.promises.Views.{partIn, TripRead, DeletedRead}
 use Rattle.realtime_views.specs.declared.Trip.{Trip}
 use Rattle.maps.specs.Map.{puts}
 use Rattle.maps.specs.Order.{texts}
@@ -33,7 +33,7 @@ module _ {s : List ℕ} {start len : ℕ} where
           omega (
             arith,
             F .id,
-            size (spanIn s (t .id)) (trip (F .entity) .id) (t .id .start) (t .id .len)
+            size (partIn s (t .id)) (trip (F .entity) .id) (t .id .start) (t .id .len)
                 (ap (λ w. w .id) v) refl (R .id),
           ),
         );
@@ -42,7 +42,7 @@ module _ {s : List ℕ} {start len : ℕ} where
           omega (
             arith,
             F .date,
-            size (spanIn s (t .date)) (trip (F .entity) .date) (t .date .start)
+            size (partIn s (t .date)) (trip (F .entity) .date) (t .date .start)
                 (t .date .len) (ap (λ w. w .date) v) refl (R .date),
           ),
         );
@@ -51,7 +51,7 @@ module _ {s : List ℕ} {start len : ℕ} where
           omega (
             arith,
             F .time,
-            size (spanIn s (t .time)) (trip (F .entity) .time) (t .time .start)
+            size (partIn s (t .time)) (trip (F .entity) .time) (t .time .start)
                 (t .time .len) (ap (λ w. w .time) v) refl (R .time),
           ),
         );
@@ -60,7 +60,7 @@ module _ {s : List ℕ} {start len : ℕ} where
           omega (
             arith,
             F .route,
-            size (spanIn s (t .route)) (trip (F .entity) .route)
+            size (partIn s (t .route)) (trip (F .entity) .route)
                 (t .route .start) (t .route .len) (ap (λ w. w .route) v) refl (R .route),
           ),
         );
@@ -96,7 +96,7 @@ module _ {s : List ℕ} {start len : ℕ} where
           date = ap (λ w. w .date) v;
           time = ap (λ w. w .time) v;
         } in
-        let l : inserts feed (spanIn s (t .id)) (tripIn e) ≡ entriesIn feed e =
+        let l : inserts feed (partIn s (t .id)) (tripIn e) ≡ entriesIn feed e =
         ap (λ x. inserts feed x (tripIn e)) (ap (λ w. w .id) v)
         ∙ sym (ap (λ b. cond b [] (inserts feed (trip e .id) (tripIn e))) (sym (D .of e q) ∙ h)) in
         record {

@@ -11,7 +11,7 @@ use Rattle.maps.specs.Order.{texts}
 use Rattle.maps.specs.laws.Map.{put-longer}
 use Rattle.decode_slots.specs.Index.{index, slotKey, slotPlace, slotted}
 use Rattle.decode_slots.specs.promises.Index.{SoundIndex, Settled}
-use Rattle.realtime_views.specs.promises.Views.{spanIn, viewDirection}
+use Rattle.realtime_views.specs.promises.Views.{partIn, viewDirection}
 use Rattle.realtime_views.specs.declared.Trip.{Trip}
 use Rattle.decode.specs.Trip as held
 use Rattle.basics.specs.Options.{maybe}
@@ -76,21 +76,21 @@ module _ (feed : List ℕ) (u : held.Trip) where
   inserts-dated (b ∷ raw) z h = rw (nonempty (held.dateOf u) h)
 
 module _ (feed s : List ℕ) (t : Trip) (S : Short s t) where
-  id-length : length (spanIn s (t .id)) ≡ t .id .len
-  id-length = span-length s (spanIn s (t .id)) (t .id .start) (t .id .len) refl (S .id .0)
+  id-length : length (partIn s (t .id)) ≡ t .id .len
+  id-length = span-length s (partIn s (t .id)) (t .id .start) (t .id .len) refl (S .id .0)
 
   route-length : (u : held.Trip) → Agrees s t u → length (held.routeOf u) ≡ t .route .len
   route-length u a =
-      sym (ap length (a .route)) ∙ span-length s (spanIn s (t .route)) (t .route .start) (t .route .len) refl
+      sym (ap length (a .route)) ∙ span-length s (partIn s (t .route)) (t .route .start) (t .route .len) refl
       (S .route .0)
 
   date-length : (u : held.Trip) → Agrees s t u → length (held.dateOf u) ≡ t .date .len
   date-length u a =
-      sym (ap length (a .date)) ∙ span-length s (spanIn s (t .date)) (t .date .start) (t .date .len) refl (S .date .0)
+      sym (ap length (a .date)) ∙ span-length s (partIn s (t .date)) (t .date .start) (t .date .len) refl (S .date .0)
 
   incomplete-key : (u : held.Trip) → Agrees s t u
-      → incompleteKey feed u ≡ headOf feed (spanIn s (t .route)) (maybe (viewDirection (t .direction))) ++ tailOf
-      (spanIn s (t .date)) (spanIn s (t .time))
+      → incompleteKey feed u ≡ headOf feed (partIn s (t .route)) (maybe (viewDirection (t .direction))) ++ tailOf
+      (partIn s (t .date)) (partIn s (t .time))
   unfolding incompleteKey
   incomplete-key u a = sym (λ i. headOf feed (a .route i) (a .direction i) ++ tailOf (a .date i) (a .time i))
 
@@ -101,13 +101,13 @@ module _ (feed s : List ℕ) (t : Trip) (S : Short s t) where
   enters-none {keys} {marks} {order} {n} from to Q c z y = record {
     sound = Q;
     few = λ h u a. sym (ap (λ l. puts texts (placedAt (from, to) l) (index keys marks order n))
-        (inserts-none feed u (spanIn s (t .id)) (id-length ∙ z) (route-length u a ∙ y)));
+        (inserts-none feed u (partIn s (t .id)) (id-length ∙ z) (route-length u a ∙ y)));
     many = λ h u a. absurd (omega arith);
   }
 
   module _ {from to : ℕ} {keys marks order k keys′ marks′ order′ : List ℕ} {n r : ℕ}
       (F : Filed keys marks order n k from to keys′ marks′ order′ r) where
-    alone : ((u : held.Trip) → Agrees s t u → inserts feed (spanIn s (t .id)) u ≡ (k, u) ∷ [])
+    alone : ((u : held.Trip) → Agrees s t u → inserts feed (partIn s (t .id)) u ≡ (k, u) ∷ [])
         → Entered feed s t from to keys marks order n keys′ marks′ order′ r
     alone e = record {
       sound = F .sound;
@@ -115,27 +115,27 @@ module _ (feed s : List ℕ) (t : Trip) (S : Short s t) where
       many = λ h u a. rw (e u a) (omega (arith, filed-length F));
     }
 
-    pub enters-incomplete : k ≡ headOf feed (spanIn s (t .route)) (maybe (viewDirection (t .direction))) ++ tailOf
-        (spanIn s (t .date)) (spanIn s (t .time)) → t .id .len ≡ 0 → (t .route .len ≡ 0 → ⊥)
+    pub enters-incomplete : k ≡ headOf feed (partIn s (t .route)) (maybe (viewDirection (t .direction))) ++ tailOf
+        (partIn s (t .date)) (partIn s (t .time)) → t .id .len ≡ 0 → (t .route .len ≡ 0 → ⊥)
         → Entered feed s t from to keys marks order n keys′ marks′ order′ r
     enters-incomplete e z y =
-        alone (λ u a. inserts-incomplete feed u (spanIn s (t .id)) (id-length ∙ z) (λ q. y (sym (route-length u a) ∙ q))
+        alone (λ u a. inserts-incomplete feed u (partIn s (t .id)) (id-length ∙ z) (λ q. y (sym (route-length u a) ∙ q))
         ∙ ap {B = List (List ℕ × held.Trip)} (λ x. (x, u) ∷ []) (incomplete-key u a ∙ sym e))
 
-    pub enters-base : k ≡ spanIn s (t .id) → (t .id .len ≡ 0 → ⊥) → t .date .len ≡ 0
+    pub enters-base : k ≡ partIn s (t .id) → (t .id .len ≡ 0 → ⊥) → t .date .len ≡ 0
         → Entered feed s t from to keys marks order n keys′ marks′ order′ r
     enters-base e z y =
-        alone (λ u a. inserts-base feed u (spanIn s (t .id)) (λ q. z (sym id-length ∙ q)) (date-length u a ∙ y)
+        alone (λ u a. inserts-base feed u (partIn s (t .id)) (λ q. z (sym id-length ∙ q)) (date-length u a ∙ y)
         ∙ ap {B = List (List ℕ × held.Trip)} (λ x. (x, u) ∷ []) (sym e))
 
     -- the dated key, and its base behind it
-    module _ (e : k ≡ datedKey (spanIn s (t .id)) (spanIn s (t .date))) (z : t .id .len ≡ 0 → ⊥)
+    module _ (e : k ≡ datedKey (partIn s (t .id)) (partIn s (t .date))) (z : t .id .len ≡ 0 → ⊥)
         (y : t .date .len ≡ 0 → ⊥) where
-      two : (u : held.Trip) → Agrees s t u → inserts feed (spanIn s (t .id)) u ≡ (k, u) ∷ (spanIn s (t .id), u) ∷ []
+      two : (u : held.Trip) → Agrees s t u → inserts feed (partIn s (t .id)) u ≡ (k, u) ∷ (partIn s (t .id), u) ∷ []
       two u a =
-          inserts-dated feed u (spanIn s (t .id)) (λ q. z (sym id-length ∙ q)) (λ q. y (sym (date-length u a) ∙ q))
-          ∙ ap {B = List (List ℕ × held.Trip)} (λ x. (x, u) ∷ (spanIn s (t .id), u) ∷ [])
-          (ap (datedKey (spanIn s (t .id))) (sym (a .date)) ∙ sym e)
+          inserts-dated feed u (partIn s (t .id)) (λ q. z (sym id-length ∙ q)) (λ q. y (sym (date-length u a) ∙ q))
+          ∙ ap {B = List (List ℕ × held.Trip)} (λ x. (x, u) ∷ (partIn s (t .id), u) ∷ [])
+          (ap (datedKey (partIn s (t .id))) (sym (a .date)) ∙ sym e)
 
       pub enters-over : 2048 < r → Entered feed s t from to keys marks order n keys′ marks′ order′ r
       enters-over h = record {
@@ -144,16 +144,16 @@ module _ (feed s : List ℕ) (t : Trip) (S : Short s t) where
         many = λ g u a. rw (two u a) (omega (
           arith,
           filed-length F,
-          put-longer texts (spanIn s (t .id)) (from, to)
+          put-longer texts (partIn s (t .id)) (from, to)
               (put texts k (from, to) (index keys marks order n)),
         ));
       }
 
       pub enters-dated : {keys″ marks″ order″ : List ℕ} {q : ℕ}
-          → Filed keys′ marks′ order′ r (spanIn s (t .id)) from to keys″ marks″ order″ q
+          → Filed keys′ marks′ order′ r (partIn s (t .id)) from to keys″ marks″ order″ q
           → Entered feed s t from to keys marks order n keys″ marks″ order″ q
       enters-dated {keys″} {marks″} {order″} {q} G = record {
         sound = G .sound;
-        few = λ g u a. rw (two u a) (G .map ∙ ap (put texts (spanIn s (t .id)) (from, to)) (F .map));
+        few = λ g u a. rw (two u a) (G .map ∙ ap (put texts (partIn s (t .id)) (from, to)) (F .map));
         many = λ g u a. rw (two u a, ← F .map) (omega (arith, filed-length G));
       }

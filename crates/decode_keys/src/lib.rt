@@ -4,7 +4,7 @@ use realtime_views::Trip;
 ghost use Prim.Native.Nat.{_+_, _≤_};
 ghost use mathlib.Core.List.{_++_};
 ghost use lib.ListN.{length, take, drop};
-ghost use Rattle.realtime_views.specs.promises.Views.{spanIn, viewDirection};
+ghost use Rattle.realtime_views.specs.promises.Views.{partIn, viewDirection};
 ghost use Rattle.decode.specs.Key.{datedKey, headOf, tailOf};
 ghost use Rattle.basics.specs.Options.{maybe};
 ghost use Rattle.decode.specs.promises.Keyed.{Short};
@@ -48,7 +48,7 @@ fn file_base(
     requires { ⌜ Open (now keys) (now marks) (now order) n ⌝ }
     requires { ⌜ Short (now s) t ⌝ }
     ensures { λ r. ⌜ Filed (now (keys .entry)) (now (marks .entry)) (now (order .entry)) n
-        (spanIn (now (s .entry)) (t .id)) from to (now (keys .exit)) (now (marks .exit)) (now (order .exit)) r ⌝ }
+        (partIn (now (s .entry)) (t .id)) from to (now (keys .exit)) (now (marks .exit)) (now (order .exit)) r ⌝ }
 {
     let id = t.id;
     file_key(keys, marks, order, n, s, id.start, id.len, from, to)
@@ -68,7 +68,7 @@ fn file_dated(
     requires { ⌜ Open (now keys) (now marks) (now order) n ⌝ }
     requires { ⌜ Short (now s) t ⌝ }
     ensures { λ r. ⌜ Filed (now (keys .entry)) (now (marks .entry)) (now (order .entry)) n
-        (datedKey (spanIn (now (s .entry)) (t .id)) (spanIn (now (s .entry)) (t .date))) from to
+        (datedKey (partIn (now (s .entry)) (t .id)) (partIn (now (s .entry)) (t .date))) from to
         (now (keys .exit)) (now (marks .exit)) (now (order .exit)) r ⌝ }
 {
     let len = decode::write_dated(keys, n, s, t);
@@ -91,8 +91,8 @@ fn file_incomplete(
     requires { ⌜ length (now feed) ≤ mostFeed ⌝ }
     requires { ⌜ Short (now s) t ⌝ }
     ensures { λ r. ⌜ Filed (now (keys .entry)) (now (marks .entry)) (now (order .entry)) n
-        (headOf (now (feed .entry)) (spanIn (now (s .entry)) (t .route)) (maybe (viewDirection (t .direction)))
-        ++ tailOf (spanIn (now (s .entry)) (t .date)) (spanIn (now (s .entry)) (t .time))) from to
+        (headOf (now (feed .entry)) (partIn (now (s .entry)) (t .route)) (maybe (viewDirection (t .direction)))
+        ++ tailOf (partIn (now (s .entry)) (t .date)) (partIn (now (s .entry)) (t .time))) from to
         (now (keys .exit)) (now (marks .exit)) (now (order .exit)) r ⌝ }
 {
     let len = decode::write_incomplete(keys, n, feed, s, t);

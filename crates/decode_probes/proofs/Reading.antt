@@ -13,7 +13,7 @@ use Rattle.realtime.specs.Judge.{Rules, asked, textsFine, numbersFine}
 use Rattle.realtime.specs.declared.Verdict.{Verdict}
 use Rattle.basics.specs.Texts.{same}
 use Rattle.realtime.specs.Views.{TripView}
-use Rattle.realtime_views.specs.promises.Views.{spanIn, viewTrip}
+use Rattle.realtime_views.specs.promises.Views.{partIn, viewTrip}
 use Rattle.realtime_views.specs.declared.Trip.{Trip}
 use Rattle.decode_probes.specs.Answers.{ofWhole, textsAre}
 use Rattle.decode_probes.specs.promises.Answers.{isWhole}
@@ -56,7 +56,7 @@ all-of t s e = ap (tree feed t) (take-length s) ∙ e
 
 -- three texts of a trip compared
 module _ (s x y z : List ℕ) where
-  pub texts-read : (t : Trip) {v : TripView} {a b c : Bool} → a ≡ same (spanIn s (t .time)) x
-      → b ≡ same (spanIn s (t .date)) y → c ≡ same (spanIn s (t .route)) z → viewTrip s t ≡ v
+  pub texts-read : (t : Trip) {v : TripView} {a b c : Bool} → a ≡ same (partIn s (t .time)) x
+      → b ≡ same (partIn s (t .date)) y → c ≡ same (partIn s (t .route)) z → viewTrip s t ≡ v
       → (a && b) && c ≡ textsAre v x y z
   texts-read t p q r h = (λ j. (p j && q j) && r j) ∙ ap (λ v. textsAre v x y z) h

@@ -20,8 +20,8 @@ use realtime_views::Delay;
 use realtime_views::Direction;
 use realtime_views::Event;
 use realtime_views::Header;
-use realtime_views::Span;
 use realtime_views::StopUpdate;
+use realtime_views::TextPart;
 use realtime_views::Time;
 use realtime_views::Timestamp;
 use realtime_views::Trip;
@@ -40,7 +40,7 @@ ghost use Rattle.realtime.specs.Schema.{feed, feedMessage, feedEntity, stopTime
 ghost use Rattle.realtime.specs.Judge.{asked, rules};
 ghost use Rattle.realtime.specs.Typed.{orZero};
 ghost use Rattle.realtime.specs.Views.{header, stopUpdate, trip};
-ghost use Rattle.realtime_views.specs.promises.Views.{SpanInside, spanIn, viewDelay, viewDirection, viewEvent};
+ghost use Rattle.realtime_views.specs.promises.Views.{PartInside, partIn, viewDelay, viewDirection, viewEvent};
 ghost use Rattle.realtime_views.specs.promises.Views.{viewHeader, viewTime, viewTimestamp};
 ghost use Rattle.decode.specs.Sizes.{mostTrips, updatesLength};
 ghost use Rattle.decode.specs.Trip.{tripEntry};
@@ -236,9 +236,9 @@ pub extern "C" fn trips_trip(e: &[u8]) -> TripNumbers
 }
 
 // Whether a text of s is x.
-fn reads(s: &[u8], p: Span, x: &[u8]) -> bool
-    requires { ⌜ SpanInside (length (now s)) p ⌝ }
-    ensures { λ r. ⌜ r ≡ same (spanIn (now (s .entry)) p) (now (x .entry)) ⌝ }
+fn reads(s: &[u8], p: TextPart, x: &[u8]) -> bool
+    requires { ⌜ PartInside (length (now s)) p ⌝ }
+    ensures { λ r. ⌜ r ≡ same (partIn (now (s .entry)) p) (now (x .entry)) ⌝ }
 {
     slices::same(wire::part(s, p.start, p.len), x)
 }

@@ -9,8 +9,8 @@ use formats_write::Put;
 use realtime_views::Delay;
 use realtime_views::Direction;
 use realtime_views::Event;
-use realtime_views::Span;
 use realtime_views::StopUpdate;
+use realtime_views::TextPart;
 use realtime_views::Time;
 use realtime_views::Trip;
 ghost use mathlib.Core.Path.{_≡_};
@@ -28,7 +28,7 @@ ghost use Rattle.formats_write.specs.declared.Put.the-variants.{At};
 ghost use Rattle.formats_write.specs.promises.Adds.{Adds};
 ghost use Rattle.formats_write.specs.promises.Given.{givenNumber, givenSigned, optionalW, textW};
 ghost use Rattle.realtime.specs.Schema.{feedEntity, stopTimeUpdate};
-ghost use Rattle.realtime_views.specs.promises.Views.{SpanInside, spanIn, viewDelay, viewDirection, viewEvent};
+ghost use Rattle.realtime_views.specs.promises.Views.{PartInside, partIn, viewDelay, viewDirection, viewEvent};
 ghost use Rattle.realtime_views.specs.promises.Views.{viewStop, viewTime, viewTrip};
 ghost use Rattle.decode.specs.Record.{bit};
 ghost use Rattle.decode.specs.Trip.{number32, stopUpdate, trip};
@@ -109,9 +109,9 @@ fn put_number(out: &mut [u8], w: Put, n: u64) -> Put
 }
 
 // A text of s. An absent one is empty.
-fn put_text(out: &mut [u8], w: Put, s: &[u8], t: Span) -> Put
-    requires { ⌜ SpanInside (length (now s)) t ⌝ }
-    ensures { λ r. ⌜ Adds (now (out .entry)) w (now (out .exit)) r (textW (spanIn (now (s .entry)) t)) ⌝ }
+fn put_text(out: &mut [u8], w: Put, s: &[u8], t: TextPart) -> Put
+    requires { ⌜ PartInside (length (now s)) t ⌝ }
+    ensures { λ r. ⌜ Adds (now (out .entry)) w (now (out .exit)) r (textW (partIn (now (s .entry)) t)) ⌝ }
 {
     let q = put_number(out, w, t.len as u64);
     formats_write::stretch(out, q, s, t.start, t.start + t.len)
@@ -196,7 +196,7 @@ fn put_event(out: &mut [u8], w: Put, e: Event) -> Put
 
 // A stop update that was read, at its sequence.
 fn put_update(out: &mut [u8], w: Put, sequence: u32, s: &[u8], u: StopUpdate) -> Put
-    requires { ⌜ SpanInside (length (now s)) (u .stop) ⌝ }
+    requires { ⌜ PartInside (length (now s)) (u .stop) ⌝ }
     ensures { λ r. ⌜ Adds (now (out .entry)) w (now (out .exit)) r
         (write (number32 & stopUpdate) (sequence, updateOf (viewStop (now (s .entry)) u))) ⌝ }
 {

@@ -14,7 +14,7 @@ ghost use Rattle.formats_check.specs.laws.Climbing.{Spans, known, follow
 ghost use Rattle.formats_check.specs.laws.Walks.{Each};
 
 // Where the bytes of a text stand.
-pub enum Span {
+pub enum CheckedText {
     At(usize, usize),
     No,
 }
@@ -98,37 +98,37 @@ pub fn number_five(s: &[u8], at: usize) -> Numeral
 }
 
 // A text of any bytes, at most `limit` of them, and where they stand.
-fn bytes_at(limit: u64, s: &[u8], at: usize) -> Span
+fn bytes_at(limit: u64, s: &[u8], at: usize) -> CheckedText
     ensures { λ r. ⌜ Spans limit any (now (s .entry)) at r ⌝ }
 {
     let Numeral::Got(n, p) = number_at(s, at) else {
-        return Span::No;
+        return CheckedText::No;
     };
     if limit < n {
-        return Span::No;
+        return CheckedText::No;
     }
     let left = s.len() - p;
     let m = n as usize;
     if left < m {
-        return Span::No;
+        return CheckedText::No;
     }
-    Span::At(p, p + m)
+    CheckedText::At(p, p + m)
 }
 
 // A text of a class, by the number that a table has for it, and where its bytes stand.
-pub fn text_at(class: u64, limit: u64, s: &[u8], at: usize) -> Span
+pub fn text_at(class: u64, limit: u64, s: &[u8], at: usize) -> CheckedText
     ensures { λ r. ⌜ Spans limit (classOf class) (now (s .entry)) at r ⌝ }
 {
-    let Span::At(a, e) = bytes_at(limit, s, at) else {
-        return Span::No;
+    let CheckedText::At(a, e) = bytes_at(limit, s, at) else {
+        return CheckedText::No;
     };
     if formats_text::in_class(class, &s[a..e]) {
-        return Span::At(a, e);
+        return CheckedText::At(a, e);
     }
-    Span::No
+    CheckedText::No
 }
 
-pub fn printable_at(limit: u64, s: &[u8], at: usize) -> Span
+pub fn printable_at(limit: u64, s: &[u8], at: usize) -> CheckedText
     ensures { λ r. ⌜ Spans limit printable (now (s .entry)) at r ⌝ }
 {
     text_at(PRINTABLE, limit, s, at)
@@ -138,8 +138,8 @@ pub fn text(class: u64, limit: u64, s: &[u8], at: usize) -> Skip
     ensures { λ r. ⌜ Fine (text limit (classOf class)) (now (s .entry)) at r ⌝ }
 {
     match text_at(class, limit, s, at) {
-        Span::At(a, e) => Skip::At(e),
-        Span::No => Skip::Broken,
+        CheckedText::At(a, e) => Skip::At(e),
+        CheckedText::No => Skip::Broken,
     }
 }
 

@@ -1,8 +1,8 @@
 // The trips of a feed by checked reading: each key is one of its record, keys ascend, and the feed's count is right.
 use formats::Numeral;
 use formats::Skip;
+use formats_check::CheckedText;
 use formats_check::Entry;
-use formats_check::Span;
 ghost use mathlib.Core.Path.{_≡_};
 ghost use Prim.Native.Nat.{_≤_};
 ghost use lib.ListN.{length};
@@ -48,7 +48,7 @@ fn adds(marked: bool, feed: &[u8], s: &[u8], a: usize, e: usize) -> u64
 fn trip_entry(feed: &[u8], s: &[u8], at: usize) -> Entry
     ensures { λ r. ⌜ Entered 137 printable (entryGood (now (feed .entry))) (now (s .entry)) at r ⌝ }
 {
-    let Span::At(a, e) = formats_check::printable_at(137, s, at) else {
+    let CheckedText::At(a, e) = formats_check::printable_at(137, s, at) else {
         return Entry::No;
     };
     let Skip::At(q) = overlay_trip::trip(s, e) else {

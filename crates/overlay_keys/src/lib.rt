@@ -1,7 +1,7 @@
 // Whether a key is one of the trip record behind it. No key is built: its pieces are compared where they stand.
 use formats::Numeral;
 use formats::Skip;
-use formats_check::Span;
+use formats_check::CheckedText;
 use formats_check::at_most;
 use formats_check::number_at;
 use formats_check::printable_at;
@@ -161,13 +161,13 @@ fn incomplete(feed: &[u8], s: &[u8], a: usize, e: usize, b: usize, d: usize) -> 
     requires { ⌜ Inside (now s) b d ⌝ }
     ensures { λ r. ⌜ Incomplete (now (feed .entry)) (now (s .entry)) a e b d r ⌝ }
 {
-    let Span::At(x, y) = printable_at(64, s, d) else {
+    let CheckedText::At(x, y) = printable_at(64, s, d) else {
         return false;
     };
     let Skip::At(z) = optional_word(s, y) else {
         return false;
     };
-    let Span::At(u, v) = printable_at(16, s, z) else {
+    let CheckedText::At(u, v) = printable_at(16, s, z) else {
         return false;
     };
     matches(feed, s, a, e, b, d, x, y, u, v)
@@ -210,7 +210,7 @@ fn longer(feed: &[u8], s: &[u8], a: usize, e: usize) -> bool
     let Skip::At(q) = at_most(1, s, p) else {
         return false;
     };
-    let Span::At(b, d) = printable_at(16, s, q) else {
+    let CheckedText::At(b, d) = printable_at(16, s, q) else {
         return false;
     };
     if dated(s, a, e, b, d) {

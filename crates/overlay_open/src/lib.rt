@@ -2,8 +2,8 @@
 // which notes where feeds and trips stand, and one over the zeros behind it.
 use formats::Numeral;
 use formats::Skip;
+use formats_check::CheckedText;
 use formats_check::Entry;
-use formats_check::Span;
 use formats_check::number_at;
 use overlay_noted::note_parts;
 ghost use mathlib.Core.Path.{_≡_};
@@ -112,7 +112,7 @@ fn feed_entry(s: &[u8], at: usize, noted: &mut [u32], r: usize) -> Entry
     ensures { λ x. ⌜ Entered 16 token entryGood (now (s .entry)) at x ⌝ }
     ensures { λ x. ⌜ Unless x Entry.No (FeedPut (now (s .entry)) at r (now (noted .entry)) (now (noted .exit))) ⌝ }
 {
-    let Span::At(a, e) = formats_check::text_at(2, 16, s, at) else {
+    let CheckedText::At(a, e) = formats_check::text_at(2, 16, s, at) else {
         return Entry::No;
     };
     match feed(&s[a..e], s, e, noted, r, at) {

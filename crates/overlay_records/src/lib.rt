@@ -1,8 +1,8 @@
 // The vehicles and the alerts of a feed by checked reading.
 use formats::Numeral;
 use formats::Skip;
+use formats_check::CheckedText;
 use formats_check::Entry;
-use formats_check::Span;
 ghost use Prim.Native.Nat.{_≤_};
 ghost use lib.ListN.{length};
 ghost use Rattle.formats.specs.Class.{printable};
@@ -40,7 +40,7 @@ fn vehicle(s: &[u8], at: usize) -> Skip
 fn vehicle_entry(s: &[u8], at: usize) -> Entry
     ensures { λ r. ⌜ Entered 64 printable vehicleGood (now (s .entry)) at r ⌝ }
 {
-    let Span::At(a, e) = formats_check::printable_at(64, s, at) else {
+    let CheckedText::At(a, e) = formats_check::printable_at(64, s, at) else {
         return Entry::No;
     };
     match vehicle(s, e) {

@@ -16,8 +16,8 @@ use realtime_views::Delay;
 use realtime_views::Direction;
 use realtime_views::Event;
 use realtime_views::Item;
-use realtime_views::Span;
 use realtime_views::StopUpdate;
+use realtime_views::TextPart;
 use realtime_views::Time;
 use realtime_views::Timestamp;
 use realtime_views::Trip;
@@ -85,7 +85,7 @@ fn write_time(t: Time) {
     }
 }
 
-fn write_span(s: &[u8], p: Span)
+fn write_span(s: &[u8], p: TextPart)
     requires { ⌜ p .start + p .len ≤ length (now s) ⌝ }
 {
     let start = p.start;

@@ -28,7 +28,7 @@ use Rattle.realtime_views.specs.promises.Numbers.{fromStop}
 use Rattle.realtime_views.specs.promises.Walks.{SoundWalk, NextUpdate}
 use Rattle.realtime_views.specs.declared.Walk.{Walk}
 use Rattle.realtime_views.specs.declared.Item.{Item}
-use Rattle.realtime_views.specs.declared.Span.{Span}
+use Rattle.realtime_views.specs.declared.TextPart.{TextPart}
 use Rattle.realtime_views.specs.declared.EventNumbers.{EventNumbers}
 use Rattle.realtime_views.specs.declared.StopUpdate.{StopUpdate}
 use Rattle.realtime_views.proofs.Reader.{Reading, says}
@@ -134,7 +134,7 @@ module _ {s : List ℕ} {from at n : ℕ} (R : Sequences s from at n) (h : at < 
     text-begins e = omega (arith, behind .ends, behind .inside, ap length e, length-take (c .at) s)
 
 -- the loop over a stop_time_update
-module _ {s : List ℕ} {from at q : ℕ} {p : Span} {k : ℕ} {a d : EventNumbers} (R : Stops s from at q p k a d) where
+module _ {s : List ℕ} {from at q : ℕ} {p : TextPart} {k : ℕ} {a d : EventNumbers} (R : Stops s from at q p k a d) where
   pub short-end : {r : StopUpdate} → length s ≤ at → r ≡ fromStop q p k a d → StopReads s from r
   short-end h e = stops-end R (at-end refl h) e
 

@@ -17,7 +17,7 @@ use Rattle.realtime_views.specs.promises.Last.{Single, taking}
 use Rattle.realtime_views.specs.promises.Numbers.{plain, spans, sequence, stop, relationship, delay, time}
 use Rattle.realtime_views.specs.promises.Numbers.{valueOf, noNumber, noNumbers, noSpan, fromStop, EventReads}
 use Rattle.realtime_views.specs.promises.Numbers.{EventsRead, StopReads}
-use Rattle.realtime_views.specs.declared.Span.{Span}
+use Rattle.realtime_views.specs.declared.TextPart.{TextPart}
 use Rattle.realtime_views.specs.declared.Number.{Number}
 use Rattle.realtime_views.specs.declared.EventNumbers.{EventNumbers}
 use Rattle.realtime_views.specs.declared.StopUpdate.{StopUpdate}
@@ -179,7 +179,7 @@ pub begins-inside : (s : List ℕ) {x : List ℕ} {at i l n : ℕ} → x ≡ tak
 begins-inside s {x} {at} {i} {l} {n} e F = omega (arith, F, ap length e, length-take n s)
 
 -- the loop over a stop_time_update
-pub record Stops (s : List ℕ) (from at q : ℕ) (p : Span) (k : ℕ) (a d : EventNumbers) : Type 0 where
+pub record Stops (s : List ℕ) (from at q : ℕ) (p : TextPart) (k : ℕ) (a d : EventNumbers) : Type 0 where
   pub sequence : Reading (plain (λ n. n)) (taking sequence) feed stopTimeUpdate s from 0 at q
   pub stop : Reading spans (taking stop) feed stopTimeUpdate s from noSpan at p
   pub relationship : Reading (plain (λ n. n)) (taking relationship) feed stopTimeUpdate s from 0 at k
@@ -196,7 +196,7 @@ stops-start h g g′ = record {
   departure = within-starts 3 h g′;
 }
 
-module _ {s : List ℕ} {from at q : ℕ} {p : Span} {k : ℕ} {a d : EventNumbers} (R : Stops s from at q p k a d) where
+module _ {s : List ℕ} {from at q : ℕ} {p : TextPart} {k : ℕ} {a d : EventNumbers} (R : Stops s from at q p k a d) where
   pub stops-end : {r : StopUpdate} → Stepped feed stopTimeUpdate s at Step.End → r ≡ fromStop q p k a d
       → StopReads s from r
   stops-end S e = record {
@@ -256,7 +256,7 @@ module _ {s : List ℕ} {from at q : ℕ} {p : Span} {k : ℕ} {a d : EventNumbe
         numbered (other-number sequence (R .sequence) S h) (other-number relationship (R .relationship) S h′)
 
   module _ {f i l n : ℕ} (S : Stepped feed stopTimeUpdate s at (Step.Text f i l n)) where
-    texted : {p′ : Span} → Reading spans (taking stop) feed stopTimeUpdate s from noSpan n p′
+    texted : {p′ : TextPart} → Reading spans (taking stop) feed stopTimeUpdate s from noSpan n p′
         → Stops s from n q p′ k a d
     texted P = record {
       sequence = other-text sequence (R .sequence) S (sequence-number f (S .typed));

@@ -26,12 +26,12 @@ use Rattle.basics.specs.Options.{someAnd}
 use Rattle.realtime_views.specs.promises.Narrow.{toSpan, toTimestamp, toDirection, toDelay, isValue, toHeader}
 use Rattle.realtime_views.specs.promises.Narrow.{toTrip}
 use Rattle.realtime.specs.Views.{event}
-use Rattle.realtime_views.specs.promises.Views.{spanIn, viewTimestamp, viewDirection, viewDelay, viewTime}
-use Rattle.realtime_views.specs.promises.Views.{viewEvent, SpanInside, HeaderRead, DeletedRead, TripRead}
+use Rattle.realtime_views.specs.promises.Views.{partIn, viewTimestamp, viewDirection, viewDelay, viewTime}
+use Rattle.realtime_views.specs.promises.Views.{viewEvent, PartInside, HeaderRead, DeletedRead, TripRead}
 use Rattle.realtime_views.specs.promises.Views.{StopRead, SequenceRead}
 use Rattle.realtime_views.specs.declared.Scalar.{Scalar}
 use Rattle.realtime_views.specs.declared.Scalars.{Scalars}
-use Rattle.realtime_views.specs.declared.Span.{Span}
+use Rattle.realtime_views.specs.declared.TextPart.{TextPart}
 use Rattle.realtime_views.specs.declared.Number.{Number}
 use Rattle.realtime_views.specs.declared.EventNumbers.{EventNumbers}
 use Rattle.realtime_views.specs.declared.Delay.{Delay}
@@ -42,7 +42,7 @@ use Rattle.realtime_views.specs.declared.StopUpdate.{StopUpdate}
 
 -- of one scalar
 module _ (s : List ℕ) where
-  span-says : (x : Scalar) → spanIn s (toSpan x) ≡ textIn (said s x)
+  span-says : (x : Scalar) → partIn s (toSpan x) ≡ textIn (said s x)
   span-says (Scalar.Number n) = refl
   span-says (Scalar.Text i l) = refl
   span-says Scalar.Nothing = refl
@@ -67,7 +67,7 @@ module _ (s : List ℕ) where
   value-says v (Scalar.Text i l) = refl
   value-says v Scalar.Nothing = refl
 
-span-inside : (n : ℕ) (x : Scalar) → Lying n x → SpanInside n (toSpan x)
+span-inside : (n : ℕ) (x : Scalar) → Lying n x → PartInside n (toSpan x)
 span-inside n (Scalar.Number k) h = omega arith
 span-inside n (Scalar.Text i l) h = h
 span-inside n Scalar.Nothing h = omega arith
@@ -156,8 +156,8 @@ zero-of t k s i l h e m q Q = made-of s i l h e Q m q ∙ taking-last (orZeroAt 
 
 module _ (s : List ℕ) {x : List ℕ} (i l : ℕ) (h : i + l ≤ length s) (e : x ≡ take (i + l) s) (m : Tree)
     (q : tree feed stopTimeUpdate (take l (drop i s)) ≡ some m) where
-  text-of : (k : ℕ) {r : Span} → Reads spans (taking (singleText k)) feed stopTimeUpdate x i noSpan r
-      → spanIn s r ≡ textIn (last k m)
+  text-of : (k : ℕ) {r : TextPart} → Reads spans (taking (singleText k)) feed stopTimeUpdate x i noSpan r
+      → partIn s r ≡ textIn (last k m)
   text-of k Q = made-of s i l h e Q m q ∙ taking-last (singleText k) [] m ∙ leaf-text k (last k m)
 
   given-of : (j k : ℕ) {r : Number}

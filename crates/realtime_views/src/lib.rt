@@ -236,7 +236,7 @@ fn over_updates(s: &[u8], from: usize) -> TripScalars
 }
 
 // Where a text stands. An absent text is empty.
-pub struct Span {
+pub struct TextPart {
     pub start: usize,
     pub len: usize,
 }
@@ -269,10 +269,10 @@ pub struct Header {
 }
 
 pub struct Trip {
-    pub id: Span,
-    pub time: Span,
-    pub date: Span,
-    pub route: Span,
+    pub id: TextPart,
+    pub time: TextPart,
+    pub date: TextPart,
+    pub route: TextPart,
     pub cancelled: bool,
     pub direction: Direction,
     pub delay: Delay,
@@ -285,7 +285,7 @@ pub struct Event {
 
 pub struct StopUpdate {
     pub sequence: u32,
-    pub stop: Span,
+    pub stop: TextPart,
     pub arrival: Event,
     pub departure: Event,
     pub skipped: bool,
@@ -316,13 +316,13 @@ fn int64(n: u64) -> i64
     -1 - ((18446744073709551615 - n) as i64)
 }
 
-fn span_of(x: Scalar) -> Span
+fn span_of(x: Scalar) -> TextPart
     ensures { λ r. ⌜ r ≡ toSpan x ⌝ }
 {
     match x {
-        Scalar::Text { start, len } => Span { start, len },
-        Scalar::Number(_) => Span { start: 0, len: 0 },
-        Scalar::Nothing => Span { start: 0, len: 0 },
+        Scalar::Text { start, len } => TextPart { start, len },
+        Scalar::Number(_) => TextPart { start: 0, len: 0 },
+        Scalar::Nothing => TextPart { start: 0, len: 0 },
     }
 }
 
@@ -481,7 +481,7 @@ fn event_from(e: EventNumbers) -> Event
 
 fn stop_from(
     sequence: u64,
-    stop: Span,
+    stop: TextPart,
     relationship: u64,
     arrival: EventNumbers,
     departure: EventNumbers,
@@ -504,7 +504,7 @@ fn any_stop(s: &[u8], from: usize) -> StopUpdate
 {
     let mut at = from;
     let mut sequence: u64 = 0;
-    let mut stop = Span { start: 0, len: 0 };
+    let mut stop = TextPart { start: 0, len: 0 };
     let mut relationship: u64 = 0;
     let mut arrival = no_numbers();
     let mut departure = no_numbers();
@@ -522,7 +522,7 @@ fn any_stop(s: &[u8], from: usize) -> StopUpdate
             }
             Step::Text(field, start, len, after) => {
                 if field == stop_time_update::STOP_ID {
-                    stop = Span { start, len };
+                    stop = TextPart { start, len };
                 }
                 at = after;
             }
@@ -546,7 +546,7 @@ fn over_stop(s: &[u8], from: usize) -> StopUpdate
 {
     let mut at = from;
     let mut sequence: u64 = 0;
-    let mut stop = Span { start: 0, len: 0 };
+    let mut stop = TextPart { start: 0, len: 0 };
     let mut relationship: u64 = 0;
     let mut arrival = no_numbers();
     let mut departure = no_numbers();
@@ -575,7 +575,7 @@ fn over_stop(s: &[u8], from: usize) -> StopUpdate
             } else if b == DEPARTURE_KEY {
                 departure = over_event(wire::part(s, 0, end), start, departure);
             } else if b == STOP_KEY {
-                stop = Span { start, len };
+                stop = TextPart { start, len };
             } else {
                 return any_stop(s, from);
             }

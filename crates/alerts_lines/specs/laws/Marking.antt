@@ -17,7 +17,7 @@ use Rattle.basics.specs.laws.Booleans.{and-true, or-assoc, or-false, or-comm, a
 use Rattle.basics.specs.laws.Lists.{any-none, any-or, any-same}
 use Rattle.alerts.specs.Text.{begins, contains}
 use Rattle.alerts_patterns.specs.promises.Tables.{upTo, patterns, anyAt}
-use Rattle.alerts_patterns.specs.promises.Found.{SkipsName}
+use Rattle.alerts_patterns.specs.promises.Occurrence.{SkipsName}
 use Rattle.alerts_patterns.specs.laws.Searching.{parts, room}
 use Rattle.alerts_patterns.specs.laws.Patterns.{tail-whole, Piece, piece-at, piece-then, piece-last}
 use Rattle.alerts_lines.specs.promises.Lines.{widthOf, lineAt, shortOf, longOf, standsAt, rowAt, row, familyOf}

@@ -1,6 +1,6 @@
 -- `alerts_patterns::pair_far` meets its contract. The invariant: nothing stands before k.
 use Prim.Native.Nat.{_-_}
-use Rattle.alerts_patterns.specs.promises.Found.{SeeksTo}
+use Rattle.alerts_patterns.specs.promises.Occurrence.{SeeksTo}
 use Rattle.alerts_patterns.specs.laws.Skipping.{to-start, far-then, far-more, far-alike}
 use borrow.Author.Needs.{needs}
 use Rattle.alerts_patterns.proofs.pair_far.Statement.{statement}

@@ -11,8 +11,8 @@ use lib.Seq.{drop-cons, drop-drop, take-length}
 use borrow.Author.Tests.{eq-eqb, ne-eqb}
 use Rattle.basics.specs.Lists.{any}
 use Rattle.alerts.specs.Text.{find, onto}
-use Rattle.alerts_patterns.specs.declared.Found.{Found}
-use Rattle.alerts_patterns.specs.promises.Found.{foundOf}
+use Rattle.alerts_patterns.specs.declared.Occurrence.{Occurrence}
+use Rattle.alerts_patterns.specs.promises.Occurrence.{foundOf}
 use Rattle.alerts_patterns.specs.promises.Tables.{upTo, nameFilled, pieces}
 use Rattle.basics.specs.laws.Booleans.{or-false}
 
@@ -64,13 +64,13 @@ filled-here name (b ∷ p) h = go (eqb b 0x23) h (filled-here name p)
 pub tail-whole : (i : ℕ) (s : List ℕ) → take (length s - i) (drop i s) ≡ drop i s
 tail-whole i s = ap (λ n. take n (drop i s)) (sym (length-drop i s)) ∙ take-length (drop i s)
 
-pub unfilled : (s name p : List ℕ) (h : ℕ) (r : Found) → h ≡ 0 + upTo 0x23 (drop 0 p) → length p ≤ h
+pub unfilled : (s name p : List ℕ) (h : ℕ) (r : Occurrence) → h ≡ 0 + upTo 0x23 (drop 0 p) → length p ≤ h
     → r ≡ foundOf (find (p ++ [] ++ []) s) → r ≡ foundOf (find (nameFilled name p) s)
 unfilled s name p h r e g x =
     x ∙ ap (λ l. foundOf (find l s))
     (append-nil (p ++ []) ∙ append-nil p ∙ sym (filled-none name p (omega (arith, e, g))))
 
-pub fills : (s name p : List ℕ) (h : ℕ) (r : Found) → h ≡ 0 + upTo 0x23 (drop 0 p) → h < length p
+pub fills : (s name p : List ℕ) (h : ℕ) (r : Occurrence) → h ≡ 0 + upTo 0x23 (drop 0 p) → h < length p
     → r ≡ foundOf (find (take h p ++ name ++ take (length p - (h + 1)) (drop (h + 1) p)) s)
     → r ≡ foundOf (find (nameFilled name p) s)
 fills s name p h r e g x =

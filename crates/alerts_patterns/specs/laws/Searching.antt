@@ -12,9 +12,9 @@ use lib.ListN.{length, getD, drop, drop-of-length-le, length-append, length-drop
 use lib.Seq.{drop-cons, drop-drop}
 use borrow.Author.Tests.{eq-eqb, ne-eqb, not-true, not-false}
 use Rattle.alerts.specs.Text.{begins, ends, contains, later, find}
-use Rattle.alerts_patterns.specs.promises.Found.{foundOf}
-use Rattle.alerts_patterns.specs.declared.Found.{Found}
-use Rattle.alerts_patterns.specs.declared.Found.the-variants.{At, Nowhere}
+use Rattle.alerts_patterns.specs.promises.Occurrence.{foundOf}
+use Rattle.alerts_patterns.specs.declared.Occurrence.{Occurrence}
+use Rattle.alerts_patterns.specs.declared.Occurrence.the-variants.{At, Nowhere}
 use Rattle.basics.specs.Texts.{same}
 use Rattle.basics.specs.laws.Texts.{same-true}
 use Rattle.basics.specs.laws.Booleans.{false-true, or-false}
@@ -166,10 +166,10 @@ found-nowhere : (f : Option ℕ) → foundOf f ≡ Nowhere → somewhere f ≡ f
 found-nowhere none e = refl
 found-nowhere (some k) e = absurd (let z : _≡_ {A = ℕ} 0 1 = cc in omega arith)
 
-pub found-contained : (p s : List ℕ) (i : ℕ) (o : Found) → o ≡ foundOf (find p s) → o ≡ At i → true ≡ contains p s
+pub found-contained : (p s : List ℕ) (i : ℕ) (o : Occurrence) → o ≡ foundOf (find p s) → o ≡ At i → true ≡ contains p s
 found-contained p s i o e h = sym (contains-find p s ∙ found-somewhere (find p s) i (sym e ∙ h))
 
-pub nowhere-contained : (p s : List ℕ) (o : Found) → o ≡ foundOf (find p s) → o ≡ Nowhere → false ≡ contains p s
+pub nowhere-contained : (p s : List ℕ) (o : Occurrence) → o ≡ foundOf (find p s) → o ≡ Nowhere → false ≡ contains p s
 nowhere-contained p s o e h = sym (contains-find p s ∙ found-nowhere (find p s) (sym e ∙ h))
 
 -- an end in the text, from where it begins

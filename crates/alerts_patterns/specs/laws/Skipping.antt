@@ -12,8 +12,8 @@ use borrow.Author.Tests.{eq-eqb, ne-eqb, eqb-true, eqb-false, leb-true, leb-fals
 use Rattle.basics.specs.laws.Booleans.{and-true, or-assoc, or-false, false-true}
 use Rattle.alerts.specs.Text.{begins}
 use Rattle.alerts.specs.laws.Text.{begins-true}
-use Rattle.alerts_patterns.specs.promises.Found.{Skips, SkipsName, Seeks, SeeksTo, between}
-use Rattle.alerts_patterns.specs.promises.Found.{anyPair}
+use Rattle.alerts_patterns.specs.promises.Occurrence.{Skips, SkipsName, Seeks, SeeksTo, between}
+use Rattle.alerts_patterns.specs.promises.Occurrence.{anyPair}
 use Rattle.alerts_patterns.specs.laws.Searching.{Unfound, unfound-start, unfound-more, begins-joined}
 
 -- bytes told apart without a branch

@@ -3,16 +3,16 @@ use Prim.Native.Nat.{ℕ, _*_, _≤_}
 use mathlib.Core.Path.{_≡_}
 use mathlib.Core.List.{List}
 use lib.ListN.{length, take, drop}
-use Rattle.realtime_views.specs.promises.Views.{SpanInside}
+use Rattle.realtime_views.specs.promises.Views.{PartInside}
 use Rattle.decode.specs.Sizes.{mostTrips, keyBytes, mostId, mostDate, mostTime, keysLength}
 use Rattle.realtime_views.specs.declared.Trip.{Trip}
 
 -- the texts of an entity lie in the bytes, and are as long as question 5 lets them be
 pub record Short (s : List ℕ) (t : Trip) : Type 0 where
-  pub id : SpanInside (length s) (t .id) × (t .id .len ≤ mostId)
-  pub date : SpanInside (length s) (t .date) × (t .date .len ≤ mostDate)
-  pub time : SpanInside (length s) (t .time) × (t .time .len ≤ mostTime)
-  pub route : SpanInside (length s) (t .route) × (t .route .len ≤ mostId)
+  pub id : PartInside (length s) (t .id) × (t .id .len ≤ mostId)
+  pub date : PartInside (length s) (t .date) × (t .date .len ≤ mostDate)
+  pub time : PartInside (length s) (t .time) × (t .time .len ≤ mostTime)
+  pub route : PartInside (length s) (t .route) × (t .route .len ≤ mostId)
 
 -- slot n is there
 pub record Room (keys : List ℕ) (n : ℕ) : Type 0 where

@@ -6,7 +6,7 @@ use mathlib.Core.Option.{some}
 use lib.ListN.{length, take, drop}
 use Rattle.decode.specs.Sizes.{mostTrips, mostId, mostDate, mostTime}
 use Rattle.realtime.specs.Views.{trip}
-use Rattle.realtime_views.specs.promises.Views.{spanIn, viewDirection}
+use Rattle.realtime_views.specs.promises.Views.{partIn, viewDirection}
 use Rattle.realtime.specs.Tree.{Tree, tree}
 use Rattle.realtime.specs.Schema.{feedEntity}
 use Rattle.realtime.specs.Schema as schema
@@ -33,14 +33,14 @@ placedAt p (e ∷ l) = (e .0, p) ∷ placedAt p l
 
 -- record u has what the keys of an entity are made of
 pub record Agrees (s : List ℕ) (t : Trip) (u : held.Trip) : Type 0 where
-  pub route : spanIn s (t .route) ≡ held.routeOf u
+  pub route : partIn s (t .route) ≡ held.routeOf u
   pub direction : maybe (viewDirection (t .direction)) ≡ held.directionOf u
-  pub date : spanIn s (t .date) ≡ held.dateOf u
-  pub time : spanIn s (t .time) ≡ held.timeOf u
+  pub date : partIn s (t .date) ≡ held.dateOf u
+  pub time : partIn s (t .time) ≡ held.timeOf u
 
 -- the index after an entity's entries, with their place
 abbrev pub enteredIndex : List ℕ → List ℕ → Trip → held.Trip → Place → List (List ℕ × Place) → List (List ℕ × Place)
-enteredIndex feed s t u p m = puts texts (placedAt p (inserts feed (spanIn s (t .id)) u)) m
+enteredIndex feed s t u p m = puts texts (placedAt p (inserts feed (partIn s (t .id)) u)) m
 
 -- all keys of an entity have gone into the index with its place; above 2,048 are too many, whatever follows
 pub record Entered (feed s : List ℕ) (t : Trip) (from to : ℕ) (keys marks order : List ℕ) (n : ℕ)

@@ -19,13 +19,13 @@ use Rattle.formats_write.specs.laws.Adds.{then, same}
 use Rattle.formats_write.specs.laws.Slices.{slice-is}
 use Rattle.formats_write.specs.promises.Adds.{Adds}
 use Rattle.formats_write.specs.promises.Given.{optionalW, textW}
-use Rattle.realtime_views.specs.declared.Span.{Span}
+use Rattle.realtime_views.specs.declared.TextPart.{TextPart}
 use Rattle.formats_read.specs.laws.Progress.{one-more}
 use Rattle.realtime.specs.Views.{StopView, TripView}
 use Rattle.realtime.specs.Schema.{stopTimeUpdate}
 use Rattle.realtime.specs.Schema as schema
 use Rattle.realtime_views.specs.declared.StopUpdate as read
-use Rattle.realtime_views.specs.promises.Views.{SpanInside, spanIn, StopRead, viewStop}
+use Rattle.realtime_views.specs.promises.Views.{PartInside, partIn, StopRead, viewStop}
 use Rattle.decode.specs.Record.{bit, updateIn}
 use Rattle.decode_slots.specs.Index.{Place}
 use Rattle.decode_slots.specs.Places.{orEnd, updateAt}
@@ -36,14 +36,14 @@ use Rattle.decode_updates.specs.Line.{laid}
 use Rattle.decode_updates.specs.Updates.{updatesAt}
 
 -- a text of s
-pub text-adds : {l m n : List ℕ} {r q k : Put} (s : List ℕ) (t : Span) → SpanInside (length s) t
+pub text-adds : {l m n : List ℕ} {r q k : Put} (s : List ℕ) (t : TextPart) → PartInside (length s) t
     → Adds l r m q (numberW (t .len))
     → (t .start ≤ t .start + t .len → t .start + t .len ≤ length s
     → Adds m q n k (slice (t .start) (t .start + t .len) s))
-    → Adds l r n k (textW (spanIn s t))
+    → Adds l r n k (textW (partIn s t))
 text-adds s t h a b =
     let d : t .start + t .len - t .start ≡ t .len = omega arith in
-    let e : t .len ≡ length (spanIn s t) =
+    let e : t .len ≡ length (partIn s t) =
     sym (length-take-le (t .len) (drop (t .start) s) (omega (arith, length-drop (t .start) s))) in
     then (same a (ap numberW e))
     (same (b (omega arith) h)

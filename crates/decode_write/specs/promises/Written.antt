@@ -7,7 +7,7 @@ use Rattle.formats.specs.Number.{numberW, zig}
 use Rattle.formats_write.specs.promises.Given.{optionalW, textW}
 use Rattle.realtime.specs.Views.{EventView, StopView, TripView}
 use Rattle.realtime_views.specs.declared.Trip.{Trip}
-use Rattle.realtime_views.specs.promises.Views.{SpanInside}
+use Rattle.realtime_views.specs.promises.Views.{PartInside}
 use Rattle.decode.specs.Record.{bit}
 use Rattle.decode.specs.Trip.{StopUpdate, updateWith}
 
@@ -32,6 +32,6 @@ headW t =
 
 -- the texts of it lie in the first n bytes
 pub record TextsLie (n : ℕ) (t : Trip) : Type 0 where
-  pub date : SpanInside n (t .date)
-  pub route : SpanInside n (t .route)
-  pub time : SpanInside n (t .time)
+  pub date : PartInside n (t .date)
+  pub route : PartInside n (t .route)
+  pub time : PartInside n (t .time)

@@ -25,8 +25,8 @@ use Rattle.slices.specs.declared.Order.{Order}
 use Rattle.slices.specs.declared.Order.the-variants.{Less, Same, More}
 use Rattle.maps.specs.Map.{isLess, above, ascending}
 use Rattle.maps.specs.Order.{texts}
-use Rattle.formats_check.specs.declared.Span.{Span}
-use Rattle.formats_check.specs.declared.Span.the-variants.{At, No}
+use Rattle.formats_check.specs.declared.CheckedText.{CheckedText}
+use Rattle.formats_check.specs.declared.CheckedText.the-variants.{At, No}
 use Rattle.formats_check.specs.declared.Entry.{Entry}
 use Rattle.formats_check.specs.declared.Entry.the-variants as entry
 use Rattle.formats_check.specs.promises.Checked.{Number, fine, Fine, Walk, runs, Walked, Ahead, Test}
@@ -44,11 +44,11 @@ pub record Keyed (l : ℕ) (c : Class) (s : List ℕ) (at a e : ℕ) : Type 0 wh
   pub bytes : (v : List ℕ) → read (text l c) (drop at s) ≡ some (v, drop e s) → v ≡ take (e - a) (drop a s)
   pub forward : a ≤ e
 
-abbrev pub Spanned : (l : ℕ) (c : Class) (s : List ℕ) (at : ℕ) → Span → Type 0
+abbrev pub Spanned : (l : ℕ) (c : Class) (s : List ℕ) (at : ℕ) → CheckedText → Type 0
 Spanned l c s at (At a e) = Keyed l c s at a e
 Spanned l c s at No = Fine (text l c) s at skip.Broken
 
-pub record Spans (l : ℕ) (c : Class) (s : List ℕ) (at : ℕ) (r : Span) : Type 0 where
+pub record Spans (l : ℕ) (c : Class) (s : List ℕ) (at : ℕ) (r : CheckedText) : Type 0 where
   pub tells : Spanned l c s at r
 
 pub span-no : {l : ℕ} {c : Class} {s : List ℕ} {at : ℕ} → Fine (text l c) s at skip.Broken → Spans l c s at No
@@ -72,23 +72,23 @@ span-so {l} {s} {at} e {n} {p} h k m =
     taken {v} q = found (λ a b. v ≡ a) q refl
 
 module _ {l : ℕ} {c : Class} {s : List ℕ} {at : ℕ} where
-  pub span-key : {r : Span} → Spans l c s at r → {a e : ℕ} → r ≡ At a e → Keyed l c s at a e
+  pub span-key : {r : CheckedText} → Spans l c s at r → {a e : ℕ} → r ≡ At a e → Keyed l c s at a e
   span-key S h = rw h at (S .tells)
 
-  pub span-none : {r : Span} → Spans l c s at r → r ≡ No → Fine (text l c) s at skip.Broken
+  pub span-none : {r : CheckedText} → Spans l c s at r → r ≡ No → Fine (text l c) s at skip.Broken
   span-none S h = rw h at (S .tells)
 
-  pub span-is : {r : Span} → Spans l c s at r → {a e : ℕ} → r ≡ At a e → Fine (text l c) s at (skip.At e)
+  pub span-is : {r : CheckedText} → Spans l c s at r → {a e : ℕ} → r ≡ At a e → Fine (text l c) s at (skip.At e)
   span-is S h = span-key S h .is
 
-  pub span-forward : {r : Span} → Spans l c s at r → {a e : ℕ} → r ≡ At a e → a ≤ e
+  pub span-forward : {r : CheckedText} → Spans l c s at r → {a e : ℕ} → r ≡ At a e → a ≤ e
   span-forward S h = span-key S h .forward
 
-  pub span-within : {r : Span} → Spans l c s at r → {a e : ℕ} → r ≡ At a e → e ≤ length s
+  pub span-within : {r : CheckedText} → Spans l c s at r → {a e : ℕ} → r ≡ At a e → e ≤ length s
   span-within S h = good (span-key S h .is) refl .within
 
 -- A CLASS: what is found of a text of any bytes, and whether they are of the class
-module _ {l : ℕ} (c : Class) {s : List ℕ} {at : ℕ} {r : Span} (S : Spans l any s at r) where
+module _ {l : ℕ} (c : Class) {s : List ℕ} {at : ℕ} {r : CheckedText} (S : Spans l any s at r) where
   pub class-none : r ≡ No → Spans l c s at No
   class-none h = record { tells = record { says = go (missed (span-none S h) refl) } }
     where
@@ -161,7 +161,8 @@ module _ {l : ℕ} {c : Class} {g : Format} {t : Test (text l c & g)} {s : List 
   pub enter-bad : {x : Skip} → Tested (text l c & g) t s at x → x ≡ skip.Broken → Entered l c t s at entry.No
   enter-bad T h = record { tells = rw h at T }
 
-  pub enter-so : {r : Span} → Spans l c s at r → {a e : ℕ} → r ≡ At a e → {x : Skip} → Tested (text l c & g) t s at x
+  pub enter-so : {r : CheckedText} → Spans l c s at r → {a e : ℕ} → r ≡ At a e → {x : Skip}
+      → Tested (text l c & g) t s at x
       → {q : ℕ} → x ≡ skip.At q → Entered l c t s at (entry.At a e q)
   enter-so S h T i = record { tells = (span-key S h, rw i at T) }
 
@@ -190,7 +191,7 @@ module _ {l : ℕ} {c : Class} {g : Format} {t : Test (text l c & g)} {s : List 
     entered-past = good (entered-tested .is) refl .within
 
 -- a key and what is behind it, whose test may be by the key
-module _ {l : ℕ} {c : Class} {s : List ℕ} {at : ℕ} {r : Span} (S : Spans l c s at r) where
+module _ {l : ℕ} {c : Class} {s : List ℕ} {at : ℕ} {r : CheckedText} (S : Spans l c s at r) where
   pub entry-no : {g : Format} (t : Test g) → r ≡ No → Tested (text l c & g) (behind (text l c) t) s at skip.Broken
   entry-no t h = behind-no (span-none S h) t refl
 

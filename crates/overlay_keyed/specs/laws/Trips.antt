@@ -14,8 +14,8 @@ use Rattle.formats.specs.Class.{Class, printable, inClass}
 use Rattle.formats.specs.Format.{Format, text, _&_, Value, read}
 use Rattle.formats.specs.declared.Skip.{Skip}
 use Rattle.formats.specs.declared.Skip.the-variants as skip
-use Rattle.formats_check.specs.declared.Span.{Span}
-use Rattle.formats_check.specs.declared.Span.the-variants.{At, No}
+use Rattle.formats_check.specs.declared.CheckedText.{CheckedText}
+use Rattle.formats_check.specs.declared.CheckedText.the-variants.{At, No}
 use Rattle.formats_check.specs.declared.Entry.{Entry}
 use Rattle.formats_check.specs.declared.Entry.the-variants as entry
 use Rattle.formats_check.specs.promises.Checked.{fine, Test, behind, holds, Tested}
@@ -43,7 +43,7 @@ keyed-fine v h =
     rw (p .0, q .0) refl
 
 -- AN ENTRY
-module _ {s : List ℕ} {at : ℕ} {r : Span} (S : Spans 137 printable s at r) where
+module _ {s : List ℕ} {at : ℕ} {r : CheckedText} (S : Spans 137 printable s at r) where
   pub trip-key : (f : List ℕ) → r ≡ No → Entered 137 printable (entryGood f) s at entry.No
   trip-key f h = enter-no (more-no (entry-no S tripGood h) (λ e. keyOk f (e .0) (e .1)) refl)
 

@@ -23,8 +23,8 @@ use Rattle.formats.specs.declared.Numeral.the-variants.{Got, Bad}
 use Rattle.formats.specs.declared.Skip.{Skip}
 use Rattle.formats.specs.declared.Skip.the-variants.{At, Broken}
 use Rattle.formats.proofs.Numbers.{opened}
-use Rattle.formats_check.specs.declared.Span.{Span}
-use Rattle.formats_check.specs.declared.Span.the-variants as span
+use Rattle.formats_check.specs.declared.CheckedText.{CheckedText}
+use Rattle.formats_check.specs.declared.CheckedText.the-variants as span
 use Rattle.formats_check.specs.promises.Checked.{Number, fine, Fine}
 use Rattle.formats_check.specs.laws.Checked.{Out, Parts, parts, no-parts}
 use Rattle.formats_check.specs.laws.Elements.{no-number, a-number}
@@ -188,7 +188,8 @@ pub head-inside : {f s : List ℕ} {x y at e : ℕ} {r : Skip} → Head f s x y 
 head-inside H h I = moves-inside (H .moves) h I
 
 -- where a text stands is inside
-pub span-inside : {l : ℕ} {c : Class} {s : List ℕ} {at : ℕ} {r : Span} → Spans l c s at r → {a e : ℕ} → r ≡ span.At a e
+pub span-inside : {l : ℕ} {c : Class} {s : List ℕ} {at : ℕ} {r : CheckedText} → Spans l c s at r → {a e : ℕ}
+    → r ≡ span.At a e
     → Inside s a e
 span-inside S h = record { forward = span-forward S h; within = span-within S h }
 
@@ -212,7 +213,7 @@ module _ {f s : List ℕ} {a e b d x y u v : ℕ} {q : Skip} (H : Head f s x y a
 abbrev timeOn : Format
 timeOn = time & list 128 (number32 & stopUpdate)
 
-module _ {s : List ℕ} {d : ℕ} {r : Span} (R : Spans 64 printable s d r) where
+module _ {s : List ℕ} {d : ℕ} {r : CheckedText} (R : Spans 64 printable s d r) where
   pub incomplete-route : {f : List ℕ} {a e b : ℕ} → r ≡ span.No → Incomplete f s a e b d false
   incomplete-route h =
       record { on = λ v u q g. absurd (no-parts (optional number32 & timeOn) (span-none R h) q refl g) }
@@ -231,7 +232,7 @@ module _ {s : List ℕ} {d : ℕ} {r : Span} (R : Spans 64 printable s d r) wher
                 (optional number32 & timeOn) (v .1)) g));
           }
 
-      module _ {z : ℕ} (i : o ≡ At z) {p : Span} (T : Spans 16 printable s z p) where
+      module _ {z : ℕ} (i : o ≡ At z) {p : CheckedText} (T : Spans 16 printable s z p) where
         timed : {v : Value routeOn} {u : List ℕ} → read routeOn (drop d s) ≡ some (v, u)
             → Parts (optional number32) timeOn s y z (v .1) u
         timed q = parts timeOn W (routed q .rest) i
@@ -413,7 +414,7 @@ module _ {s : List ℕ} {e : ℕ} {r : Skip} (A : Fine (optional delay) s e r) w
               (v .1)) g));
         }
 
-    module _ {q : ℕ} (i : o ≡ At q) {w : Span} (D : Spans 16 printable s q w) where
+    module _ {q : ℕ} (i : o ≡ At q) {w : CheckedText} (D : Spans 16 printable s q w) where
       behind-flag : {v : Trip} {u : List ℕ} → read trip (drop e s) ≡ some (v, u)
           → read (date & routeOn) (drop q s) ≡ some (v .1 .1, u)
       behind-flag x = parts (date & routeOn) B (behind-delay x) i .rest

@@ -16,8 +16,8 @@ use Rattle.formats.specs.declared.Numeral.{Numeral}
 use Rattle.formats.specs.declared.Numeral.the-variants.{Got, Bad}
 use Rattle.formats.specs.declared.Skip.{Skip}
 use Rattle.formats.specs.declared.Skip.the-variants as skip
-use Rattle.formats_check.specs.declared.Span.{Span}
-use Rattle.formats_check.specs.declared.Span.the-variants.{At, No}
+use Rattle.formats_check.specs.declared.CheckedText.{CheckedText}
+use Rattle.formats_check.specs.declared.CheckedText.the-variants.{At, No}
 use Rattle.formats_check.specs.declared.Entry.the-variants as entry
 use Rattle.formats_check.specs.promises.Checked.{Number, Fine, Tested}
 use Rattle.formats_check.specs.laws.Checked.{good, under-no, under-so, behind-no, behind-so}
@@ -67,7 +67,7 @@ module _ {s : List ℕ} {at : ℕ} {o : Numeral} (e : Number s at o) where
         taken {x} q = found (λ a b. x ≡ a) q refl
 
 -- AN ENTRY: the test of a feed is by its id
-module _ {s : List ℕ} {at : ℕ} {r : Span} (S : Spans 16 token s at r) where
+module _ {s : List ℕ} {at : ℕ} {r : CheckedText} (S : Spans 16 token s at r) where
   pub feed-id : r ≡ No → Entered 16 token entryGood s at entry.No
   feed-id h = enter-no (keyed-no S feedGood h)
 

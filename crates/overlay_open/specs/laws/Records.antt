@@ -9,8 +9,8 @@ use Rattle.formats.specs.declared.Numeral.{Numeral}
 use Rattle.formats.specs.declared.Numeral.the-variants.{Got}
 use Rattle.formats.specs.declared.Skip.{Skip}
 use Rattle.formats.specs.declared.Skip.the-variants as skip
-use Rattle.formats_check.specs.declared.Span.{Span}
-use Rattle.formats_check.specs.declared.Span.the-variants.{At}
+use Rattle.formats_check.specs.declared.CheckedText.{CheckedText}
+use Rattle.formats_check.specs.declared.CheckedText.the-variants.{At}
 use Rattle.formats_check.specs.declared.Entry.{Entry}
 use Rattle.formats_check.specs.declared.Entry.the-variants as entry
 use Rattle.formats_check.specs.promises.Checked.{Number, Fine, Test, Tested}
@@ -86,7 +86,7 @@ pub feed-put : {s : List ℕ} {at r entry : ℕ} {old new : List ℕ} {y : Skip}
 feed-put C h U = unless-map (behind-put (checked-passes C h)) U
 
 -- THE FEED
-pub entry-put : {s : List ℕ} {at r : ℕ} {old new : List ℕ} → r < 4 → {y : Span}
+pub entry-put : {s : List ℕ} {at r : ℕ} {old new : List ℕ} → r < 4 → {y : CheckedText}
     → Spans 16 token s at y → {a e : ℕ} → y ≡ At a e → {x : Skip}
     → Unless x skip.Broken (RecordsPut feed (λ v. v .1 .1) s e r at old new) → {q : ℕ} → x ≡ skip.At q
     → {z : Entry} → Unless z entry.No (FeedPut s at r old new)

@@ -5,8 +5,8 @@ use Prim.Native.Nat.{ℕ}
 use Rattle.formats.specs.Class.{printable}
 use Rattle.formats.specs.declared.Skip.{Skip}
 use Rattle.formats.specs.declared.Skip.the-variants as skip
-use Rattle.formats_check.specs.declared.Span.{Span}
-use Rattle.formats_check.specs.declared.Span.the-variants.{At, No}
+use Rattle.formats_check.specs.declared.CheckedText.{CheckedText}
+use Rattle.formats_check.specs.declared.CheckedText.the-variants.{At, No}
 use Rattle.formats_check.specs.declared.Entry.the-variants as entry
 use Rattle.formats_check.specs.promises.Checked.{own, fine, Fine}
 use Rattle.formats_check.specs.laws.Checked.{tested}
@@ -14,7 +14,7 @@ use Rattle.formats_check.specs.laws.Climbing.{Spans, Entered, enter-no, enter-b
 use Rattle.overlay.specs.State.{vehicle}
 use Rattle.overlay_records.specs.promises.Vehicles.{vehicleGood}
 
-module _ {s : List ℕ} {at : ℕ} {r : Span} (S : Spans 64 printable s at r) where
+module _ {s : List ℕ} {at : ℕ} {r : CheckedText} (S : Spans 64 printable s at r) where
   pub vehicle-key : r ≡ No → Entered 64 printable vehicleGood s at entry.No
   vehicle-key h = enter-no (entry-no S (own vehicle (fine vehicle)) h)
 

@@ -4,7 +4,7 @@ use mathlib.Core.Bool.{Bool, false}
 use lib.Dec.{eqb}
 use Rattle.realtime.specs.Typed.{uint32, int32, enum}
 use Rattle.realtime_views.specs.declared.Scalar.{Scalar}
-use Rattle.realtime_views.specs.declared.Span.{Span}
+use Rattle.realtime_views.specs.declared.TextPart.{TextPart}
 use Rattle.realtime_views.specs.declared.Timestamp.{Timestamp}
 use Rattle.realtime_views.specs.declared.Direction.{Direction}
 use Rattle.realtime_views.specs.declared.Delay.{Delay}
@@ -12,7 +12,7 @@ use Rattle.realtime_views.specs.declared.Scalars.{Scalars}
 use Rattle.realtime_views.specs.declared.Header.{Header}
 use Rattle.realtime_views.specs.declared.Trip.{Trip}
 
-abbrev pub toSpan : Scalar → Span
+abbrev pub toSpan : Scalar → TextPart
 toSpan (Scalar.Number n) = record { start = 0; len = 0 }
 toSpan (Scalar.Text i l) = record { start = i; len = l }
 toSpan Scalar.Nothing = record { start = 0; len = 0 }

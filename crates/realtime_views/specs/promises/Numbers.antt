@@ -14,7 +14,7 @@ use Rattle.realtime_views.specs.promises.Last.{Single, taking}
 use Rattle.realtime_views.specs.laws.Reading.{front-part}
 use Rattle.realtime_views.specs.promises.Reading.{Lens, Reads}
 use Rattle.realtime.specs.Typed.{uint32, int32, int64, enum}
-use Rattle.realtime_views.specs.declared.Span.{Span}
+use Rattle.realtime_views.specs.declared.TextPart.{TextPart}
 use Rattle.realtime_views.specs.declared.Delay.{Delay}
 use Rattle.realtime_views.specs.declared.Time.{Time}
 use Rattle.realtime_views.specs.declared.Event.{Event}
@@ -26,10 +26,10 @@ use Rattle.realtime_views.specs.declared.EventNumbers.{EventNumbers}
 abbrev pub plain : {D B : Type 0} → (D → B) → Lens D B
 plain f = record { look = λ s d. f d; In = λ n d. Unit {0}; far = λ n m d h l. tt; front = λ s n d h l. refl }
 
-pub spans-far : (n m : ℕ) (p : Span) → n ≤ m → p .start + p .len ≤ n → p .start + p .len ≤ m
+pub spans-far : (n m : ℕ) (p : TextPart) → n ≤ m → p .start + p .len ≤ n → p .start + p .len ≤ m
 spans-far n m p h l = omega arith
 
-abbrev pub spans : Lens Span (List ℕ)
+abbrev pub spans : Lens TextPart (List ℕ)
 spans = record {
   look = λ s p. take (p .len) (drop (p .start) s);
   In = λ n p. p .start + p .len ≤ n;
@@ -73,7 +73,7 @@ noNumber = record { given = 0; value = 0 }
 abbrev pub noNumbers : EventNumbers
 noNumbers = record { delay = noNumber; time = noNumber }
 
-abbrev pub noSpan : Span
+abbrev pub noSpan : TextPart
 noSpan = record { start = 0; len = 0 }
 
 -- the typed answers
@@ -86,7 +86,7 @@ fromTime n = cond (eqb (n .given) 1) (Time.Given (int64 (n .value))) Time.Absent
 abbrev pub fromEvent : EventNumbers → Event
 fromEvent e = record { delay = fromDelay (e .delay); time = fromTime (e .time) }
 
-abbrev pub fromStop : ℕ → Span → ℕ → EventNumbers → EventNumbers → StopUpdate
+abbrev pub fromStop : ℕ → TextPart → ℕ → EventNumbers → EventNumbers → StopUpdate
 fromStop q p k a d =
     record { sequence = uint32 q; stop = p; arrival = fromEvent a; departure = fromEvent d; skipped = eqb (enum k) 1 }
 
@@ -115,7 +115,7 @@ isPart b = eqb b 18 || (eqb b 26 || eqb b 34)
 -- for a stop_time_update: its arrivals are 2, its departures 3
 pub record StopReads (s : List ℕ) (from : ℕ) (r : StopUpdate) : Type 0 where
   pub q : ℕ
-  pub p : Span
+  pub p : TextPart
   pub k : ℕ
   pub a : EventNumbers
   pub d : EventNumbers

@@ -8,7 +8,7 @@ use lib.IntN.{ℤ}
 use lib.ListN.{length, take, drop}
 use Rattle.realtime.specs.Tree.{Schema, Tree, tree}
 use Rattle.realtime.specs.Schema.{feedMessage, feedEntity, stopTimeUpdate}
-use Rattle.realtime_views.specs.declared.Span.{Span}
+use Rattle.realtime_views.specs.declared.TextPart.{TextPart}
 use Rattle.realtime_views.specs.declared.Timestamp.{Timestamp}
 use Rattle.realtime_views.specs.declared.Direction.{Direction}
 use Rattle.realtime_views.specs.declared.Delay.{Delay}
@@ -21,8 +21,8 @@ use Rattle.realtime.specs.Views.{HeaderView, header, deleted, TripView, trip, E
 use Rattle.realtime.specs.Views.{stopUpdate}
 
 -- what the code's answers say of the bytes s
-abbrev pub spanIn : List ℕ → Span → List ℕ
-spanIn s p = take (p .len) (drop (p .start) s)
+abbrev pub partIn : List ℕ → TextPart → List ℕ
+partIn s p = take (p .len) (drop (p .start) s)
 
 abbrev pub viewTimestamp : Timestamp → Option ℕ
 viewTimestamp (Timestamp.Given n) = some n
@@ -45,10 +45,10 @@ viewHeader h = record { differential = h .differential; timestamp = viewTimestam
 
 abbrev pub viewTrip : List ℕ → Trip → TripView
 viewTrip s t = record {
-  id = spanIn s (t .id);
-  time = spanIn s (t .time);
-  date = spanIn s (t .date);
-  route = spanIn s (t .route);
+  id = partIn s (t .id);
+  time = partIn s (t .time);
+  date = partIn s (t .date);
+  route = partIn s (t .route);
   cancelled = t .cancelled;
   direction = viewDirection (t .direction);
   delay = viewDelay (t .delay);
@@ -60,14 +60,14 @@ viewEvent e = record { delay = viewDelay (e .delay); time = viewTime (e .time) }
 abbrev pub viewStop : List ℕ → StopUpdate → StopView
 viewStop s u = record {
   sequence = u .sequence;
-  stop = spanIn s (u .stop);
+  stop = partIn s (u .stop);
   arrival = viewEvent (u .arrival);
   departure = viewEvent (u .departure);
   skipped = u .skipped;
 }
 
-abbrev pub SpanInside : ℕ → Span → Type 0
-SpanInside n p = p .start + p .len ≤ n
+abbrev pub PartInside : ℕ → TextPart → Type 0
+PartInside n p = p .start + p .len ≤ n
 
 -- THE ANSWERS: where the message is not broken, they say what its tree says, and their texts lie in the bytes
 pub record HeaderRead (σ : Schema) (s : List ℕ) (r : Header) : Type 0 where
@@ -78,14 +78,14 @@ pub record DeletedRead (σ : Schema) (s : List ℕ) (i l : ℕ) (r : Bool) : Typ
 
 pub record TripRead (σ : Schema) (s : List ℕ) (i l : ℕ) (r : Trip) : Type 0 where
   pub of : (e : Tree) → tree σ feedEntity (take l (drop i s)) ≡ some e → viewTrip s r ≡ trip e
-  pub id : SpanInside (length s) (r .id)
-  pub time : SpanInside (length s) (r .time)
-  pub date : SpanInside (length s) (r .date)
-  pub route : SpanInside (length s) (r .route)
+  pub id : PartInside (length s) (r .id)
+  pub time : PartInside (length s) (r .time)
+  pub date : PartInside (length s) (r .date)
+  pub route : PartInside (length s) (r .route)
 
 pub record StopRead (σ : Schema) (s : List ℕ) (i l : ℕ) (r : StopUpdate) : Type 0 where
   pub of : (u : Tree) → tree σ stopTimeUpdate (take l (drop i s)) ≡ some u → viewStop s r ≡ stopUpdate u
-  pub stop : SpanInside (length s) (r .stop)
+  pub stop : PartInside (length s) (r .stop)
 
 pub record SequenceRead (σ : Schema) (s : List ℕ) (i l : ℕ) (r : ℕ) : Type 0 where
   pub of : (u : Tree) → tree σ stopTimeUpdate (take l (drop i s)) ≡ some u → r ≡ stopUpdate u .sequence

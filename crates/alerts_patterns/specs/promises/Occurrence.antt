@@ -7,10 +7,10 @@ use Prim.Native.Nat.{ℕ, _+_, _≤_, _<_}
 use lib.Dec.{eqb, leb}
 use lib.ListN.{length, getD, drop}
 use Rattle.alerts.specs.Text.{begins}
-use Rattle.alerts_patterns.specs.declared.Found.{Found}
-use Rattle.alerts_patterns.specs.declared.Found.the-variants.{At, Nowhere}
+use Rattle.alerts_patterns.specs.declared.Occurrence.{Occurrence}
+use Rattle.alerts_patterns.specs.declared.Occurrence.the-variants.{At, Nowhere}
 
-abbrev pub foundOf : Option ℕ → Found
+abbrev pub foundOf : Option ℕ → Occurrence
 foundOf none = Nowhere
 foundOf (some i) = At i
 
