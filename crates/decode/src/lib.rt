@@ -62,7 +62,7 @@ pub fn write_key(keys: &mut [u8], n: usize, s: &[u8], start: usize, len: usize) 
     requires { ⌜ (start + len ≤ length (now s)) × (len ≤ keyBytes) ⌝ }
     ensures { λ r. ⌜ Keyed (now (keys .entry)) n (take len (drop start (now (s .entry)))) (now (keys .exit)) r ⌝ }
 {
-    add(keys, KEY_BYTES * n, wire::part(s, start, len)) - KEY_BYTES * n
+    add(keys, KEY_BYTES * n, slices::part(s, start, len)) - KEY_BYTES * n
 }
 
 // The raw trip id of an entity with its date.
@@ -74,9 +74,9 @@ pub fn write_dated(keys: &mut [u8], n: usize, s: &[u8], t: Trip) -> usize
 {
     let id = t.id;
     let date = t.date;
-    let p = add(keys, KEY_BYTES * n, wire::part(s, id.start, id.len));
+    let p = add(keys, KEY_BYTES * n, slices::part(s, id.start, id.len));
     let q = add_byte(keys, p, b'@');
-    add(keys, q, wire::part(s, date.start, date.len)) - KEY_BYTES * n
+    add(keys, q, slices::part(s, date.start, date.len)) - KEY_BYTES * n
 }
 
 // feed:route, and nothing where there is no route: 16 + 1 + 64 bytes at most.
@@ -91,7 +91,7 @@ fn write_route(keys: &mut [u8], at: usize, feed: &[u8], s: &[u8], route: TextPar
     }
     let p = add(keys, at, feed);
     let q = add_byte(keys, p, b':');
-    add(keys, q, wire::part(s, route.start, route.len))
+    add(keys, q, slices::part(s, route.start, route.len))
 }
 
 // A direction has 10 digits at most.
@@ -131,9 +131,9 @@ fn write_tail(keys: &mut [u8], at: usize, s: &[u8], date: TextPart, time: TextPa
         (tailOf (partIn (now (s .entry)) date) (partIn (now (s .entry)) time)) (now (keys .exit)) r ⌝ }
 {
     let a = add(keys, at, b"&sd=");
-    let b = add(keys, a, wire::part(s, date.start, date.len));
+    let b = add(keys, a, slices::part(s, date.start, date.len));
     let c = add(keys, b, b"&st=");
-    add(keys, c, wire::part(s, time.start, time.len))
+    add(keys, c, slices::part(s, time.start, time.len))
 }
 
 // The key of an entity without a trip id.

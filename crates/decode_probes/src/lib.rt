@@ -240,7 +240,7 @@ fn reads(s: &[u8], p: TextPart, x: &[u8]) -> bool
     requires { ⌜ PartInside (length (now s)) p ⌝ }
     ensures { λ r. ⌜ r ≡ same (partIn (now (s .entry)) p) (now (x .entry)) ⌝ }
 {
-    slices::same(wire::part(s, p.start, p.len), x)
+    slices::same(slices::part(s, p.start, p.len), x)
 }
 
 // Whether the start time, the start date and the route of an entity's trip are these.

@@ -19,8 +19,9 @@ use Rattle.maps.specs.laws.Order.{texts-order, lex-itself, lex-same}
 use Rattle.maps.specs.laws.Map.{put-ascending}
 use Rattle.basics.specs.laws.Booleans.{both-true}
 use Rattle.decode_slots.specs.Index.{Place, slotKey, slotPlace, slotEntry, slotted, index}
-use Rattle.decode_slots.specs.promises.Index.{keyIn, SoundIndex, Settled, rankOf, inserted, remarked}
-use Rattle.decode_slots.proofs.Gaps.{gap-front, gap-length}
+use Rattle.slices.specs.promises.Inserted.{inserted}
+use Rattle.decode_slots.specs.promises.Index.{keyIn, SoundIndex, Settled, rankOf, remarked}
+use Rattle.slices.proofs.Gaps.{gap-front, gap-length}
 use Rattle.decode_slots.specs.laws.Slots.{slotted-length, index-length}
 use Rattle.decode_slots.proofs.Ranks.{at, ascending-at, slotted-at, index-at, slot-below, rank-within, nowhere}
 

@@ -7,37 +7,12 @@ ghost use mathlib.Core.Bool.{_&&_};
 ghost use lib.Dec.{ltb};
 ghost use lib.ListN.{length, getD, set};
 ghost use Rattle.slices.specs.Lists.{lexOf};
+ghost use Rattle.slices.specs.promises.Inserted.{inserted};
 ghost use Rattle.maps.specs.promises.Order.{isSame, isMore};
 ghost use Rattle.maps.specs.Order.{texts};
 ghost use Rattle.decode.specs.Sizes.{mostTrips, keyBytes, marksLength, orderLength};
 ghost use Rattle.decode_slots.specs.Index.{slotKey, index};
-ghost use Rattle.decode_slots.specs.promises.Index.{keyIn, SoundIndex, Settled, rankOf, inserted, remarked};
-
-fn wide(x: u32) -> usize
-    ensures { λ r. ⌜ r ≡ x ⌝ }
-{
-    x as usize
-}
-
-pub fn word(a: &[u32], i: usize) -> usize
-    requires { ⌜ i < length (now a) ⌝ }
-    ensures { λ r. ⌜ r ≡ getD (now (a .entry)) i 0 ⌝ }
-{
-    wide(a[i])
-}
-
-// v goes in at `at`, and what stands from there to `end` moves one place on.
-pub fn insert(a: &mut [u32], at: usize, end: usize, v: u32)
-    requires { ⌜ (at ≤ end) × (end < length (now a)) ⌝ }
-    ensures { λ _. ⌜ now (a .exit) ≡ inserted (now (a .entry)) at end v ⌝ }
-{
-    let mut i = end;
-    while at < i {
-        a[i] = a[i - 1];
-        i -= 1;
-    }
-    a[at] = v;
-}
+ghost use Rattle.decode_slots.specs.promises.Index.{keyIn, SoundIndex, Settled, rankOf, remarked};
 
 pub fn is_more(o: Order) -> bool
     ensures { λ r. ⌜ r ≡ isMore o ⌝ }
@@ -67,10 +42,10 @@ fn key_order(keys: &[u8], marks: &[u32], n: usize, len: usize, slot: usize) -> O
     ensures { λ r. ⌜ r ≡
         lexOf (keyIn (now (keys .entry)) n len) (slotKey (now (keys .entry)) (now (marks .entry)) slot) ⌝ }
 {
-    let known = word(marks, 3 * slot);
+    let known = slices::word(marks, 3 * slot);
     slices::compare(
-        wire::part(keys, KEY_BYTES * n, len),
-        wire::part(keys, KEY_BYTES * slot, known),
+        slices::part(keys, KEY_BYTES * n, len),
+        slices::part(keys, KEY_BYTES * slot, known),
     )
 }
 
@@ -96,7 +71,7 @@ fn rank(keys: &[u8], marks: &[u32], order: &[u32], n: usize, len: usize) -> usiz
     let mut hi = n;
     while lo < hi {
         let mid = probe(lo, hi, n);
-        let slot = word(order, mid);
+        let slot = slices::word(order, mid);
         if is_more(key_order(keys, marks, n, len, slot)) {
             lo = mid + 1;
         } else {
@@ -116,7 +91,7 @@ fn stands(keys: &[u8], marks: &[u32], order: &[u32], n: usize, len: usize, r: us
     if r >= n {
         return false;
     }
-    is_same(key_order(keys, marks, n, len, word(order, r)))
+    is_same(key_order(keys, marks, n, len, slices::word(order, r)))
 }
 
 // The place of a slot.
@@ -137,7 +112,7 @@ fn enter(marks: &mut [u32], order: &mut [u32], n: usize, r: usize, len: usize, f
 {
     marks[3 * n] = len as u32;
     mark(marks, n, from, to);
-    insert(order, r, n, n as u32);
+    slices::insert(order, r, n, n as u32);
 }
 
 // The key in slot n goes in at its rank, over an old one: how many slots are in use then.
@@ -157,7 +132,7 @@ pub fn settle(
 {
     let r = rank(keys, marks, order, n, len);
     if stands(keys, marks, order, n, len, r) {
-        let slot = word(order, r);
+        let slot = slices::word(order, r);
         mark(marks, slot, from, to);
         return n;
     }

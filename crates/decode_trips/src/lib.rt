@@ -125,9 +125,9 @@ fn write_entry(
         (now (out .entry)) w (now (out .exit)) r ⌝ }
 {
     let key = KEY_BYTES * slot;
-    let len = decode_slots::word(marks, 3 * slot);
-    let from = decode_slots::word(marks, 3 * slot + 1);
-    let to = decode_slots::word(marks, 3 * slot + 2);
+    let len = slices::word(marks, 3 * slot);
+    let from = slices::word(marks, 3 * slot + 1);
+    let to = slices::word(marks, 3 * slot + 2);
     let q = formats_write::text(out, w, keys, key, key + len);
     let r = write_next(out, q, s, old, from, to, last);
     let start = place(q);
@@ -176,7 +176,7 @@ fn put_entries(
     };
     let mut i: usize = 0;
     while i < n {
-        let slot = decode_slots::word(order, i);
+        let slot = slices::word(order, i);
         let e = write_entry(out, q, keys, marks, slot, s, old, last);
         q = e.put;
         let l = e.last;

@@ -19,11 +19,12 @@ use Rattle.maps.specs.laws.Order.{numbers-order, heads, lex-itself, lex-same, c
 use Rattle.maps.specs.laws.Map.{put-ascending}
 use Rattle.basics.specs.laws.Booleans.{both-true}
 use Rattle.decode_slots.specs.Index.{Place, slotPlace}
-use Rattle.decode_slots.specs.promises.Index.{rankOf, inserted, remarked}
+use Rattle.slices.specs.promises.Inserted.{inserted}
+use Rattle.decode_slots.specs.promises.Index.{rankOf, remarked}
 use Rattle.decode_updates.specs.Line.{laid}
 use Rattle.decode_updates.specs.laws.Line.{laid-length}
 use Rattle.decode_updates.specs.promises.Line.{three, Lined, Noted}
-use Rattle.decode_slots.proofs.Gaps.{inserted-at, gap-length}
+use Rattle.slices.proofs.Gaps.{inserted-at, gap-length}
 use Rattle.decode_slots.proofs.Ranks.{rank-length, rank-behind, rank-before}
 use Rattle.decode_slots.proofs.Settling.{put-over, put-into, place-own, place-other, length-kept, marks-length}
 

@@ -64,9 +64,9 @@ fn line(updates: &mut [u32], n: usize, r: usize, sequence: u32, from: u32, to: u
     requires { ⌜ (r ≤ n) × (n ≤ mostUpdates) × (length (now updates) ≡ updatesLength) ⌝ }
     ensures { λ _. ⌜ now (updates .exit) ≡ three (now (updates .entry)) r n sequence from to ⌝ }
 {
-    decode_slots::insert(updates, 3 * r, 3 * n, sequence);
-    decode_slots::insert(updates, 3 * r + 1, 3 * n + 1, from);
-    decode_slots::insert(updates, 3 * r + 2, 3 * n + 2, to);
+    slices::insert(updates, 3 * r, 3 * n, sequence);
+    slices::insert(updates, 3 * r + 1, 3 * n + 1, from);
+    slices::insert(updates, 3 * r + 2, 3 * n + 2, to);
 }
 
 // An update goes in at its sequence, over an old one: how many are in use then.
@@ -95,7 +95,7 @@ pub fn updates_of(updates: &mut [u32], s: &[u8], start: usize, len: usize) -> us
     let mut walk = realtime_views::updates(start);
     let mut n: usize = 0;
     loop {
-        match realtime_views::next_update(wire::part(s, 0, end), walk) {
+        match realtime_views::next_update(slices::part(s, 0, end), walk) {
             Item::Done => return n,
             Item::At {
                 start: at,
@@ -122,7 +122,7 @@ fn count_updates(s: &[u8], start: usize, len: usize) -> usize
     let mut walk = realtime_views::updates(start);
     let mut n: usize = 0;
     while n <= MOST_UPDATES {
-        match realtime_views::next_update(wire::part(s, 0, end), walk) {
+        match realtime_views::next_update(slices::part(s, 0, end), walk) {
             Item::Done => return n,
             Item::At {
                 start: _,
@@ -179,9 +179,9 @@ pub fn any_crowded(marks: &[u32], order: &[u32], n: usize, s: &[u8]) -> bool
     let mut to = BEYOND;
     let mut i: usize = 0;
     while i < n {
-        let slot = decode_slots::word(order, i);
-        let a = decode_slots::word(marks, 3 * slot + 1);
-        let e = decode_slots::word(marks, 3 * slot + 2);
+        let slot = slices::word(order, i);
+        let a = slices::word(marks, 3 * slot + 1);
+        let e = slices::word(marks, 3 * slot + 2);
         if place_crowded(s, from, to, a, e) {
             return true;
         }

@@ -249,8 +249,8 @@ fn put_updates(out: &mut [u8], w: Put, updates: &[u32], n: usize, s: &[u8]) -> P
     let mut i: usize = 0;
     while i < n {
         let sequence = updates[3 * i];
-        let from = decode_slots::word(updates, 3 * i + 1);
-        let to = decode_slots::word(updates, 3 * i + 2);
+        let from = slices::word(updates, 3 * i + 1);
+        let to = slices::word(updates, 3 * i + 2);
         q = write_update(out, q, sequence, s, from, to);
         i += 1;
     }
@@ -307,7 +307,7 @@ fn key_has_at(keys: &[u8], marks: &[u32], slot: usize) -> bool
     ensures { λ r. ⌜ r ≡ hasByte 64 (slotKey (now (keys .entry)) (now (marks .entry)) slot) ⌝ }
 {
     let start = KEY_BYTES * slot;
-    let len = decode_slots::word(marks, 3 * slot);
+    let len = slices::word(marks, 3 * slot);
     has_at(keys, start, start + len)
 }
 
@@ -320,7 +320,7 @@ fn count_plain(keys: &[u8], marks: &[u32], order: &[u32], n: usize) -> usize
     let mut count: usize = 0;
     let mut i: usize = 0;
     while i < n {
-        if !key_has_at(keys, marks, decode_slots::word(order, i)) {
+        if !key_has_at(keys, marks, slices::word(order, i)) {
             count += 1;
         }
         i += 1;

@@ -213,7 +213,7 @@ fn place_at(a: &[u32], i: usize) -> usize
     if a.len() <= i {
         return 0;
     }
-    decode_slots::word(a, i)
+    slices::word(a, i)
 }
 
 // Where the words of an alert are, by the place of its feed's alerts and its number: those of one feed share none.

@@ -15,8 +15,8 @@ fn each_header(b: &[u8], froms: &[u32], tos: &[u32], n: usize, out: &mut [u8], w
     let mut i = 0;
     let mut k = w;
     while i < n {
-        let from = decode_slots::word(froms, i);
-        let to = decode_slots::word(tos, i);
+        let from = slices::word(froms, i);
+        let to = slices::word(tos, i);
         k = formats_write::text(out, k, b, from, to);
         i += 1;
     }

@@ -13,8 +13,8 @@ fn order_at(old: &[u8], froms: &[u32], tos: &[u32], i: usize, from: usize, to: u
     requires { ⌜ Inside (now old) (getD (now froms) i 0, getD (now tos) i 0) ⌝ }
     ensures { λ r. ⌜ OrderAt (now (old .entry)) (now (froms .entry)) (now (tos .entry)) i (from, to) r ⌝ }
 {
-    let a = decode_slots::word(froms, i);
-    let e = decode_slots::word(tos, i);
+    let a = slices::word(froms, i);
+    let e = slices::word(tos, i);
     slices::compare(&old[from..to], &old[a..e])
 }
 
@@ -76,7 +76,7 @@ pub fn note(
     if stands(old, froms, tos, n, r, from, to) {
         return n;
     }
-    decode_slots::insert(froms, r, n, from as u32);
-    decode_slots::insert(tos, r, n, to as u32);
+    slices::insert(froms, r, n, from as u32);
+    slices::insert(tos, r, n, to as u32);
     n + 1
 }

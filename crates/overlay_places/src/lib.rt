@@ -1,6 +1,6 @@
 // Where an overlay's feeds and their trips stand, as question 2 noted it, so that a look-up passes over nothing.
-use decode_slots::word;
 use slices::Order;
+use slices::word;
 ghost use mathlib.Core.Path.{_≡_};
 ghost use Prim.Native.Nat.{_+_, _*_, _<_};
 ghost use lib.ListN.{length, getD};

@@ -144,7 +144,7 @@ pub enum Step {
 fn past(s: &[u8], from: Cursor, field: u64, wire: u64) -> Skipped
     ensures { λ r. ⌜ r ≡ skippedAt (now (s .entry)) (from .at) field wire 16 ⌝ }
 {
-    from.skip(wire::part(s, 0, s.len()), field, wire, GROUPS_DEEP)
+    from.skip(slices::part(s, 0, s.len()), field, wire, GROUPS_DEEP)
 }
 
 // The number behind a key, where its wire type is a number's.
@@ -351,14 +351,17 @@ pub fn judge(s: &[u8], message: u64) -> Verdict
                 Holds::Text => match text_behind(s, next, wire) {
                     GotText::Broken => return Verdict::Broken,
                     GotText::Read(start, len, after) => {
-                        worst = worse(worst, judge_text(wire::part(s, start, len), message, field));
+                        worst = worse(
+                            worst,
+                            judge_text(slices::part(s, start, len), message, field),
+                        );
                         at = after.at;
                     }
                 },
                 Holds::Message(inner) => match text_behind(s, next, wire) {
                     GotText::Broken => return Verdict::Broken,
                     GotText::Read(start, len, after) => {
-                        worst = worse(worst, judge(wire::part(s, start, len), inner));
+                        worst = worse(worst, judge(slices::part(s, start, len), inner));
                         at = after.at;
                     }
                 },

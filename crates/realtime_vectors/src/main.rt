@@ -95,7 +95,7 @@ fn write_span(s: &[u8], p: TextPart)
         return;
     }
     write(b" ");
-    write(wire::part(s, start, len));
+    write(slices::part(s, start, len));
 }
 
 fn write_event(e: Event) {
@@ -181,7 +181,7 @@ fn write_entity(s: &[u8], start: usize, len: usize)
         write(b"deleted");
     } else {
         write_trip(s, start, len);
-        write_updates(wire::part(s, 0, start + len), start);
+        write_updates(slices::part(s, 0, start + len), start);
     }
     write(b"]");
 }

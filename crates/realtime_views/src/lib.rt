@@ -161,7 +161,7 @@ fn over_field(s: &[u8], from: usize, message: u64, a: u64, before: Scalars) -> S
             }
             Step::Message(field, inner, start, _, after) => {
                 if field == a {
-                    d = over_message(wire::part(s, 0, after), start, inner, d);
+                    d = over_message(slices::part(s, 0, after), start, inner, d);
                 }
                 at = after;
             }
@@ -197,7 +197,7 @@ fn over_update(s: &[u8], from: usize, before: TripScalars) -> TripScalars
             }
             Step::Message(field, inner, start, _, after) => {
                 if field == trip_update::TRIP {
-                    trip = over_message(wire::part(s, 0, after), start, inner, trip);
+                    trip = over_message(slices::part(s, 0, after), start, inner, trip);
                 }
                 at = after;
             }
@@ -227,7 +227,7 @@ fn over_updates(s: &[u8], from: usize) -> TripScalars
             }
             Step::Message(field, _, start, _, after) => {
                 if field == feed_entity::TRIP_UPDATE {
-                    d = over_update(wire::part(s, 0, after), start, d);
+                    d = over_update(slices::part(s, 0, after), start, d);
                 }
                 at = after;
             }
@@ -528,9 +528,9 @@ fn any_stop(s: &[u8], from: usize) -> StopUpdate
             }
             Step::Message(field, _, start, _, after) => {
                 if field == stop_time_update::ARRIVAL {
-                    arrival = over_event(wire::part(s, 0, after), start, arrival);
+                    arrival = over_event(slices::part(s, 0, after), start, arrival);
                 } else if field == stop_time_update::DEPARTURE {
-                    departure = over_event(wire::part(s, 0, after), start, departure);
+                    departure = over_event(slices::part(s, 0, after), start, departure);
                 }
                 at = after;
             }
@@ -571,9 +571,9 @@ fn over_stop(s: &[u8], from: usize) -> StopUpdate
             };
             let end = after.at;
             if b == ARRIVAL_KEY {
-                arrival = over_event(wire::part(s, 0, end), start, arrival);
+                arrival = over_event(slices::part(s, 0, end), start, arrival);
             } else if b == DEPARTURE_KEY {
-                departure = over_event(wire::part(s, 0, end), start, departure);
+                departure = over_event(slices::part(s, 0, end), start, departure);
             } else if b == STOP_KEY {
                 stop = TextPart { start, len };
             } else {
@@ -678,7 +678,7 @@ pub fn is_deleted(s: &[u8], start: usize, len: usize) -> bool
     requires { ⌜ start + len ≤ length (now s) ⌝ }
     ensures { λ r. ⌜ DeletedRead feed (now (s .entry)) start len r ⌝ }
 {
-    let entity = wire::part(s, 0, start + len);
+    let entity = slices::part(s, 0, start + len);
     last_number(entity, start, FEED_ENTITY, feed_entity::IS_DELETED) != 0
 }
 
@@ -687,7 +687,7 @@ pub fn trip_of(s: &[u8], start: usize, len: usize) -> Trip
     requires { ⌜ start + len ≤ length (now s) ⌝ }
     ensures { λ r. ⌜ TripRead feed (now (s .entry)) start len r ⌝ }
 {
-    let d = over_updates(wire::part(s, 0, start + len), start);
+    let d = over_updates(slices::part(s, 0, start + len), start);
     let trip = d.trip;
     let update = d.update;
     trip_from(trip, update)
@@ -698,7 +698,7 @@ pub fn stop_of(s: &[u8], start: usize, len: usize) -> StopUpdate
     requires { ⌜ start + len ≤ length (now s) ⌝ }
     ensures { λ r. ⌜ StopRead feed (now (s .entry)) start len r ⌝ }
 {
-    over_stop(wire::part(s, 0, start + len), start)
+    over_stop(slices::part(s, 0, start + len), start)
 }
 
 // And its sequence alone.
@@ -706,7 +706,7 @@ pub fn sequence_at(s: &[u8], start: usize, len: usize) -> u32
     requires { ⌜ start + len ≤ length (now s) ⌝ }
     ensures { λ r. ⌜ SequenceRead feed (now (s .entry)) start len r ⌝ }
 {
-    let update = wire::part(s, 0, start + len);
+    let update = slices::part(s, 0, start + len);
     uint32(last_sequence(update, start))
 }
 
@@ -763,7 +763,7 @@ fn next_item(s: &[u8], message: u64, a: u64, inner: u64, k: u64, walk: Walk) -> 
     let mut end = walk.end;
     let mut at = walk.at;
     loop {
-        match meet(k, next(wire::part(s, 0, end), at, inner)) {
+        match meet(k, next(slices::part(s, 0, end), at, inner)) {
             Met::Broken => return Item::Done,
             Met::Other(after) => {
                 at = after;
@@ -836,7 +836,7 @@ pub fn next_update(s: &[u8], walk: Walk) -> Item
     if at < end {
         if s[at] == UPDATE_KEY {
             let here = Cursor { at: at + 1 };
-            let GotText::Read(start, len, after) = here.text(wire::part(s, 0, end)) else {
+            let GotText::Read(start, len, after) = here.text(slices::part(s, 0, end)) else {
                 return Item::Done;
             };
             let outer = walk.outer;

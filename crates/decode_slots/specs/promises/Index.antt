@@ -1,6 +1,6 @@
 -- Promise. The working index: when its slices hold one, where a key ranks in it, and what they hold when a key is
 -- put.
-use Prim.Native.Nat.{ℕ, suc, _+_, _-_, _*_, _≤_, _<_}
+use Prim.Native.Nat.{ℕ, suc, _+_, _*_, _≤_, _<_}
 use mathlib.Core.Path.{_≡_}
 use mathlib.Core.Bool.{true}
 use mathlib.Core.List.{List, [], _∷_, _++_}
@@ -41,10 +41,6 @@ module _ {K : Type 0} (O : Ordered K) {A : Type 0} where
   abbrev pub rankOf : K → List (K × A) → ℕ
   rankOf k [] = 0
   rankOf k (e ∷ m) = byOrder (O .compare k (e .0)) 0 0 (suc (rankOf k m))
-
--- a with v at `at`, and what stood from there to `end` one place on
-abbrev pub inserted : List ℕ → ℕ → ℕ → ℕ → List ℕ
-inserted a at end v = take at a ++ v ∷ (take (end - at) (drop at a) ++ drop (end + 1) a)
 
 -- the place of a slot becomes another
 abbrev pub remarked : List ℕ → ℕ → ℕ → ℕ → List ℕ

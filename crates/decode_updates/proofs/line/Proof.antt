@@ -2,7 +2,7 @@
 use borrow.Author.Needs.{needs}
 use mathlib.Core.Path.{ap, _∙_}
 use Prim.Native.Nat.{_+_, _*_}
-use Rattle.decode_slots.specs.promises.Index.{inserted}
+use Rattle.slices.specs.promises.Inserted.{inserted}
 use Rattle.decode_updates.proofs.line.Statement.{statement}
 use Rattle.decode_updates.proofs.line.Tie as tie
 

@@ -8,7 +8,7 @@ use lib.ListN.{length}
 use Rattle.decode.specs.Sizes.{updatesLength}
 use Rattle.maps.specs.Map.{put, ascending}
 use Rattle.maps.specs.Order.{numbers}
-use Rattle.decode_slots.specs.promises.Index.{inserted}
+use Rattle.slices.specs.promises.Inserted.{inserted}
 use Rattle.decode_updates.specs.Line.{laid}
 
 -- the lines of `updates` are one more than a trip may have, of three words each

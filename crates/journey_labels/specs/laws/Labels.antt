@@ -8,7 +8,7 @@ use lib.Dec.{ltb}
 use lib.ListN.{length, getD, take, drop, set}
 use borrow.Author.Tests.{ltb-true, lt-ltb, le-ltb}
 use Rattle.basics.specs.laws.Booleans.{both-true}
-use Rattle.decode_slots.proofs.Gaps.{gap-length}
+use Rattle.slices.proofs.Gaps.{gap-length}
 use Rattle.decode_slots.proofs.Ranks.{is-more, rank-length, rank-behind, rank-before}
 use Rattle.decode_slots.proofs.Settling.{is-same, put-over, put-into}
 use lib.Seq.{getD-drop}
@@ -22,7 +22,8 @@ use Rattle.maps.specs.laws.Map.{put-ascending}
 use Rattle.maps.specs.laws.Order.{texts-order, lex-same}
 use Rattle.decode_slots.specs.Index.{Place}
 use Rattle.decode_slots.specs.Places.{bytesIn}
-use Rattle.decode_slots.specs.promises.Index.{rankOf, inserted}
+use Rattle.slices.specs.promises.Inserted.{inserted}
+use Rattle.decode_slots.specs.promises.Index.{rankOf}
 use Rattle.journey_labels.specs.promises.Labels.{Inside, placesIn, Labels, labelsAt, labels, labelAt}
 use Rattle.journey_labels.specs.promises.Labels.{mostLabels, OrderAt, Ranks, StandsAt, SoundLabels, LabelNoted}
 

@@ -35,7 +35,7 @@ use Rattle.realtime_read.proofs.past.Reads as past-reads
 use Rattle.realtime_read.proofs.text_behind.Reads as text-behind-reads
 use Rattle.realtime_read.proofs.worse.Reads as worse-reads
 use Rattle.wire.proofs.Cursor.key.Reads as key-reads
-use Rattle.wire.proofs.part.Reads as part-reads
+use Rattle.slices.proofs.part.Reads as part-reads
 use Rattle.realtime_read.proofs.+judge.{statement}
 use Rattle.realtime_read.proofs.+judge.Tie.{close}
 

@@ -1,13 +1,13 @@
--- `decode_slots::insert`: the gap moves down from the end. Assumes nothing.
+-- `slices::insert`: the gap moves down from the end. Assumes nothing.
 use borrow.Author.Needs.{needs}
 use mathlib.Core.Path.{_≡_, refl, sym}
 use Prim.Native.Nat.{_-_, _≤_}
 use native.Mathlib.Omega.{arith}
 use lib.ListN.{length, getD, length-set}
-use Rattle.decode_slots.specs.promises.Index.{inserted}
-use Rattle.decode_slots.proofs.Gaps.{gap-none, gap-turn, gap-filled}
-use Rattle.decode_slots.proofs.insert.Statement.{statement}
-use Rattle.decode_slots.proofs.insert.Tie as tie
+use Rattle.slices.specs.promises.Inserted.{inserted}
+use Rattle.slices.proofs.Gaps.{gap-none, gap-turn, gap-filled}
+use Rattle.slices.proofs.insert.Statement.{statement}
+use Rattle.slices.proofs.insert.Tie as tie
 
 abbrev Inv-loop : tie.InvT-loop
 Inv-loop a₀ at end v i₀ a i =

@@ -7,7 +7,7 @@ use native.Mathlib.Omega.{arith}
 use lib.ListN.{length, getD, take, drop, set, List·getD-append, length-append, length-drop}
 use lib.Seq.{take-suc, drop-cons, split-at, set-at, getD-take, length-take-le, take-take, take-add, take-at, drop-at}
 use lib.Seq.{drop-drop}
-use Rattle.decode_slots.specs.promises.Index.{inserted}
+use Rattle.slices.specs.promises.Inserted.{inserted}
 
 -- nothing has moved
 pub gap-none : (a : List ℕ) (end : ℕ) → end < length a → inserted a end end (getD a end 0) ≡ a
