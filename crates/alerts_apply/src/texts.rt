@@ -48,7 +48,7 @@ pub fn label(s: &[u8], at: usize) -> Span
     let i = header.to;
     let d = description.from;
     let e = description.to;
-    let n = alerts::label(present, &s[h..i], &s[d..e]).len();
+    let n = alerts_label::label(present, &s[h..i], &s[d..e]).len();
     if present {
         return Span { from: h, to: h + n };
     }

@@ -1,9 +1,9 @@
--- `alerts::label` meets its contract.
+-- `alerts_label::label` meets its contract.
 use mathlib.Core.Path.{refl, sym}
 use lib.Seq.{length-take-le}
 use borrow.Author.Needs.{needs}
-use Rattle.alerts.proofs.label.Statement.{statement}
-use Rattle.alerts.proofs.label.Tie as tie
+use Rattle.alerts_label.proofs.label.Statement.{statement}
+use Rattle.alerts_label.proofs.label.Tie as tie
 
 returns : tie.Need-returns
 returns c = rw (c .if1 .taken) refl

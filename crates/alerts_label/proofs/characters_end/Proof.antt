@@ -1,5 +1,5 @@
--- `alerts::characters_end` meets its contract. The invariant: the characters are the bytes passed and those that are
--- left.
+-- `alerts_label::characters_end` meets its contract. The invariant: the characters are the bytes passed and those
+-- that are left.
 use mathlib.Core.Path.{sym, _∙_}
 use Prim.Native.Nat.{_-_}
 use native.Mathlib.Omega.{arith}
@@ -7,9 +7,9 @@ use mathlib.Core.Logic.{⊎-elim}
 use lib.ListN.{length}
 use borrow.Author.Needs.{needs}
 use borrow.Author.Tests.{not-true, not-false}
-use Rattle.alerts.proofs.Characters.{Passed, start, goes-on, begins, stops, ended}
-use Rattle.alerts.proofs.characters_end.Statement.{statement}
-use Rattle.alerts.proofs.characters_end.Tie as tie
+use Rattle.alerts_label.proofs.Characters.{Passed, start, goes-on, begins, stops, ended}
+use Rattle.alerts_label.proofs.characters_end.Statement.{statement}
+use Rattle.alerts_label.proofs.characters_end.Tie as tie
 
 abbrev Inv-loop : tie.InvT-loop
 Inv-loop s n left₀ i₀ left i = Passed s n left i
