@@ -19,26 +19,26 @@ pub fn apply_entities(
     order: &mut [u32],
     n: usize,
     feed: &[u8],
-    s: &[u8],
+    message: &[u8],
 ) -> usize
     requires { ⌜ Open (now keys) (now marks) (now order) n ⌝ }
-    requires { ⌜ (length (now feed) ≤ mostFeed) × (length (now s) ≤ mostMessage) ⌝ }
-    requires { ⌜ JudgedMessage (now s) ⌝ }
-    ensures { λ r. ⌜ Indexed (now (feed .entry)) (now (s .entry))
+    requires { ⌜ (length (now feed) ≤ mostFeed) × (length (now message) ≤ mostMessage) ⌝ }
+    requires { ⌜ JudgedMessage (now message) ⌝ }
+    ensures { λ r. ⌜ Indexed (now (feed .entry)) (now (message .entry))
         (index (now (keys .entry)) (now (marks .entry)) (now (order .entry)) n)
         (now (keys .exit)) (now (marks .exit)) (now (order .exit)) r ⌝ }
 {
-    let mut walk = realtime_views::entities(s);
+    let mut walk = realtime_views::entities(message);
     let mut m = n;
     loop {
-        match realtime_views::next_entity(s, walk) {
+        match realtime_views::next_entity(message, walk) {
             Item::Done => return m,
             Item::At {
                 start: at,
                 len,
                 walk: rest,
             } => {
-                m = decode_keys::apply(keys, marks, order, m, feed, s, at, len);
+                m = decode_keys::apply(keys, marks, order, m, feed, message, at, len);
                 if m > MOST_TRIPS {
                     return m;
                 }
@@ -85,24 +85,24 @@ pub fn leave(
     marks: &mut [u32],
     order: &mut [u32],
     feed: &[u8],
-    s: &[u8],
+    message: &[u8],
     old: &[u8],
     at: usize,
 ) -> Left
     requires { ⌜ Lent (now keys) (now marks) (now order) ⌝ }
-    requires { ⌜ (length (now feed) ≤ mostFeed) × (length (now s) ≤ mostMessage) ⌝ }
-    requires { ⌜ JudgedMessage (now s) ⌝ }
+    requires { ⌜ (length (now feed) ≤ mostFeed) × (length (now message) ≤ mostMessage) ⌝ }
+    requires { ⌜ JudgedMessage (now message) ⌝ }
     requires { ⌜ Old (now old) at ⌝ }
-    ensures { λ r. ⌜ Leaves (now (feed .entry)) (now (s .entry)) (now (old .entry)) at
+    ensures { λ r. ⌜ Leaves (now (feed .entry)) (now (message .entry)) (now (old .entry)) at
         (now (keys .exit)) (now (marks .exit)) (now (order .exit)) r ⌝ }
 {
-    let h = realtime_views::header_of(s);
+    let h = realtime_views::header_of(message);
     let begun = begin(keys, marks, order, h.differential, old, at);
-    let m = apply_entities(keys, marks, order, begun.slots, feed, s);
+    let m = apply_entities(keys, marks, order, begun.slots, feed, message);
     if m > MOST_TRIPS {
         return Left::ManyTrips;
     }
-    if decode_updates::any_crowded(marks, order, m, s) {
+    if decode_updates::any_crowded(marks, order, m, message) {
         return Left::ManyUpdates;
     }
     Left::Trips(m, begun.next)

@@ -18,19 +18,19 @@ pub fn file_key(
     marks: &mut [u32],
     order: &mut [u32],
     n: usize,
-    s: &[u8],
+    message: &[u8],
     start: usize,
     len: usize,
     from: u32,
     to: u32,
 ) -> usize
     requires { ⌜ Open (now keys) (now marks) (now order) n ⌝ }
-    requires { ⌜ (start + len ≤ length (now s)) × (len ≤ keyBytes) ⌝ }
+    requires { ⌜ (start + len ≤ length (now message)) × (len ≤ keyBytes) ⌝ }
     ensures { λ r. ⌜ Filed (now (keys .entry)) (now (marks .entry)) (now (order .entry)) n
-        (take len (drop start (now (s .entry)))) from to
+        (take len (drop start (now (message .entry)))) from to
         (now (keys .exit)) (now (marks .exit)) (now (order .exit)) r ⌝ }
 {
-    let long = decode::write_key(keys, n, s, start, len);
+    let long = decode::write_key(keys, n, message, start, len);
     decode_slots::settle(keys, marks, order, n, long, from, to)
 }
 
@@ -40,18 +40,18 @@ fn file_base(
     marks: &mut [u32],
     order: &mut [u32],
     n: usize,
-    s: &[u8],
+    message: &[u8],
     t: Trip,
     from: u32,
     to: u32,
 ) -> usize
     requires { ⌜ Open (now keys) (now marks) (now order) n ⌝ }
-    requires { ⌜ Short (now s) t ⌝ }
+    requires { ⌜ Short (now message) t ⌝ }
     ensures { λ r. ⌜ Filed (now (keys .entry)) (now (marks .entry)) (now (order .entry)) n
-        (partIn (now (s .entry)) (t .id)) from to (now (keys .exit)) (now (marks .exit)) (now (order .exit)) r ⌝ }
+        (partIn (now (message .entry)) (t .id)) from to (now (keys .exit)) (now (marks .exit)) (now (order .exit)) r ⌝ }
 {
     let id = t.id;
-    file_key(keys, marks, order, n, s, id.start, id.len, from, to)
+    file_key(keys, marks, order, n, message, id.start, id.len, from, to)
 }
 
 // By its raw trip id and its date.
@@ -60,18 +60,18 @@ fn file_dated(
     marks: &mut [u32],
     order: &mut [u32],
     n: usize,
-    s: &[u8],
+    message: &[u8],
     t: Trip,
     from: u32,
     to: u32,
 ) -> usize
     requires { ⌜ Open (now keys) (now marks) (now order) n ⌝ }
-    requires { ⌜ Short (now s) t ⌝ }
+    requires { ⌜ Short (now message) t ⌝ }
     ensures { λ r. ⌜ Filed (now (keys .entry)) (now (marks .entry)) (now (order .entry)) n
-        (datedKey (partIn (now (s .entry)) (t .id)) (partIn (now (s .entry)) (t .date))) from to
+        (datedKey (partIn (now (message .entry)) (t .id)) (partIn (now (message .entry)) (t .date))) from to
         (now (keys .exit)) (now (marks .exit)) (now (order .exit)) r ⌝ }
 {
-    let len = decode::write_dated(keys, n, s, t);
+    let len = decode::write_dated(keys, n, message, t);
     decode_slots::settle(keys, marks, order, n, len, from, to)
 }
 
@@ -82,20 +82,20 @@ fn file_incomplete(
     order: &mut [u32],
     n: usize,
     feed: &[u8],
-    s: &[u8],
+    message: &[u8],
     t: Trip,
     from: u32,
     to: u32,
 ) -> usize
     requires { ⌜ Open (now keys) (now marks) (now order) n ⌝ }
     requires { ⌜ length (now feed) ≤ mostFeed ⌝ }
-    requires { ⌜ Short (now s) t ⌝ }
+    requires { ⌜ Short (now message) t ⌝ }
     ensures { λ r. ⌜ Filed (now (keys .entry)) (now (marks .entry)) (now (order .entry)) n
-        (headOf (now (feed .entry)) (partIn (now (s .entry)) (t .route)) (maybe (viewDirection (t .direction)))
-        ++ tailOf (partIn (now (s .entry)) (t .date)) (partIn (now (s .entry)) (t .time))) from to
+        (headOf (now (feed .entry)) (partIn (now (message .entry)) (t .route)) (maybe (viewDirection (t .direction)))
+        ++ tailOf (partIn (now (message .entry)) (t .date)) (partIn (now (message .entry)) (t .time))) from to
         (now (keys .exit)) (now (marks .exit)) (now (order .exit)) r ⌝ }
 {
-    let len = decode::write_incomplete(keys, n, feed, s, t);
+    let len = decode::write_incomplete(keys, n, feed, message, t);
     decode_slots::settle(keys, marks, order, n, len, from, to)
 }
 
@@ -106,15 +106,15 @@ fn file_trip(
     order: &mut [u32],
     n: usize,
     feed: &[u8],
-    s: &[u8],
+    message: &[u8],
     t: Trip,
     from: u32,
     to: u32,
 ) -> usize
     requires { ⌜ Open (now keys) (now marks) (now order) n ⌝ }
     requires { ⌜ length (now feed) ≤ mostFeed ⌝ }
-    requires { ⌜ Short (now s) t ⌝ }
-    ensures { λ r. ⌜ Entered (now (feed .entry)) (now (s .entry)) t from to
+    requires { ⌜ Short (now message) t ⌝ }
+    ensures { λ r. ⌜ Entered (now (feed .entry)) (now (message .entry)) t from to
         (now (keys .entry)) (now (marks .entry)) (now (order .entry)) n
         (now (keys .exit)) (now (marks .exit)) (now (order .exit)) r ⌝ }
 {
@@ -122,16 +122,16 @@ fn file_trip(
         if t.route.len == 0 {
             return n;
         }
-        return file_incomplete(keys, marks, order, n, feed, s, t, from, to);
+        return file_incomplete(keys, marks, order, n, feed, message, t, from, to);
     }
     if t.date.len == 0 {
-        return file_base(keys, marks, order, n, s, t, from, to);
+        return file_base(keys, marks, order, n, message, t, from, to);
     }
-    let m = file_dated(keys, marks, order, n, s, t, from, to);
+    let m = file_dated(keys, marks, order, n, message, t, from, to);
     if m > MOST_TRIPS {
         return m;
     }
-    file_base(keys, marks, order, m, s, t, from, to)
+    file_base(keys, marks, order, m, message, t, from, to)
 }
 
 // An entity is applied: its keys go into the index with its place; a deleted one is passed over.
@@ -141,22 +141,32 @@ pub fn apply(
     order: &mut [u32],
     n: usize,
     feed: &[u8],
-    s: &[u8],
+    message: &[u8],
     start: usize,
     len: usize,
 ) -> usize
     requires { ⌜ Open (now keys) (now marks) (now order) n ⌝ }
     requires { ⌜ length (now feed) ≤ mostFeed ⌝ }
-    requires { ⌜ (start + len ≤ length (now s)) × (length (now s) ≤ mostMessage) ⌝ }
-    requires { ⌜ FineEntity (now s) start len ⌝ }
-    ensures { λ r. ⌜ Applies (now (feed .entry)) (now (s .entry)) start len
+    requires { ⌜ (start + len ≤ length (now message)) × (length (now message) ≤ mostMessage) ⌝ }
+    requires { ⌜ FineEntity (now message) start len ⌝ }
+    ensures { λ r. ⌜ Applies (now (feed .entry)) (now (message .entry)) start len
         (now (keys .entry)) (now (marks .entry)) (now (order .entry)) n
         (now (keys .exit)) (now (marks .exit)) (now (order .exit)) r ⌝ }
 {
-    if realtime_views::is_deleted(s, start, len) {
+    if realtime_views::is_deleted(message, start, len) {
         return n;
     }
-    let t = realtime_views::trip_of(s, start, len);
+    let t = realtime_views::trip_of(message, start, len);
     let end = start + len;
-    file_trip(keys, marks, order, n, feed, s, t, start as u32, end as u32)
+    file_trip(
+        keys,
+        marks,
+        order,
+        n,
+        feed,
+        message,
+        t,
+        start as u32,
+        end as u32,
+    )
 }

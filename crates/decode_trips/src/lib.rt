@@ -83,22 +83,23 @@ fn again(out: &mut [u8], w: Put, from: usize, to: usize) -> Put
 fn write_next(
     out: &mut [u8],
     w: Put,
-    s: &[u8],
+    message: &[u8],
     old: &[u8],
     from: usize,
     to: usize,
     last: Last,
 ) -> Put
-    requires { ⌜ length (now s) ≤ mostMessage ⌝ }
-    requires { ⌜ Fit (now s) (now old) (from, to) × (crowded (heldAt (now s) (now old) (from, to)) ≡ false) ⌝ }
-    requires { ⌜ Ready (now s) (now old) (now out) w last ⌝ }
+    requires { ⌜ length (now message) ≤ mostMessage ⌝ }
+    requires { ⌜ Fit (now message) (now old) (from, to)
+        × (crowded (heldAt (now message) (now old) (from, to)) ≡ false) ⌝ }
+    requires { ⌜ Ready (now message) (now old) (now out) w last ⌝ }
     ensures { λ r. ⌜ Adds (now (out .entry)) w (now (out .exit)) r
-        (write trip (heldAt (now (s .entry)) (now (old .entry)) (from, to))) ⌝ }
+        (write trip (heldAt (now (message .entry)) (now (old .entry)) (from, to))) ⌝ }
 {
     if is_last(last, from, to) {
         return again(out, w, last.start, last.end);
     }
-    decode_write::write_held(out, w, s, old, from, to)
+    decode_write::write_held(out, w, message, old, from, to)
 }
 
 // The next place, and what was written last.
@@ -114,14 +115,14 @@ fn write_entry(
     keys: &[u8],
     marks: &[u32],
     slot: usize,
-    s: &[u8],
+    message: &[u8],
     old: &[u8],
     last: Last,
 ) -> Entered
-    requires { ⌜ length (now s) ≤ mostMessage ⌝ }
-    requires { ⌜ GoodSlot (now s) (now old) (now keys) (now marks) slot ⌝ }
-    requires { ⌜ Ready (now s) (now old) (now out) w last ⌝ }
-    ensures { λ r. ⌜ EntryPut (now (s .entry)) (now (old .entry)) (now (keys .entry)) (now (marks .entry)) slot
+    requires { ⌜ length (now message) ≤ mostMessage ⌝ }
+    requires { ⌜ GoodSlot (now message) (now old) (now keys) (now marks) slot ⌝ }
+    requires { ⌜ Ready (now message) (now old) (now out) w last ⌝ }
+    ensures { λ r. ⌜ EntryPut (now (message .entry)) (now (old .entry)) (now (keys .entry)) (now (marks .entry)) slot
         (now (out .entry)) w (now (out .exit)) r ⌝ }
 {
     let key = KEY_BYTES * slot;
@@ -129,7 +130,7 @@ fn write_entry(
     let from = slices::word(marks, 3 * slot + 1);
     let to = slices::word(marks, 3 * slot + 2);
     let q = formats_write::text(out, w, keys, key, key + len);
-    let r = write_next(out, q, s, old, from, to, last);
+    let r = write_next(out, q, message, old, from, to, last);
     let start = place(q);
     let end = place(r);
     Entered {
@@ -151,14 +152,14 @@ fn put_entries(
     marks: &[u32],
     order: &[u32],
     n: usize,
-    s: &[u8],
+    message: &[u8],
     old: &[u8],
 ) -> Put
-    requires { ⌜ length (now s) ≤ mostMessage ⌝ }
+    requires { ⌜ length (now message) ≤ mostMessage ⌝ }
     requires { ⌜ n ≤ length (now order) ⌝ }
-    requires { ⌜ All (GoodSlot (now s) (now old) (now keys) (now marks)) (take n (now order)) ⌝ }
+    requires { ⌜ All (GoodSlot (now message) (now old) (now keys) (now marks)) (take n (now order)) ⌝ }
     ensures { λ r. ⌜ Adds (now (out .entry)) w (now (out .exit)) r
-        (manyW (write tripEntry) (held (now (s .entry)) (now (old .entry))
+        (manyW (write tripEntry) (held (now (message .entry)) (now (old .entry))
         (index (now (keys .entry)) (now (marks .entry)) (now (order .entry)) n))) ⌝ }
 {
     let Put::At(at) = w else {
@@ -177,7 +178,7 @@ fn put_entries(
     let mut i: usize = 0;
     while i < n {
         let slot = slices::word(order, i);
-        let e = write_entry(out, q, keys, marks, slot, s, old, last);
+        let e = write_entry(out, q, keys, marks, slot, message, old, last);
         q = e.put;
         let l = e.last;
         last = l;
@@ -194,15 +195,15 @@ pub fn write_trips(
     marks: &[u32],
     order: &[u32],
     n: usize,
-    s: &[u8],
+    message: &[u8],
     old: &[u8],
 ) -> Put
-    requires { ⌜ length (now s) ≤ mostMessage ⌝ }
-    requires { ⌜ Writable (now s) (now old) (now keys) (now marks) (now order) n ⌝ }
+    requires { ⌜ length (now message) ≤ mostMessage ⌝ }
+    requires { ⌜ Writable (now message) (now old) (now keys) (now marks) (now order) n ⌝ }
     ensures { λ r. ⌜ Adds (now (out .entry)) w (now (out .exit)) r
-        (write (list mostTrips tripEntry) (held (now (s .entry)) (now (old .entry))
+        (write (list mostTrips tripEntry) (held (now (message .entry)) (now (old .entry))
         (index (now (keys .entry)) (now (marks .entry)) (now (order .entry)) n))) ⌝ }
 {
     let q = formats_write::number(out, w, n as u64);
-    put_entries(out, q, keys, marks, order, n, s, old)
+    put_entries(out, q, keys, marks, order, n, message, old)
 }

@@ -86,23 +86,23 @@ pub fn note(updates: &mut [u32], n: usize, sequence: u32, from: u32, to: u32) ->
 
 // The places of an entity's updates by their sequences, a later one over an earlier one: how many they are. The first
 // above 128 is the last that is noted.
-pub fn updates_of(updates: &mut [u32], s: &[u8], start: usize, len: usize) -> usize
+pub fn updates_of(updates: &mut [u32], message: &[u8], start: usize, len: usize) -> usize
     requires { ⌜ length (now updates) ≡ updatesLength ⌝ }
-    requires { ⌜ (start + len ≤ length (now s)) × (length (now s) ≤ mostMessage) ⌝ }
-    ensures { λ r. ⌜ ListedUpdates (now (s .entry)) start len (now (updates .exit)) r ⌝ }
+    requires { ⌜ (start + len ≤ length (now message)) × (length (now message) ≤ mostMessage) ⌝ }
+    ensures { λ r. ⌜ ListedUpdates (now (message .entry)) start len (now (updates .exit)) r ⌝ }
 {
     let end = start + len;
     let mut walk = realtime_views::updates(start);
     let mut n: usize = 0;
     loop {
-        match realtime_views::next_update(slices::part(s, 0, end), walk) {
+        match realtime_views::next_update(slices::part(message, 0, end), walk) {
             Item::Done => return n,
             Item::At {
                 start: at,
                 len: size,
                 walk: rest,
             } => {
-                let sequence = realtime_views::sequence_at(s, at, size);
+                let sequence = realtime_views::sequence_at(message, at, size);
                 n = note(updates, n, sequence, at as u32, (at + size) as u32);
                 if n > MOST_UPDATES {
                     return n;
@@ -114,15 +114,15 @@ pub fn updates_of(updates: &mut [u32], s: &[u8], start: usize, len: usize) -> us
 }
 
 // How many updates an entity has, at their sequences or not: counted up to the first above 128.
-fn count_updates(s: &[u8], start: usize, len: usize) -> usize
-    requires { ⌜ start + len ≤ length (now s) ⌝ }
-    ensures { λ r. ⌜ Counted (now (s .entry)) start len r ⌝ }
+fn count_updates(message: &[u8], start: usize, len: usize) -> usize
+    requires { ⌜ start + len ≤ length (now message) ⌝ }
+    ensures { λ r. ⌜ Counted (now (message .entry)) start len r ⌝ }
 {
     let end = start + len;
     let mut walk = realtime_views::updates(start);
     let mut n: usize = 0;
     while n <= MOST_UPDATES {
-        match realtime_views::next_update(slices::part(s, 0, end), walk) {
+        match realtime_views::next_update(slices::part(message, 0, end), walk) {
             Item::Done => return n,
             Item::At {
                 start: _,
@@ -138,23 +138,23 @@ fn count_updates(s: &[u8], start: usize, len: usize) -> usize
 }
 
 // Whether the record of an entity has more than 128. Few records do, and counting tells of nearly all others.
-fn is_crowded(s: &[u8], start: usize, len: usize) -> bool
-    requires { ⌜ (start + len ≤ length (now s)) × (length (now s) ≤ mostMessage) ⌝ }
-    ensures { λ r. ⌜ CrowdedRead (now (s .entry)) start len r ⌝ }
+fn is_crowded(message: &[u8], start: usize, len: usize) -> bool
+    requires { ⌜ (start + len ≤ length (now message)) × (length (now message) ≤ mostMessage) ⌝ }
+    ensures { λ r. ⌜ CrowdedRead (now (message .entry)) start len r ⌝ }
 {
-    if count_updates(s, start, len) <= MOST_UPDATES {
+    if count_updates(message, start, len) <= MOST_UPDATES {
         return false;
     }
     let mut updates = [0u32; UPDATES_LENGTH];
-    updates_of(&mut updates, s, start, len) > MOST_UPDATES
+    updates_of(&mut updates, message, start, len) > MOST_UPDATES
 }
 
 // Whether the record at a place is of the message, and has more than 128; that at another place has not.
-fn place_crowded(s: &[u8], other_from: usize, other_to: usize, from: usize, to: usize) -> bool
-    requires { ⌜ length (now s) ≤ mostMessage ⌝ }
-    requires { ⌜ crowdedAt (now s) («other_from», «other_to») ≡ false ⌝ }
-    requires { ⌜ ReadableNew (now s) (from, to) ⌝ }
-    ensures { λ r. ⌜ r ≡ crowdedAt (now (s .entry)) (from, to) ⌝ }
+fn place_crowded(message: &[u8], other_from: usize, other_to: usize, from: usize, to: usize) -> bool
+    requires { ⌜ length (now message) ≤ mostMessage ⌝ }
+    requires { ⌜ crowdedAt (now message) («other_from», «other_to») ≡ false ⌝ }
+    requires { ⌜ ReadableNew (now message) (from, to) ⌝ }
+    ensures { λ r. ⌜ r ≡ crowdedAt (now (message .entry)) (from, to) ⌝ }
 {
     if from >= BEYOND {
         return false;
@@ -164,16 +164,16 @@ fn place_crowded(s: &[u8], other_from: usize, other_to: usize, from: usize, to: 
             return false;
         }
     }
-    is_crowded(s, from, to - from)
+    is_crowded(message, from, to - from)
 }
 
 // Whether one of the first n slots has such a record: the first that is found ends the search. A dated record has two
 // slots, one after the other as a rule, and is asked once then.
-pub fn any_crowded(marks: &[u32], order: &[u32], n: usize, s: &[u8]) -> bool
+pub fn any_crowded(marks: &[u32], order: &[u32], n: usize, message: &[u8]) -> bool
     requires { ⌜ (length (now marks) ≡ marksLength) × (length (now order) ≡ orderLength) ⌝ }
-    requires { ⌜ (n ≤ mostTrips) × (length (now s) ≤ mostMessage) ⌝ }
-    requires { ⌜ All (ReadableSlot (now s) (now marks)) (take n (now order)) ⌝ }
-    ensures { λ r. ⌜ r ≡ crowdedIn (now (s .entry)) (now (marks .entry)) (take n (now (order .entry))) ⌝ }
+    requires { ⌜ (n ≤ mostTrips) × (length (now message) ≤ mostMessage) ⌝ }
+    requires { ⌜ All (ReadableSlot (now message) (now marks)) (take n (now order)) ⌝ }
+    ensures { λ r. ⌜ r ≡ crowdedIn (now (message .entry)) (now (marks .entry)) (take n (now (order .entry))) ⌝ }
 {
     let mut from = BEYOND;
     let mut to = BEYOND;
@@ -182,7 +182,7 @@ pub fn any_crowded(marks: &[u32], order: &[u32], n: usize, s: &[u8]) -> bool
         let slot = slices::word(order, i);
         let a = slices::word(marks, 3 * slot + 1);
         let e = slices::word(marks, 3 * slot + 2);
-        if place_crowded(s, from, to, a, e) {
+        if place_crowded(message, from, to, a, e) {
             return true;
         }
         from = a;

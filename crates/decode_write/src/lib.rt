@@ -109,12 +109,12 @@ fn put_number(out: &mut [u8], w: Put, n: u64) -> Put
 }
 
 // A text of s. An absent one is empty.
-fn put_text(out: &mut [u8], w: Put, s: &[u8], t: TextPart) -> Put
-    requires { ⌜ PartInside (length (now s)) t ⌝ }
-    ensures { λ r. ⌜ Adds (now (out .entry)) w (now (out .exit)) r (textW (partIn (now (s .entry)) t)) ⌝ }
+fn put_text(out: &mut [u8], w: Put, message: &[u8], t: TextPart) -> Put
+    requires { ⌜ PartInside (length (now message)) t ⌝ }
+    ensures { λ r. ⌜ Adds (now (out .entry)) w (now (out .exit)) r (textW (partIn (now (message .entry)) t)) ⌝ }
 {
     let q = put_number(out, w, t.len as u64);
-    formats_write::stretch(out, q, s, t.start, t.start + t.len)
+    formats_write::stretch(out, q, message, t.start, t.start + t.len)
 }
 
 fn put_flag(out: &mut [u8], w: Put, b: bool) -> Put
@@ -195,35 +195,42 @@ fn put_event(out: &mut [u8], w: Put, e: Event) -> Put
 }
 
 // A stop update that was read, at its sequence.
-fn put_update(out: &mut [u8], w: Put, sequence: u32, s: &[u8], u: StopUpdate) -> Put
-    requires { ⌜ PartInside (length (now s)) (u .stop) ⌝ }
+fn put_update(out: &mut [u8], w: Put, sequence: u32, message: &[u8], u: StopUpdate) -> Put
+    requires { ⌜ PartInside (length (now message)) (u .stop) ⌝ }
     ensures { λ r. ⌜ Adds (now (out .entry)) w (now (out .exit)) r
-        (write (number32 & stopUpdate) (sequence, updateOf (viewStop (now (s .entry)) u))) ⌝ }
+        (write (number32 & stopUpdate) (sequence, updateOf (viewStop (now (message .entry)) u))) ⌝ }
 {
     let stop = u.stop;
     let arrival = u.arrival;
     let departure = u.departure;
     let w1 = put_number(out, w, sequence as u64);
-    let w2 = put_text(out, w1, s, stop);
+    let w2 = put_text(out, w1, message, stop);
     let w3 = put_event(out, w2, arrival);
     let w4 = put_event(out, w3, departure);
     put_flag(out, w4, u.skipped)
 }
 
 // The stop update of the message that stands from `from` up to `to`, at its sequence.
-fn write_update(out: &mut [u8], w: Put, sequence: u32, s: &[u8], from: usize, to: usize) -> Put
-    requires { ⌜ Readable stopTimeUpdate (now s) (from, to) ⌝ }
+fn write_update(
+    out: &mut [u8],
+    w: Put,
+    sequence: u32,
+    message: &[u8],
+    from: usize,
+    to: usize,
+) -> Put
+    requires { ⌜ Readable stopTimeUpdate (now message) (from, to) ⌝ }
     ensures { λ r. ⌜ Adds (now (out .entry)) w (now (out .exit)) r
-        (write (number32 & stopUpdate) (sequence, updateAt (now (s .entry)) (from, to))) ⌝ }
+        (write (number32 & stopUpdate) (sequence, updateAt (now (message .entry)) (from, to))) ⌝ }
 {
-    let u = realtime_views::stop_of(s, from, to - from);
-    put_update(out, w, sequence, s, u)
+    let u = realtime_views::stop_of(message, from, to - from);
+    put_update(out, w, sequence, message, u)
 }
 
 // A trip's record up to its updates: delay, cancelled, start date, route, direction, start time.
-fn put_head(out: &mut [u8], w: Put, s: &[u8], t: Trip) -> Put
-    requires { ⌜ TextsLie (length (now s)) t ⌝ }
-    ensures { λ r. ⌜ Adds (now (out .entry)) w (now (out .exit)) r (headW (viewTrip (now (s .entry)) t)) ⌝ }
+fn put_head(out: &mut [u8], w: Put, message: &[u8], t: Trip) -> Put
+    requires { ⌜ TextsLie (length (now message)) t ⌝ }
+    ensures { λ r. ⌜ Adds (now (out .entry)) w (now (out .exit)) r (headW (viewTrip (now (message .entry)) t)) ⌝ }
 {
     let delay = t.delay;
     let date = t.date;
@@ -232,18 +239,18 @@ fn put_head(out: &mut [u8], w: Put, s: &[u8], t: Trip) -> Put
     let time = t.time;
     let w1 = put_delay(out, w, delay);
     let w2 = put_flag(out, w1, t.cancelled);
-    let w3 = put_text(out, w2, s, date);
-    let w4 = put_text(out, w3, s, route);
+    let w3 = put_text(out, w2, message, date);
+    let w4 = put_text(out, w3, message, route);
     let w5 = put_direction(out, w4, direction);
-    put_text(out, w5, s, time)
+    put_text(out, w5, message, time)
 }
 
 // The updates of the first n lines.
-fn put_updates(out: &mut [u8], w: Put, updates: &[u32], n: usize, s: &[u8]) -> Put
+fn put_updates(out: &mut [u8], w: Put, updates: &[u32], n: usize, message: &[u8]) -> Put
     requires { ⌜ (n ≤ mostUpdates) × (length (now updates) ≡ updatesLength) ⌝ }
-    requires { ⌜ All (λ x. Readable stopTimeUpdate (now s) (x .1)) (laid n (now updates)) ⌝ }
+    requires { ⌜ All (λ x. Readable stopTimeUpdate (now message) (x .1)) (laid n (now updates)) ⌝ }
     ensures { λ r. ⌜ Adds (now (out .entry)) w (now (out .exit)) r
-        (manyW (write (number32 & stopUpdate)) (updatesAt (now (s .entry)) (laid n (now (updates .entry))))) ⌝ }
+        (manyW (write (number32 & stopUpdate)) (updatesAt (now (message .entry)) (laid n (now (updates .entry))))) ⌝ }
 {
     let mut q = w;
     let mut i: usize = 0;
@@ -251,49 +258,51 @@ fn put_updates(out: &mut [u8], w: Put, updates: &[u32], n: usize, s: &[u8]) -> P
         let sequence = updates[3 * i];
         let from = slices::word(updates, 3 * i + 1);
         let to = slices::word(updates, 3 * i + 2);
-        q = write_update(out, q, sequence, s, from, to);
+        q = write_update(out, q, sequence, message, from, to);
         i += 1;
     }
     q
 }
 
 // The record of the message's entity that stands from `from` up to `to`.
-fn write_record(out: &mut [u8], w: Put, s: &[u8], from: usize, to: usize) -> Put
-    requires { ⌜ length (now s) ≤ mostMessage ⌝ }
-    requires { ⌜ Readable feedEntity (now s) (from, to) × (crowded (recordAt (now s) (from, to)) ≡ false) ⌝ }
+fn write_record(out: &mut [u8], w: Put, message: &[u8], from: usize, to: usize) -> Put
+    requires { ⌜ length (now message) ≤ mostMessage ⌝ }
+    requires { ⌜ Readable feedEntity (now message) (from, to)
+        × (crowded (recordAt (now message) (from, to)) ≡ false) ⌝ }
     ensures { λ r. ⌜ Adds (now (out .entry)) w (now (out .exit)) r
-        (write trip (recordAt (now (s .entry)) (from, to))) ⌝ }
+        (write trip (recordAt (now (message .entry)) (from, to))) ⌝ }
 {
     let len = to - from;
     let mut updates = [0u32; UPDATES_LENGTH];
-    let n = decode_updates::updates_of(&mut updates, s, from, len);
-    let t = realtime_views::trip_of(s, from, len);
-    let w1 = put_head(out, w, s, t);
+    let n = decode_updates::updates_of(&mut updates, message, from, len);
+    let t = realtime_views::trip_of(message, from, len);
+    let w1 = put_head(out, w, message, t);
     let w2 = formats_write::number(out, w1, n as u64);
-    put_updates(out, w2, &updates, n, s)
+    put_updates(out, w2, &updates, n, message)
 }
 
 // The record at a place: made from the message, or copied from the old overlay.
-pub fn write_held(out: &mut [u8], w: Put, s: &[u8], old: &[u8], from: usize, to: usize) -> Put
-    requires { ⌜ length (now s) ≤ mostMessage ⌝ }
-    requires { ⌜ Fit (now s) (now old) (from, to) × (crowded (heldAt (now s) (now old) (from, to)) ≡ false) ⌝ }
+pub fn write_held(out: &mut [u8], w: Put, message: &[u8], old: &[u8], from: usize, to: usize) -> Put
+    requires { ⌜ length (now message) ≤ mostMessage ⌝ }
+    requires { ⌜ Fit (now message) (now old) (from, to)
+        × (crowded (heldAt (now message) (now old) (from, to)) ≡ false) ⌝ }
     ensures { λ r. ⌜ Adds (now (out .entry)) w (now (out .exit)) r
-        (write trip (heldAt (now (s .entry)) (now (old .entry)) (from, to))) ⌝ }
+        (write trip (heldAt (now (message .entry)) (now (old .entry)) (from, to))) ⌝ }
 {
     if from < BEYOND {
-        return write_record(out, w, s, from, to);
+        return write_record(out, w, message, from, to);
     }
     formats_write::stretch(out, w, old, from - BEYOND, to - BEYOND)
 }
 
 // Whether '@' is in the bytes of s from `from` up to `to`.
-fn has_at(s: &[u8], from: usize, to: usize) -> bool
-    requires { ⌜ (from ≤ to) × (to ≤ length (now s)) ⌝ }
-    ensures { λ r. ⌜ r ≡ hasByte 64 (take (to - from) (drop from (now (s .entry)))) ⌝ }
+fn has_at(message: &[u8], from: usize, to: usize) -> bool
+    requires { ⌜ (from ≤ to) × (to ≤ length (now message)) ⌝ }
+    ensures { λ r. ⌜ r ≡ hasByte 64 (take (to - from) (drop from (now (message .entry)))) ⌝ }
 {
     let mut i = from;
     while i < to {
-        if s[i] == b'@' {
+        if message[i] == b'@' {
             return true;
         }
         i += 1;

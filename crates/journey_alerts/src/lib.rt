@@ -35,35 +35,36 @@ pub struct LegAlerts {
     pub labels: usize,
 }
 
-fn texts(s: &[u8], at: usize) -> LegTexts
-    ensures { λ r. ⌜ LegTextsAt (now (s .entry)) at r ⌝ }
+fn texts(card: &[u8], at: usize) -> LegTexts
+    ensures { λ r. ⌜ LegTextsAt (now (card .entry)) at r ⌝ }
 {
-    let p = journey_places::leg(s, at);
+    let p = journey_places::leg(card, at);
     LegTexts {
-        mode: formats_read::text(s, at),
-        short: formats_read::text(s, p.short),
-        route: formats_read::text(s, p.route),
-        trip: formats_read::text(s, p.trip),
-        from: formats_read::text(s, p.from),
-        to: formats_read::text(s, p.to),
+        mode: formats_read::text(card, at),
+        short: formats_read::text(card, p.short),
+        route: formats_read::text(card, p.route),
+        trip: formats_read::text(card, p.trip),
+        from: formats_read::text(card, p.from),
+        to: formats_read::text(card, p.to),
     }
 }
 
 // The numbers of the leg's candidates among the alerts at p, and the places of these alerts; how many candidates there
 // are.
 fn prepare(
-    s: &[u8],
+    card: &[u8],
     t: LegTexts,
-    b: &[u8],
+    old: &[u8],
     p: usize,
     candidates: &mut [u16],
     met: &mut [u16],
     places: &mut [u32],
 ) -> usize
-    requires { ⌜ TextsIn (now s) t ⌝ }
+    requires { ⌜ TextsIn (now card) t ⌝ }
     requires { ⌜ (length (now candidates) ≡ 256) × (length (now met) ≡ mostMarks) × (length (now places) ≡ 256)
-        × (length (now b) ≤ mostOld) ⌝ }
-    ensures { λ r. ⌜ Prepared (now (s .entry)) t (now (b .entry)) p r (now (candidates .exit)) (now (places .exit)) ⌝ }
+        × (length (now old) ≤ mostOld) ⌝ }
+    ensures { λ r. ⌜ Prepared (now (card .entry)) t (now (old .entry)) p r (now (candidates .exit))
+        (now (places .exit)) ⌝ }
 {
     let trip = t.trip;
     let route = t.route;
@@ -77,14 +78,14 @@ fn prepare(
     let g = from.to;
     let h = to.from;
     let i = to.to;
-    alerts_search::places::note_alerts(b, p, places);
+    alerts_search::places::note_alerts(old, p, places);
     alerts_search::candidates::find(
-        b,
+        old,
         p,
-        &s[a..c],
-        &s[d..e],
-        &s[f..g],
-        &s[h..i],
+        &card[a..c],
+        &card[d..e],
+        &card[f..g],
+        &card[h..i],
         candidates,
         met,
     )
@@ -96,14 +97,14 @@ fn applies(
     text: &mut [u8],
     known: &mut [u32],
     slot: usize,
-    s: &[u8],
+    card: &[u8],
     t: LegTexts,
-    b: &[u8],
+    old: &[u8],
     p: usize,
 ) -> bool
-    requires { ⌜ TextsIn (now s) t ⌝ }
-    requires { ⌜ Knows (length (now text)) (now b) (now known) ⌝ }
-    ensures { λ r. ⌜ LegApplies (now (s .entry)) t (now (b .entry)) p (length (now (text .entry))) r
+    requires { ⌜ TextsIn (now card) t ⌝ }
+    requires { ⌜ Knows (length (now text)) (now old) (now known) ⌝ }
+    ensures { λ r. ⌜ LegApplies (now (card .entry)) t (now (old .entry)) p (length (now (text .entry))) r
         (now (known .exit)) ⌝ }
 {
     let mode = t.mode;
@@ -128,29 +129,29 @@ fn applies(
         text,
         known,
         slot,
-        b,
+        old,
         p,
-        &s[h..i],
-        &s[f..g],
-        &s[d..e],
-        &s[j..k],
-        &s[l..m],
-        &s[a..c],
+        &card[h..i],
+        &card[f..g],
+        &card[d..e],
+        &card[j..k],
+        &card[l..m],
+        &card[a..c],
     )
 }
 
 // A label is noted unless it is empty, and as long as there is room: how many there are then.
 fn note_label(
-    b: &[u8],
+    old: &[u8],
     froms: &mut [u32],
     tos: &mut [u32],
     n: usize,
     from: usize,
     to: usize,
 ) -> usize
-    requires { ⌜ SoundLabels (now b) (now froms) (now tos) n ⌝ }
-    requires { ⌜ Inside (now b) (from, to) × (length (now b) ≤ mostOld) ⌝ }
-    ensures { λ r. ⌜ LabelAdded (now (b .entry)) (now (froms .entry)) (now (tos .entry)) n (from, to)
+    requires { ⌜ SoundLabels (now old) (now froms) (now tos) n ⌝ }
+    requires { ⌜ Inside (now old) (from, to) × (length (now old) ≤ mostOld) ⌝ }
+    ensures { λ r. ⌜ LabelAdded (now (old .entry)) (now (froms .entry)) (now (tos .entry)) n (from, to)
         (now (froms .exit)) (now (tos .exit)) r ⌝ }
 {
     if to <= from {
@@ -159,7 +160,7 @@ fn note_label(
     if 1024 < n {
         return n;
     }
-    journey_labels::note(b, froms, tos, n, from, to)
+    journey_labels::note(old, froms, tos, n, from, to)
 }
 
 // One alert more, at p.
@@ -167,25 +168,25 @@ fn meet_alert(
     text: &mut [u8],
     known: &mut [u32],
     slot: usize,
-    s: &[u8],
+    card: &[u8],
     t: LegTexts,
-    b: &[u8],
+    old: &[u8],
     p: usize,
     froms: &mut [u32],
     tos: &mut [u32],
     h: LegAlerts,
 ) -> LegAlerts
-    requires { ⌜ TextsIn (now s) t ⌝ }
-    requires { ⌜ SoundLabels (now b) (now froms) (now tos) (h .labels) × (length (now b) ≤ mostOld) ⌝ }
-    requires { ⌜ Knows (length (now text)) (now b) (now known) ⌝ }
-    ensures { λ r. ⌜ AlertMet (now (s .entry)) t (now (b .entry)) p (length (now (text .entry)))
+    requires { ⌜ TextsIn (now card) t ⌝ }
+    requires { ⌜ SoundLabels (now old) (now froms) (now tos) (h .labels) × (length (now old) ≤ mostOld) ⌝ }
+    requires { ⌜ Knows (length (now text)) (now old) (now known) ⌝ }
+    ensures { λ r. ⌜ AlertMet (now (card .entry)) t (now (old .entry)) p (length (now (text .entry)))
         (now (froms .entry)) (now (tos .entry)) h (now (froms .exit)) (now (tos .exit)) r (now (known .exit)) ⌝ }
 {
-    if applies(text, known, slot, s, t, b, p) {
-        let l = alerts_apply::texts::label(b, p);
+    if applies(text, known, slot, card, t, old, p) {
+        let l = alerts_apply::texts::label(old, p);
         return LegAlerts {
             hit: true,
-            labels: note_label(b, froms, tos, h.labels, l.from, l.to),
+            labels: note_label(old, froms, tos, h.labels, l.from, l.to),
         };
     }
     h
@@ -223,9 +224,9 @@ fn slot_of(p: usize, number: usize) -> usize {
 
 // The candidates one after another, among the alerts at `from`.
 fn each_candidate(
-    s: &[u8],
+    card: &[u8],
     t: LegTexts,
-    b: &[u8],
+    old: &[u8],
     from: usize,
     candidates: &[u16],
     n: usize,
@@ -236,10 +237,11 @@ fn each_candidate(
     tos: &mut [u32],
     h: LegAlerts,
 ) -> LegAlerts
-    requires { ⌜ TextsIn (now s) t ⌝ }
-    requires { ⌜ SoundLabels (now b) (now froms) (now tos) (h .labels) × (length (now b) ≤ mostOld) ⌝ }
-    requires { ⌜ Knows (length (now text)) (now b) (now known) ⌝ }
-    ensures { λ r. ⌜ EachMet (now (s .entry)) t (now (b .entry)) (now (candidates .entry)) n (now (places .entry)) n
+    requires { ⌜ TextsIn (now card) t ⌝ }
+    requires { ⌜ SoundLabels (now old) (now froms) (now tos) (h .labels) × (length (now old) ≤ mostOld) ⌝ }
+    requires { ⌜ Knows (length (now text)) (now old) (now known) ⌝ }
+    ensures { λ r. ⌜ EachMet (now (card .entry)) t (now (old .entry)) (now (candidates .entry)) n
+        (now (places .entry)) n
         (length (now (text .entry))) (now (froms .entry)) (now (tos .entry)) h
         (now (froms .exit)) (now (tos .exit)) r (now (known .exit)) ⌝ }
 {
@@ -248,7 +250,18 @@ fn each_candidate(
     while k < n {
         let i = number_at(candidates, k);
         let p = place_at(places, i);
-        r = meet_alert(text, known, slot_of(from, i), s, t, b, p, froms, tos, r);
+        r = meet_alert(
+            text,
+            known,
+            slot_of(from, i),
+            card,
+            t,
+            old,
+            p,
+            froms,
+            tos,
+            r,
+        );
         k += 1;
     }
     r
@@ -256,9 +269,9 @@ fn each_candidate(
 
 // The alerts at p, over places and a text of their own.
 fn alerts_at(
-    s: &[u8],
+    card: &[u8],
     t: LegTexts,
-    b: &[u8],
+    old: &[u8],
     p: usize,
     candidates: &mut [u16],
     met: &mut [u16],
@@ -267,23 +280,23 @@ fn alerts_at(
     tos: &mut [u32],
     n: usize,
 ) -> LegAlerts
-    requires { ⌜ TextsIn (now s) t ⌝ }
-    requires { ⌜ Lent (now b) (now candidates) (now met) ⌝ }
-    requires { ⌜ SoundLabels (now b) (now froms) (now tos) n × Knows mostText (now b) (now known) ⌝ }
-    ensures { λ r. ⌜ AlertsAtMet (now (s .entry)) t (now (b .entry)) p mostText
+    requires { ⌜ TextsIn (now card) t ⌝ }
+    requires { ⌜ Lent (now old) (now candidates) (now met) ⌝ }
+    requires { ⌜ SoundLabels (now old) (now froms) (now tos) n × Knows mostText (now old) (now known) ⌝ }
+    ensures { λ r. ⌜ AlertsAtMet (now (card .entry)) t (now (old .entry)) p mostText
         (now (froms .entry)) (now (tos .entry)) n (now (froms .exit)) (now (tos .exit)) r (now (known .exit)) ⌝ }
 {
     let mut places = [0u32; MOST_ALERTS];
     let mut text = [0u8; MOST_TEXT];
-    let c = prepare(s, t, b, p, candidates, met, &mut places);
+    let c = prepare(card, t, old, p, candidates, met, &mut places);
     let h = LegAlerts {
         hit: false,
         labels: n,
     };
     each_candidate(
-        s,
+        card,
         t,
-        b,
+        old,
         p,
         candidates,
         c,
@@ -299,9 +312,9 @@ fn alerts_at(
 // The alerts of its trip's feed that apply to the leg at `at`: their labels go behind the n that are noted. `known` is
 // what is known of alerts, of whatever feed.
 pub fn leg(
-    s: &[u8],
+    card: &[u8],
     at: usize,
-    b: &[u8],
+    old: &[u8],
     noted: &[u32],
     candidates: &mut [u16],
     met: &mut [u16],
@@ -310,21 +323,21 @@ pub fn leg(
     tos: &mut [u32],
     n: usize,
 ) -> LegAlerts
-    requires { ⌜ Noted (now b) (now noted) ⌝ }
-    requires { ⌜ Lent (now b) (now candidates) (now met) ⌝ }
-    requires { ⌜ SoundLabels (now b) (now froms) (now tos) n × Knows mostText (now b) (now known) ⌝ }
-    ensures { λ r. ⌜ LegAlerted (now (s .entry)) at (now (b .entry)) (now (froms .entry)) (now (tos .entry)) n
+    requires { ⌜ Noted (now old) (now noted) ⌝ }
+    requires { ⌜ Lent (now old) (now candidates) (now met) ⌝ }
+    requires { ⌜ SoundLabels (now old) (now froms) (now tos) n × Knows mostText (now old) (now known) ⌝ }
+    ensures { λ r. ⌜ LegAlerted (now (card .entry)) at (now (old .entry)) (now (froms .entry)) (now (tos .entry)) n
         (now (froms .exit)) (now (tos .exit)) r (now (known .exit)) ⌝ }
 {
-    let t = texts(s, at);
+    let t = texts(card, at);
     let id = t.trip;
     let f = id.from;
     let e = id.to;
-    let Found::At(p) = overlay_resolve::alerts(b, noted, &s[f..e]) else {
+    let Found::At(p) = overlay_resolve::alerts(old, noted, &card[f..e]) else {
         return LegAlerts {
             hit: false,
             labels: n,
         };
     };
-    alerts_at(s, t, b, p, candidates, met, known, froms, tos, n)
+    alerts_at(card, t, old, p, candidates, met, known, froms, tos, n)
 }

@@ -170,15 +170,15 @@ fn minus(a: i64, d: i64) -> i64
 }
 
 // The card's departure and arrival, by the first pass; else as they arrived.
-fn card_times(s: &[u8], at: usize, g: Survey) -> CardTimes
-    requires { ⌜ at < length (now s) ⌝ }
-    ensures { λ r. ⌜ ReadsTimes g (now (s .entry)) at r ⌝ }
+fn card_times(card: &[u8], at: usize, g: Survey) -> CardTimes
+    requires { ⌜ at < length (now card) ⌝ }
+    ensures { λ r. ⌜ ReadsTimes g (now (card .entry)) at r ⌝ }
 {
-    let p = journey_places::card(s, at);
+    let p = journey_places::card(card, at);
     let first = g.first;
     let last = g.last;
-    let departure = given_or(formats_read::signed(s, p.departure), first);
-    let arrival = given_or(formats_read::signed(s, p.arrival), last);
+    let departure = given_or(formats_read::signed(card, p.departure), first);
+    let arrival = given_or(formats_read::signed(card, p.arrival), last);
     CardTimes { departure, arrival }
 }
 
@@ -194,12 +194,12 @@ fn head_of(out: &mut [u8], w: Put, t: CardTimes, duration: i64, status: u64) -> 
 }
 
 // The head of the card at `at`, by the first pass: all in front of its headers.
-pub fn head(s: &[u8], at: usize, g: Survey, out: &mut [u8], w: Put) -> Put
-    ensures { λ r. ⌜ PutsHead g (now (s .entry)) at (now (out .entry)) w (now (out .exit)) r ⌝ }
+pub fn head(card: &[u8], at: usize, g: Survey, out: &mut [u8], w: Put) -> Put
+    ensures { λ r. ⌜ PutsHead g (now (card .entry)) at (now (out .entry)) w (now (out .exit)) r ⌝ }
 {
-    if s.len() <= at {
+    if card.len() <= at {
         return Put::Full;
     }
-    let t = card_times(s, at, g);
+    let t = card_times(card, at, g);
     head_of(out, w, t, minus(t.arrival, t.departure), status(g))
 }

@@ -7,9 +7,9 @@ ghost use Rattle.overlay_noted.specs.promises.Noted.{Noted};
 ghost use Rattle.journey_enrich.specs.promises.Enrich.{HeadersUpTo, HeadersPut, Enriches};
 
 // The texts of the first n labels, which are places in b.
-fn each_header(b: &[u8], froms: &[u32], tos: &[u32], n: usize, out: &mut [u8], w: Put) -> Put
+fn each_header(old: &[u8], froms: &[u32], tos: &[u32], n: usize, out: &mut [u8], w: Put) -> Put
     requires { ⌜ (n ≤ length (now froms)) × (n ≤ length (now tos)) ⌝ }
-    ensures { λ r. ⌜ HeadersUpTo n (now (b .entry)) (now (froms .entry)) (now (tos .entry)) n
+    ensures { λ r. ⌜ HeadersUpTo n (now (old .entry)) (now (froms .entry)) (now (tos .entry)) n
         (now (out .entry)) w (now (out .exit)) r ⌝ }
 {
     let mut i = 0;
@@ -17,15 +17,15 @@ fn each_header(b: &[u8], froms: &[u32], tos: &[u32], n: usize, out: &mut [u8], w
     while i < n {
         let from = slices::word(froms, i);
         let to = slices::word(tos, i);
-        k = formats_write::text(out, k, b, from, to);
+        k = formats_write::text(out, k, old, from, to);
         i += 1;
     }
     k
 }
 
 // The list of headers: the n labels that were noted.
-pub fn headers(b: &[u8], froms: &[u32], tos: &[u32], n: usize, out: &mut [u8], w: Put) -> Put
-    ensures { λ r. ⌜ HeadersPut (now (b .entry)) (now (froms .entry)) (now (tos .entry)) n
+pub fn headers(old: &[u8], froms: &[u32], tos: &[u32], n: usize, out: &mut [u8], w: Put) -> Put
+    ensures { λ r. ⌜ HeadersPut (now (old .entry)) (now (froms .entry)) (now (tos .entry)) n
         (now (out .entry)) w (now (out .exit)) r ⌝ }
 {
     if froms.len() < n {
@@ -35,15 +35,15 @@ pub fn headers(b: &[u8], froms: &[u32], tos: &[u32], n: usize, out: &mut [u8], w
         return Put::Full;
     }
     let q = formats_write::number(out, w, n as u64);
-    each_header(b, froms, tos, n, out, q)
+    each_header(old, froms, tos, n, out, q)
 }
 
 // THE CARD at `at`, finished over the overlay b, whose trips' places are noted, by what a first pass over its legs
 // gathered: g, and n labels.
 pub fn enrich(
-    s: &[u8],
+    card: &[u8],
     at: usize,
-    b: &[u8],
+    old: &[u8],
     noted: &[u32],
     g: Survey,
     froms: &[u32],
@@ -52,15 +52,15 @@ pub fn enrich(
     out: &mut [u8],
     w: Put,
 ) -> Put
-    requires { ⌜ Noted (now b) (now noted) ⌝ }
-    ensures { λ r. ⌜ Enriches g n (now (s .entry)) at (now (b .entry)) (now (froms .entry)) (now (tos .entry))
+    requires { ⌜ Noted (now old) (now noted) ⌝ }
+    ensures { λ r. ⌜ Enriches g n (now (card .entry)) at (now (old .entry)) (now (froms .entry)) (now (tos .entry))
         (now (out .entry)) w (now (out .exit)) r ⌝ }
 {
-    if s.len() <= at {
+    if card.len() <= at {
         return Put::Full;
     }
-    let p = journey_places::card(s, at);
-    let h = journey_card::head(s, at, g, out, w);
-    let k = headers(b, froms, tos, n, out, h);
-    journey_finish::legs(s, p.legs, b, noted, out, k)
+    let p = journey_places::card(card, at);
+    let h = journey_card::head(card, at, g, out, w);
+    let k = headers(old, froms, tos, n, out, h);
+    journey_finish::legs(card, p.legs, old, noted, out, k)
 }

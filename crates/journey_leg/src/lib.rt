@@ -43,7 +43,7 @@ fn told(out: &mut [u8], w: Put, d: StopRealtime, a: StopRealtime) -> Put
 
 // The realtime times and delays that stand from `at` up to `to`, or those of the endpoints, where the leg is live.
 fn times(
-    s: &[u8],
+    card: &[u8],
     at: usize,
     to: usize,
     out: &mut [u8],
@@ -52,37 +52,37 @@ fn times(
     d: StopRealtime,
     a: StopRealtime,
 ) -> Put
-    ensures { λ k. ⌜ PutsTimes live d a (now (s .entry)) at to (now (out .entry)) w (now (out .exit)) k ⌝ }
+    ensures { λ k. ⌜ PutsTimes live d a (now (card .entry)) at to (now (out .entry)) w (now (out .exit)) k ⌝ }
 {
     if live {
         return told(out, w, d, a);
     }
-    formats_write::stretch(out, w, s, at, to)
+    formats_write::stretch(out, w, card, at, to)
 }
 
 // Whether the leg is cancelled.
-fn flag(s: &[u8], at: usize, to: usize, out: &mut [u8], w: Put, cancels: bool) -> Put
-    ensures { λ k. ⌜ PutsFlag cancels (now (s .entry)) at to (now (out .entry)) w (now (out .exit)) k ⌝ }
+fn flag(card: &[u8], at: usize, to: usize, out: &mut [u8], w: Put, cancels: bool) -> Put
+    ensures { λ k. ⌜ PutsFlag cancels (now (card .entry)) at to (now (out .entry)) w (now (out .exit)) k ⌝ }
 {
     if cancels {
         return formats_write::number(out, w, 1);
     }
-    formats_write::stretch(out, w, s, at, to)
+    formats_write::stretch(out, w, card, at, to)
 }
 
 // The vehicle's place.
-fn place(s: &[u8], at: usize, to: usize, out: &mut [u8], w: Put, v: OptionalPlace) -> Put
-    ensures { λ k. ⌜ PutsPlace v (now (s .entry)) at to (now (out .entry)) w (now (out .exit)) k ⌝ }
+fn place(card: &[u8], at: usize, to: usize, out: &mut [u8], w: Put, v: OptionalPlace) -> Put
+    ensures { λ k. ⌜ PutsPlace v (now (card .entry)) at to (now (out .entry)) w (now (out .exit)) k ⌝ }
 {
     match v {
-        OptionalPlace::Absent => formats_write::stretch(out, w, s, at, to),
+        OptionalPlace::Absent => formats_write::stretch(out, w, card, at, to),
         OptionalPlace::Present(p) => vehicle_place::write(out, w, p),
     }
 }
 
 // Times and delays, from `at` up to `flagged`, and whether the leg is cancelled, up to `to`.
 fn marks(
-    s: &[u8],
+    card: &[u8],
     at: usize,
     flagged: usize,
     to: usize,
@@ -90,17 +90,17 @@ fn marks(
     w: Put,
     r: LegRealtime,
 ) -> Put
-    ensures { λ k. ⌜ PutsMarks r (now (s .entry)) at flagged to (now (out .entry)) w (now (out .exit)) k ⌝ }
+    ensures { λ k. ⌜ PutsMarks r (now (card .entry)) at flagged to (now (out .entry)) w (now (out .exit)) k ⌝ }
 {
     let d = r.departs;
     let a = r.arrives;
-    let q = times(s, at, flagged, out, w, live(r), d, a);
-    flag(s, flagged, to, out, q, r.cancels)
+    let q = times(card, at, flagged, out, w, live(r), d, a);
+    flag(card, flagged, to, out, q, r.cancels)
 }
 
 // The leg at `at`, up to its middle stops.
 pub fn fore(
-    s: &[u8],
+    card: &[u8],
     at: usize,
     parts: ChangingPlaces,
     out: &mut [u8],
@@ -108,26 +108,34 @@ pub fn fore(
     r: LegRealtime,
     v: OptionalPlace,
 ) -> Put
-    ensures { λ k. ⌜ PutsFore r v (now (s .entry)) at parts (now (out .entry)) w (now (out .exit)) k ⌝ }
+    ensures { λ k. ⌜ PutsFore r v (now (card .entry)) at parts (now (out .entry)) w (now (out .exit)) k ⌝ }
 {
-    let w1 = formats_write::stretch(out, w, s, at, parts.realtime);
-    let w2 = marks(s, parts.realtime, parts.cancelled, parts.place, out, w1, r);
-    place(s, parts.place, parts.middles, out, w2, v)
+    let w1 = formats_write::stretch(out, w, card, at, parts.realtime);
+    let w2 = marks(
+        card,
+        parts.realtime,
+        parts.cancelled,
+        parts.place,
+        out,
+        w1,
+        r,
+    );
+    place(card, parts.place, parts.middles, out, w2, v)
 }
 
 // An optional time that stands from `at` up to `to`, or the event's own.
-fn event(s: &[u8], at: usize, to: usize, out: &mut [u8], w: Put, r: StopRealtime) -> Put
-    ensures { λ k. ⌜ PutsEvent r (now (s .entry)) at to (now (out .entry)) w (now (out .exit)) k ⌝ }
+fn event(card: &[u8], at: usize, to: usize, out: &mut [u8], w: Put, r: StopRealtime) -> Put
+    ensures { λ k. ⌜ PutsEvent r (now (card .entry)) at to (now (out .entry)) w (now (out .exit)) k ⌝ }
 {
     if r.has {
         return formats_write::optional_signed(out, w, OptionalSigned::Present(r.time));
     }
-    formats_write::stretch(out, w, s, at, to)
+    formats_write::stretch(out, w, card, at, to)
 }
 
 // The middle stop from `at` up to `to`, whose arrival and departure are a and d.
 pub fn middle(
-    s: &[u8],
+    card: &[u8],
     at: usize,
     to: usize,
     out: &mut [u8],
@@ -135,11 +143,11 @@ pub fn middle(
     a: StopRealtime,
     d: StopRealtime,
 ) -> Put
-    ensures { λ k. ⌜ PutsMiddle a d (now (s .entry)) at to (now (out .entry)) w (now (out .exit)) k ⌝ }
+    ensures { λ k. ⌜ PutsMiddle a d (now (card .entry)) at to (now (out .entry)) w (now (out .exit)) k ⌝ }
 {
-    let arrival = journey_places::middle_realtime(s, at);
-    let departure = formats_skip::past_optional_number(s, arrival);
-    let w1 = formats_write::stretch(out, w, s, at, arrival);
-    let w2 = event(s, arrival, departure, out, w1, a);
-    event(s, departure, to, out, w2, d)
+    let arrival = journey_places::middle_realtime(card, at);
+    let departure = formats_skip::past_optional_number(card, arrival);
+    let w1 = formats_write::stretch(out, w, card, at, arrival);
+    let w2 = event(card, arrival, departure, out, w1, a);
+    event(card, departure, to, out, w2, d)
 }

@@ -18,82 +18,82 @@ pub struct StopEvents {
 }
 
 // What is known of a stop, by the record that was found for the leg's trip in the overlay b.
-pub fn known(b: &[u8], row: Found, feed: &[u8], sequence: OptionalNumber, stop: &[u8]) -> Known
+pub fn known(old: &[u8], row: Found, feed: &[u8], sequence: OptionalNumber, stop: &[u8]) -> Known
     ensures { λ r. ⌜
-        LooksUp (now (b .entry)) row (now (feed .entry)) (givenNumber sequence) (now (stop .entry)) r ⌝ }
+        LooksUp (now (old .entry)) row (now (feed .entry)) (givenNumber sequence) (now (stop .entry)) r ⌝ }
 {
     let Found::At(p) = row else {
         return Known::Nothing;
     };
-    let Found::At(u) = overlay_updates::find_update(b, p, feed, sequence, stop) else {
+    let Found::At(u) = overlay_updates::find_update(old, p, feed, sequence, stop) else {
         return Known::Trip(p);
     };
     Known::Update(p, u)
 }
 
 // The events of a stop whose scheduled arrival and departure stand at `at`.
-fn events_at(s: &[u8], at: usize, b: &[u8], known: Known) -> StopEvents
-    ensures { λ r. ⌜ EventsAt (now (s .entry)) at (now (b .entry)) known r ⌝ }
+fn events_at(card: &[u8], at: usize, old: &[u8], known: Known) -> StopEvents
+    ensures { λ r. ⌜ EventsAt (now (card .entry)) at (now (old .entry)) known r ⌝ }
 {
-    let a = journey_times::scheduled(s, at);
-    let d = journey_times::scheduled(s, formats_skip::past_number(s, at));
+    let a = journey_times::scheduled(card, at);
+    let d = journey_times::scheduled(card, formats_skip::past_number(card, at));
     StopEvents {
-        arrival: journey_times::apply_time(Event::Arrival, a, b, known),
-        departure: journey_times::apply_time(Event::Departure, d, b, known),
+        arrival: journey_times::apply_time(Event::Arrival, a, old, known),
+        departure: journey_times::apply_time(Event::Departure, d, old, known),
     }
 }
 
 // The events of the middle stop at `at`.
-fn middle_events(s: &[u8], at: usize, b: &[u8], row: Found, feed: &[u8]) -> StopEvents
-    ensures { λ r. ⌜ MiddleEvents (now (s .entry)) at (now (b .entry)) row (now (feed .entry)) r ⌝ }
+fn middle_events(card: &[u8], at: usize, old: &[u8], row: Found, feed: &[u8]) -> StopEvents
+    ensures { λ r. ⌜ MiddleEvents (now (card .entry)) at (now (old .entry)) row (now (feed .entry)) r ⌝ }
 {
-    let t = formats_read::text(s, at);
+    let t = formats_read::text(card, at);
     let from = t.from;
     let to = t.to;
-    let k = known(b, row, feed, OptionalNumber::Absent, &s[from..to]);
-    events_at(s, to, b, k)
+    let k = known(old, row, feed, OptionalNumber::Absent, &card[from..to]);
+    events_at(card, to, old, k)
 }
 
 // The middle stop from `at` up to `to`.
 fn middle(
-    s: &[u8],
+    card: &[u8],
     at: usize,
     to: usize,
-    b: &[u8],
+    old: &[u8],
     row: Found,
     feed: &[u8],
     out: &mut [u8],
     w: Put,
 ) -> Put
-    ensures { λ r. ⌜ StopAnew (now (s .entry)) at to (now (b .entry)) row (now (feed .entry))
+    ensures { λ r. ⌜ StopAnew (now (card .entry)) at to (now (old .entry)) row (now (feed .entry))
         (now (out .entry)) w (now (out .exit)) r ⌝ }
 {
-    let e = middle_events(s, at, b, row, feed);
+    let e = middle_events(card, at, old, row, feed);
     let a = e.arrival;
     let d = e.departure;
-    journey_leg::middle(s, at, to, out, w, a, d)
+    journey_leg::middle(card, at, to, out, w, a, d)
 }
 
 // The n middle stops from `at` on.
 fn each_middle(
-    s: &[u8],
+    card: &[u8],
     at: usize,
     n: u64,
-    b: &[u8],
+    old: &[u8],
     row: Found,
     feed: &[u8],
     out: &mut [u8],
     w: Put,
 ) -> Put
-    ensures { λ r. ⌜ StopsAnew (now (s .entry)) at n (now (b .entry)) row (now (feed .entry))
+    ensures { λ r. ⌜ StopsAnew (now (card .entry)) at n (now (old .entry)) row (now (feed .entry))
         (now (out .entry)) w (now (out .exit)) r ⌝ }
 {
     let mut p = at;
     let mut left = n;
     let mut k = w;
     while 0 < left {
-        let e = journey_places::past_middle(s, p);
-        k = middle(s, p, e, b, row, feed, out, k);
+        let e = journey_places::past_middle(card, p);
+        k = middle(card, p, e, old, row, feed, out, k);
         p = e;
         left -= 1;
     }
@@ -101,21 +101,29 @@ fn each_middle(
 }
 
 // The list of middle stops at `at`.
-fn middles(s: &[u8], at: usize, b: &[u8], row: Found, feed: &[u8], out: &mut [u8], w: Put) -> Put
-    ensures { λ r. ⌜ ListAnew (now (s .entry)) at (now (b .entry)) row (now (feed .entry))
+fn middles(
+    card: &[u8],
+    at: usize,
+    old: &[u8],
+    row: Found,
+    feed: &[u8],
+    out: &mut [u8],
+    w: Put,
+) -> Put
+    ensures { λ r. ⌜ ListAnew (now (card .entry)) at (now (old .entry)) row (now (feed .entry))
         (now (out .entry)) w (now (out .exit)) r ⌝ }
 {
-    let n = formats_read::number(s, at);
+    let n = formats_read::number(card, at);
     let q = formats_write::number(out, w, n.value);
-    each_middle(s, n.next, n.value, b, row, feed, out, q)
+    each_middle(card, n.next, n.value, old, row, feed, out, q)
 }
 
 // The transit leg from `at` up to `to`, by what look-ups gave for it.
 pub fn transit(
-    s: &[u8],
+    card: &[u8],
     at: usize,
     to: usize,
-    b: &[u8],
+    old: &[u8],
     row: Found,
     feed: &[u8],
     r: LegRealtime,
@@ -123,64 +131,74 @@ pub fn transit(
     out: &mut [u8],
     w: Put,
 ) -> Put
-    ensures { λ k. ⌜ LegAnew r v (now (s .entry)) at to (now (b .entry)) row (now (feed .entry))
+    ensures { λ k. ⌜ LegAnew r v (now (card .entry)) at to (now (old .entry)) row (now (feed .entry))
         (now (out .entry)) w (now (out .exit)) k ⌝ }
 {
-    let parts = journey_places::changing(s, at);
-    let w1 = journey_leg::fore(s, at, parts, out, w, r, v);
-    let w2 = middles(s, parts.middles, b, row, feed, out, w1);
-    let end = journey_places::past_middles(s, parts.middles);
-    formats_write::stretch(out, w2, s, end, to)
+    let parts = journey_places::changing(card, at);
+    let w1 = journey_leg::fore(card, at, parts, out, w, r, v);
+    let w2 = middles(card, parts.middles, old, row, feed, out, w1);
+    let end = journey_places::past_middles(card, parts.middles);
+    formats_write::stretch(out, w2, card, end, to)
 }
 
 // An endpoint of a leg, whose stop, sequence and scheduled time stand at these places.
 fn endpoint(
-    s: &[u8],
+    card: &[u8],
     e: Event,
     stop: usize,
     sequence: usize,
     time: usize,
-    b: &[u8],
+    old: &[u8],
     row: Found,
     feed: &[u8],
 ) -> StopRealtime
-    ensures { λ r. ⌜ EndpointAt (now (s .entry)) e stop sequence time (now (b .entry)) row (now (feed .entry)) r ⌝ }
+    ensures { λ r. ⌜ EndpointAt (now (card .entry)) e stop sequence time (now (old .entry)) row
+        (now (feed .entry)) r ⌝ }
 {
-    let t = formats_read::text(s, stop);
+    let t = formats_read::text(card, stop);
     let from = t.from;
     let to = t.to;
-    let n = formats_read::number(s, sequence).value;
-    let k = known(b, row, feed, OptionalNumber::Present(n), &s[from..to]);
-    journey_times::apply_time(e, journey_times::scheduled(s, time), b, k)
+    let n = formats_read::number(card, sequence).value;
+    let k = known(old, row, feed, OptionalNumber::Present(n), &card[from..to]);
+    journey_times::apply_time(e, journey_times::scheduled(card, time), old, k)
 }
 
 // Whether the record that was found is of a cancelled trip.
-fn cancels(b: &[u8], row: Found) -> bool
-    ensures { λ r. ⌜ CancelsBy (now (b .entry)) row r ⌝ }
+fn cancels(old: &[u8], row: Found) -> bool
+    ensures { λ r. ⌜ CancelsBy (now (old .entry)) row r ⌝ }
 {
     match row {
         Found::Missing => false,
-        Found::At(p) => journey_times::cancelled(b, p),
+        Found::At(p) => journey_times::cancelled(old, p),
     }
 }
 
 // What look-ups give for the transit leg at `at`.
-pub fn endpoints(s: &[u8], at: usize, b: &[u8], row: Found, feed: &[u8]) -> LegRealtime
-    ensures { λ r. ⌜ LegKnown (now (s .entry)) at (now (b .entry)) row (now (feed .entry)) r ⌝ }
+pub fn endpoints(card: &[u8], at: usize, old: &[u8], row: Found, feed: &[u8]) -> LegRealtime
+    ensures { λ r. ⌜ LegKnown (now (card .entry)) at (now (old .entry)) row (now (feed .entry)) r ⌝ }
 {
-    let p = journey_places::leg(s, at);
+    let p = journey_places::leg(card, at);
     let departs = endpoint(
-        s,
+        card,
         Event::Departure,
         p.from,
         p.board,
         p.departure,
-        b,
+        old,
         row,
         feed,
     );
-    let arrives = endpoint(s, Event::Arrival, p.to, p.alight, p.arrival, b, row, feed);
-    let cancels = cancels(b, row);
+    let arrives = endpoint(
+        card,
+        Event::Arrival,
+        p.to,
+        p.alight,
+        p.arrival,
+        old,
+        row,
+        feed,
+    );
+    let cancels = cancels(old, row);
     LegRealtime {
         departs,
         arrives,

@@ -17,21 +17,21 @@ pub struct CardSurvey {
 }
 
 // One transit leg more, at `at`, by what look-ups gave for it and whether an alert applies.
-fn one_more(s: &[u8], at: usize, seen: Survey, r: LegRealtime, hit: bool) -> Survey
-    ensures { λ x. ⌜ MeetsLeg (now (s .entry)) at seen r hit x ⌝ }
+fn one_more(card: &[u8], at: usize, seen: Survey, r: LegRealtime, hit: bool) -> Survey
+    ensures { λ x. ⌜ MeetsLeg (now (card .entry)) at seen r hit x ⌝ }
 {
-    let p = journey_places::leg(s, at).realtime;
-    let departure = formats_read::optional_signed(s, p);
-    let q = formats_skip::past_optional_number(s, p);
-    let arrival = formats_read::optional_signed(s, q);
+    let p = journey_places::leg(card, at).realtime;
+    let departure = formats_read::optional_signed(card, p);
+    let q = formats_skip::past_optional_number(card, p);
+    let arrival = formats_read::optional_signed(card, q);
     journey_card::meet(seen, r, hit, departure, arrival)
 }
 
 // One leg more: a walk adds nothing.
 fn leg(
-    s: &[u8],
+    card: &[u8],
     at: usize,
-    b: &[u8],
+    old: &[u8],
     noted: &[u32],
     candidates: &mut [u16],
     met: &mut [u16],
@@ -40,22 +40,33 @@ fn leg(
     tos: &mut [u32],
     c: CardSurvey,
 ) -> CardSurvey
-    requires { ⌜ Noted (now b) (now noted) ⌝ }
-    requires { ⌜ Lent (now b) (now candidates) (now met) ⌝ }
-    requires { ⌜ SoundLabels (now b) (now froms) (now tos) (c .labels) × Knows mostText (now b) (now known) ⌝ }
-    ensures { λ r. ⌜ LegSurveyed (now (s .entry)) at (now (b .entry)) (now (froms .entry)) (now (tos .entry)) c
+    requires { ⌜ Noted (now old) (now noted) ⌝ }
+    requires { ⌜ Lent (now old) (now candidates) (now met) ⌝ }
+    requires { ⌜ SoundLabels (now old) (now froms) (now tos) (c .labels) × Knows mostText (now old) (now known) ⌝ }
+    ensures { λ r. ⌜ LegSurveyed (now (card .entry)) at (now (old .entry)) (now (froms .entry)) (now (tos .entry)) c
         (now (froms .exit)) (now (tos .exit)) r (now (known .exit)) ⌝ }
 {
-    if s.len() <= at {
+    if card.len() <= at {
         return c;
     }
-    if formats::tag(s, at) == 1 {
+    if formats::tag(card, at) == 1 {
         let p = at + 1;
-        let r = journey_finish::look(s, p, b, noted);
-        let a = journey_alerts::leg(s, p, b, noted, candidates, met, known, froms, tos, c.labels);
-        let old = c.seen;
+        let r = journey_finish::look(card, p, old, noted);
+        let a = journey_alerts::leg(
+            card,
+            p,
+            old,
+            noted,
+            candidates,
+            met,
+            known,
+            froms,
+            tos,
+            c.labels,
+        );
+        let seen = c.seen;
         return CardSurvey {
-            seen: one_more(s, p, old, r, a.hit),
+            seen: one_more(card, p, seen, r, a.hit),
             labels: a.labels,
         };
     }
@@ -64,10 +75,10 @@ fn leg(
 
 // The n legs from `at` on.
 fn each_leg(
-    s: &[u8],
+    card: &[u8],
     at: usize,
     n: u64,
-    b: &[u8],
+    old: &[u8],
     noted: &[u32],
     candidates: &mut [u16],
     met: &mut [u16],
@@ -75,11 +86,12 @@ fn each_leg(
     froms: &mut [u32],
     tos: &mut [u32],
 ) -> CardSurvey
-    requires { ⌜ Noted (now b) (now noted) ⌝ }
-    requires { ⌜ Lent (now b) (now candidates) (now met) ⌝ }
+    requires { ⌜ Noted (now old) (now noted) ⌝ }
+    requires { ⌜ Lent (now old) (now candidates) (now met) ⌝ }
     requires { ⌜ (length (now froms) ≡ labelsLength) × (length (now tos) ≡ labelsLength)
-        × Knows mostText (now b) (now known) ⌝ }
-    ensures { λ r. ⌜ EachSurveyed (now (s .entry)) at n (now (b .entry)) (now (froms .exit)) (now (tos .exit)) r ⌝ }
+        × Knows mostText (now old) (now known) ⌝ }
+    ensures { λ r. ⌜ EachSurveyed (now (card .entry)) at n (now (old .entry)) (now (froms .exit))
+        (now (tos .exit)) r ⌝ }
 {
     let mut p = at;
     let mut left = n;
@@ -88,8 +100,8 @@ fn each_leg(
         labels: 0,
     };
     while 0 < left {
-        c = leg(s, p, b, noted, candidates, met, known, froms, tos, c);
-        p = journey_places::past_leg(s, p);
+        c = leg(card, p, old, noted, candidates, met, known, froms, tos, c);
+        p = journey_places::past_leg(card, p);
         left -= 1;
     }
     c
@@ -97,9 +109,9 @@ fn each_leg(
 
 // The list of legs at `at`.
 pub fn survey(
-    s: &[u8],
+    card: &[u8],
     at: usize,
-    b: &[u8],
+    old: &[u8],
     noted: &[u32],
     candidates: &mut [u16],
     met: &mut [u16],
@@ -107,18 +119,18 @@ pub fn survey(
     froms: &mut [u32],
     tos: &mut [u32],
 ) -> CardSurvey
-    requires { ⌜ Noted (now b) (now noted) ⌝ }
-    requires { ⌜ Lent (now b) (now candidates) (now met) ⌝ }
+    requires { ⌜ Noted (now old) (now noted) ⌝ }
+    requires { ⌜ Lent (now old) (now candidates) (now met) ⌝ }
     requires { ⌜ (length (now froms) ≡ labelsLength) × (length (now tos) ≡ labelsLength)
-        × Knows mostText (now b) (now known) ⌝ }
-    ensures { λ r. ⌜ Surveyed (now (s .entry)) at (now (b .entry)) (now (froms .exit)) (now (tos .exit)) r ⌝ }
+        × Knows mostText (now old) (now known) ⌝ }
+    ensures { λ r. ⌜ Surveyed (now (card .entry)) at (now (old .entry)) (now (froms .exit)) (now (tos .exit)) r ⌝ }
 {
-    let n = formats_read::number(s, at);
+    let n = formats_read::number(card, at);
     each_leg(
-        s,
+        card,
         n.next,
         n.value,
-        b,
+        old,
         noted,
         candidates,
         met,

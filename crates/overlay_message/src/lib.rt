@@ -71,22 +71,22 @@ fn write_body(
     marks: &[u32],
     order: &[u32],
     n: usize,
-    s: &[u8],
+    message: &[u8],
     home: &[u8],
     p: Parts,
 ) -> Put
-    requires { ⌜ length (now s) ≤ mostMessage ⌝ }
-    requires { ⌜ Writable (now s) (now home) (now keys) (now marks) (now order) n ⌝ }
+    requires { ⌜ length (now message) ≤ mostMessage ⌝ }
+    requires { ⌜ Writable (now message) (now home) (now keys) (now marks) (now order) n ⌝ }
     ensures { λ r. ⌜
         ((F : Feed) (a e : ℕ) → PartsOf (now (home .entry)) F a e p
         → Adds (now (out .entry)) w (now (out .exit)) r (write state.feed (feedWith
         (timestampAfter (viewTimestamp given) (givenSigned known)) count
-        (held (now (s .entry)) (now (home .entry)) (index (now (keys .entry)) (now (marks .entry))
+        (held (now (message .entry)) (now (home .entry)) (index (now (keys .entry)) (now (marks .entry))
         (now (order .entry)) n)) (vehiclesOf F) (alertsOf F)))) ⌝ }
 {
     let w1 = put_timestamp(out, w, given, known);
     let w2 = formats_write::number(out, w1, count);
-    let w3 = decode_trips::write_trips(out, w2, keys, marks, order, n, s, home);
+    let w3 = decode_trips::write_trips(out, w2, keys, marks, order, n, message, home);
     formats_write::stretch(out, w3, home, p.vehicles, p.end)
 }
 
@@ -99,20 +99,20 @@ fn write_feed(
     order: &[u32],
     n: usize,
     feed: &[u8],
-    s: &[u8],
+    message: &[u8],
     home: &[u8],
     p: Parts,
 ) -> Put
-    requires { ⌜ length (now s) ≤ mostMessage ⌝ }
-    requires { ⌜ Writable (now s) (now home) (now keys) (now marks) (now order) n ⌝ }
+    requires { ⌜ length (now message) ≤ mostMessage ⌝ }
+    requires { ⌜ Writable (now message) (now home) (now keys) (now marks) (now order) n ⌝ }
     ensures { λ r. ⌜
         ((F : Feed) (a e : ℕ) (t : Tree) → PartsOf (now (home .entry)) F a e p
-        → tree schema.feed feedMessage (now (s .entry)) ≡ some t
+        → tree schema.feed feedMessage (now (message .entry)) ≡ some t
         → Adds (now (out .entry)) w (now (out .exit)) r (write state.feed (feedAfter (now (feed .entry)) t F
-        (held (now (s .entry)) (now (home .entry)) (index (now (keys .entry)) (now (marks .entry))
+        (held (now (message .entry)) (now (home .entry)) (index (now (keys .entry)) (now (marks .entry))
         (now (order .entry)) n))))) ⌝ }
 {
-    let h = realtime_views::header_of(s);
+    let h = realtime_views::header_of(message);
     let given = h.timestamp;
     let known = p.timestamp;
     let count = decode_write::count_left(feed, keys, marks, order, n) as u64;
@@ -126,7 +126,7 @@ fn write_feed(
         marks,
         order,
         n,
-        s,
+        message,
         home,
         p,
     )
@@ -140,7 +140,7 @@ fn write_state(
     order: &[u32],
     n: usize,
     feed: &[u8],
-    s: &[u8],
+    message: &[u8],
     old: &[u8],
     end: usize,
     home: &[u8],
@@ -149,20 +149,20 @@ fn write_state(
     to: usize,
     count: u64,
 ) -> Put
-    requires { ⌜ length (now s) ≤ mostMessage ⌝ }
-    requires { ⌜ Writable (now s) (now home) (now keys) (now marks) (now order) n ⌝ }
+    requires { ⌜ length (now message) ≤ mostMessage ⌝ }
+    requires { ⌜ Writable (now message) (now home) (now keys) (now marks) (now order) n ⌝ }
     ensures { λ r. ⌜
         ((st : State) (F : Feed) (a e : ℕ) (t : Tree)
         → Spot (now (old .entry)) end st (now (feed .entry)) from to count → PartsOf (now (home .entry)) F a e p
-        → tree schema.feed feedMessage (now (s .entry)) ≡ some t
+        → tree schema.feed feedMessage (now (message .entry)) ≡ some t
         → Wrote (now (new .entry)) (now (new .exit)) r (write overlay (putFeed (now (feed .entry))
         (feedAfter (now (feed .entry)) t F
-        (held (now (s .entry)) (now (home .entry)) (index (now (keys .entry)) (now (marks .entry))
+        (held (now (message .entry)) (now (home .entry)) (index (now (keys .entry)) (now (marks .entry))
         (now (order .entry)) n))) (versionOf st) st))) ⌝ }
 {
     let version = overlay_feeds::read_head(old).version;
     let w1 = overlay_frame::opening(new, Put::At(0), version, count, old, from, feed);
-    let w2 = write_feed(new, w1, keys, marks, order, n, feed, s, home, p);
+    let w2 = write_feed(new, w1, keys, marks, order, n, feed, message, home, p);
     overlay_frame::closing(new, w2, old, to, end)
 }
 
@@ -174,7 +174,7 @@ fn change(
     marks: &mut [u32],
     order: &mut [u32],
     feed: &[u8],
-    s: &[u8],
+    message: &[u8],
     old: &[u8],
     end: usize,
     from: usize,
@@ -184,14 +184,14 @@ fn change(
     body: usize,
 ) -> Put
     requires { ⌜ Lent (now keys) (now marks) (now order) ⌝ }
-    requires { ⌜ (length (now feed) ≤ mostFeed) × (length (now s) ≤ mostMessage) ⌝ }
-    requires { ⌜ JudgedMessage (now s) ⌝ }
+    requires { ⌜ (length (now feed) ≤ mostFeed) × (length (now message) ≤ mostMessage) ⌝ }
+    requires { ⌜ JudgedMessage (now message) ⌝ }
     requires { ⌜ Ready (now old) end (now feed) from known count (now home) body ⌝ }
     ensures { λ r. ⌜
-        Leads (now (new .entry)) (now (new .exit)) r (now (feed .entry)) (now (s .entry)) (now (old .entry)) ⌝ }
+        Leads (now (new .entry)) (now (new .exit)) r (now (feed .entry)) (now (message .entry)) (now (old .entry)) ⌝ }
 {
     let front = overlay_feeds::read_front(home, body);
-    match decode_index::leave(keys, marks, order, feed, s, home, front.trips) {
+    match decode_index::leave(keys, marks, order, feed, message, home, front.trips) {
         Left::ManyTrips => Put::Full,
         Left::ManyUpdates => Put::Full,
         Left::Trips(n, vehicles) => {
@@ -204,7 +204,7 @@ fn change(
                 order,
                 n,
                 feed,
-                s,
+                message,
                 old,
                 end,
                 home,
@@ -225,16 +225,16 @@ pub fn after_message(
     marks: &mut [u32],
     order: &mut [u32],
     feed: &[u8],
-    s: &[u8],
+    message: &[u8],
     old: &[u8],
     end: usize,
 ) -> Put
     requires { ⌜ Lent (now keys) (now marks) (now order) ⌝ }
-    requires { ⌜ (length (now feed) ≤ mostFeed) × (length (now s) ≤ mostMessage) ⌝ }
-    requires { ⌜ JudgedMessage (now s) ⌝ }
+    requires { ⌜ (length (now feed) ≤ mostFeed) × (length (now message) ≤ mostMessage) ⌝ }
+    requires { ⌜ JudgedMessage (now message) ⌝ }
     requires { ⌜ Open (now old) end × (length (now old) ≤ mostOld) ⌝ }
     ensures { λ r. ⌜
-        Leads (now (new .entry)) (now (new .exit)) r (now (feed .entry)) (now (s .entry)) (now (old .entry)) ⌝ }
+        Leads (now (new .entry)) (now (new .exit)) r (now (feed .entry)) (now (message .entry)) (now (old .entry)) ⌝ }
 {
     match overlay_frame::spot(old, feed) {
         FeedSpot::Full => Put::Full,
@@ -245,7 +245,7 @@ pub fn after_message(
                 marks,
                 order,
                 feed,
-                s,
+                message,
                 old,
                 end,
                 from,
@@ -262,7 +262,7 @@ pub fn after_message(
                 marks,
                 order,
                 feed,
-                s,
+                message,
                 old,
                 end,
                 from,

@@ -11,28 +11,28 @@ ghost use Rattle.overlay_resolve.specs.promises.Shown.{ShowsVehicle, Sho
 ghost use Rattle.overlay_resolve.specs.promises.Shown.{inTrips, byRoute, recordFor};
 
 // The place of a trip's vehicle.
-pub fn vehicle(s: &[u8], places: &[u32], trip: &[u8]) -> OptionalPlace
-    requires { ⌜ Noted (now s) (now places) ⌝ }
-    ensures { λ r. ⌜ ShowsVehicle (now (s .entry)) (now (trip .entry)) r ⌝ }
+pub fn vehicle(old: &[u8], noted: &[u32], trip: &[u8]) -> OptionalPlace
+    requires { ⌜ Noted (now old) (now noted) ⌝ }
+    ensures { λ r. ⌜ ShowsVehicle (now (old .entry)) (now (trip .entry)) r ⌝ }
 {
     let n = overlay_ids::feed_end(trip);
-    match overlay_places::feed_rank(s, places, &trip[..n]) {
+    match overlay_places::feed_rank(old, noted, &trip[..n]) {
         FeedRank::At(r) => {
-            let p = overlay_places::vehicles_place(places, r);
-            overlay_vehicle::vehicle(s, p, trip)
+            let p = overlay_places::vehicles_place(noted, r);
+            overlay_vehicle::vehicle(old, p, trip)
         }
         FeedRank::Missing => OptionalPlace::Absent,
     }
 }
 
 // The place of the alerts of a trip's feed.
-pub fn alerts(s: &[u8], places: &[u32], trip: &[u8]) -> Found
-    requires { ⌜ Noted (now s) (now places) ⌝ }
-    ensures { λ r. ⌜ ShowsAlerts (now (s .entry)) (now (trip .entry)) r ⌝ }
+pub fn alerts(old: &[u8], noted: &[u32], trip: &[u8]) -> Found
+    requires { ⌜ Noted (now old) (now noted) ⌝ }
+    ensures { λ r. ⌜ ShowsAlerts (now (old .entry)) (now (trip .entry)) r ⌝ }
 {
     let n = overlay_ids::feed_end(trip);
-    match overlay_places::feed_rank(s, places, &trip[..n]) {
-        FeedRank::At(r) => Found::At(overlay_places::alerts_place(places, r)),
+    match overlay_places::feed_rank(old, noted, &trip[..n]) {
+        FeedRank::At(r) => Found::At(overlay_places::alerts_place(noted, r)),
         FeedRank::Missing => Found::Missing,
     }
 }
@@ -44,14 +44,15 @@ pub enum Resolved {
 }
 
 // A feed's record by a trip id.
-fn trip_in_feed(s: &[u8], places: &[u32], feed: &[u8], trip: &[u8]) -> Resolved
-    requires { ⌜ Noted (now s) (now places) ⌝ }
+fn trip_in_feed(old: &[u8], noted: &[u32], feed: &[u8], trip: &[u8]) -> Resolved
+    requires { ⌜ Noted (now old) (now noted) ⌝ }
     ensures { λ r. ⌜
-        Resolves (inTrips (now (feed .entry)) (get-trip (now (feed .entry)) (now (trip .entry)))) (now (s .entry)) r ⌝ }
+        Resolves (inTrips (now (feed .entry)) (get-trip (now (feed .entry)) (now (trip .entry))))
+        (now (old .entry)) r ⌝ }
 {
-    match overlay_places::feed_rank(s, places, feed) {
-        FeedRank::At(r) => match overlay_find::get_trip(s, places, r, feed, trip) {
-            Found::At(p) => Resolved::At(p, overlay_places::entry_place(places, r)),
+    match overlay_places::feed_rank(old, noted, feed) {
+        FeedRank::At(r) => match overlay_find::get_trip(old, noted, r, feed, trip) {
+            Found::At(p) => Resolved::At(p, overlay_places::entry_place(noted, r)),
             Found::Missing => Resolved::Missing,
         },
         FeedRank::Missing => Resolved::Missing,
@@ -60,23 +61,23 @@ fn trip_in_feed(s: &[u8], places: &[u32], feed: &[u8], trip: &[u8]) -> Resolved
 
 // A feed's record by a leg's descriptor.
 fn route_in_feed(
-    s: &[u8],
-    places: &[u32],
+    old: &[u8],
+    noted: &[u32],
     feed: &[u8],
     route: &[u8],
     direction: OptionalNumber,
     date: &[u8],
 ) -> Resolved
-    requires { ⌜ Noted (now s) (now places) ⌝ }
+    requires { ⌜ Noted (now old) (now noted) ⌝ }
     ensures { λ r. ⌜
         Resolves (inTrips (now (feed .entry))
         (find-trip-by-descriptor (now (feed .entry)) (now (route .entry)) (givenNumber direction) (now (date .entry))))
-        (now (s .entry)) r ⌝ }
+        (now (old .entry)) r ⌝ }
 {
-    match overlay_places::feed_rank(s, places, feed) {
+    match overlay_places::feed_rank(old, noted, feed) {
         FeedRank::At(r) => {
-            match overlay_find::by_descriptor(s, places, r, feed, route, direction, date) {
-                Found::At(p) => Resolved::At(p, overlay_places::entry_place(places, r)),
+            match overlay_find::by_descriptor(old, noted, r, feed, route, direction, date) {
+                Found::At(p) => Resolved::At(p, overlay_places::entry_place(noted, r)),
                 Found::Missing => Resolved::Missing,
             }
         }
@@ -86,58 +87,58 @@ fn route_in_feed(
 
 // The record of a leg by its descriptor, in its route's feed.
 fn by_route(
-    s: &[u8],
-    places: &[u32],
+    old: &[u8],
+    noted: &[u32],
     route: &[u8],
     direction: OptionalNumber,
     date: &[u8],
 ) -> Resolved
-    requires { ⌜ Noted (now s) (now places) ⌝ }
+    requires { ⌜ Noted (now old) (now noted) ⌝ }
     ensures { λ r. ⌜
-        Resolves (byRoute (now (route .entry)) (givenNumber direction) (now (date .entry))) (now (s .entry)) r ⌝ }
+        Resolves (byRoute (now (route .entry)) (givenNumber direction) (now (date .entry))) (now (old .entry)) r ⌝ }
 {
     if route.len() == 0 {
         return Resolved::Missing;
     }
     let n = overlay_ids::feed_end(route);
-    route_in_feed(s, places, &route[..n], route, direction, date)
+    route_in_feed(old, noted, &route[..n], route, direction, date)
 }
 
 // The record of a leg: by its trip id, else by its descriptor.
 pub fn resolve(
-    s: &[u8],
-    places: &[u32],
+    old: &[u8],
+    noted: &[u32],
     trip: &[u8],
     route: &[u8],
     direction: OptionalNumber,
     date: &[u8],
 ) -> Resolved
-    requires { ⌜ Noted (now s) (now places) ⌝ }
+    requires { ⌜ Noted (now old) (now noted) ⌝ }
     ensures { λ r. ⌜
         Resolves (recordFor (now (trip .entry)) (now (route .entry)) (givenNumber direction) (now (date .entry)))
-        (now (s .entry)) r ⌝ }
+        (now (old .entry)) r ⌝ }
 {
     let n = overlay_ids::feed_end(trip);
-    match trip_in_feed(s, places, &trip[..n], trip) {
+    match trip_in_feed(old, noted, &trip[..n], trip) {
         Resolved::At(p, e) => Resolved::At(p, e),
-        Resolved::Missing => by_route(s, places, route, direction, date),
+        Resolved::Missing => by_route(old, noted, route, direction, date),
     }
 }
 
 // The record of a leg that departs at a time in seconds: its date is the Paris date.
 pub fn resolve_leg(
-    s: &[u8],
-    places: &[u32],
+    old: &[u8],
+    noted: &[u32],
     trip: &[u8],
     route: &[u8],
     direction: OptionalNumber,
     departs: u64,
 ) -> Resolved
-    requires { ⌜ Noted (now s) (now places) ⌝ }
+    requires { ⌜ Noted (now old) (now noted) ⌝ }
     ensures { λ r. ⌜
         Resolves (recordFor (now (trip .entry)) (now (route .entry)) (givenNumber direction) (parisDigits departs))
-        (now (s .entry)) r ⌝ }
+        (now (old .entry)) r ⌝ }
 {
     let date = calendar::paris_digits(departs);
-    resolve(s, places, trip, route, direction, &date)
+    resolve(old, noted, trip, route, direction, &date)
 }

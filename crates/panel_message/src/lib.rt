@@ -42,14 +42,14 @@ fn number_by(v: Verdict, named: bool) -> u32
 }
 
 // The first of the questions 3 to 6.
-fn message_number(feed: &[u8], s: &[u8]) -> u32
-    ensures { λ r. ⌜ r ≡ messageNumber (now (feed .entry)) (now (s .entry)) ⌝ }
+fn message_number(feed: &[u8], message: &[u8]) -> u32
+    ensures { λ r. ⌜ r ≡ messageNumber (now (feed .entry)) (now (message .entry)) ⌝ }
 {
-    if s.len() > MOST_MESSAGE {
+    if message.len() > MOST_MESSAGE {
         return 3;
     }
     number_by(
-        realtime_read::judge(s, FEED_MESSAGE),
+        realtime_read::judge(message, FEED_MESSAGE),
         panel_questions::feed_ok(feed),
     )
 }
@@ -59,7 +59,7 @@ fn message_ending(
     n: usize,
     old: &[u8],
     feed: &[u8],
-    s: &[u8],
+    message: &[u8],
     new: &mut [u8],
     keys: &mut [u8],
     marks: &mut [u32],
@@ -67,7 +67,7 @@ fn message_ending(
 ) -> Ending
     requires { ⌜ n ≤ mostOld ⌝ }
     ensures { λ r. ⌜ Ends (sized n) (now (old .entry))
-        (calls.message (now (feed .entry)) (now (s .entry)) (length (now (new .entry)))
+        (calls.message (now (feed .entry)) (now (message .entry)) (length (now (new .entry)))
         (length (now (keys .entry)) ∷ length (now (marks .entry)) ∷ length (now (order .entry)) ∷ []))
         (now (new .exit)) r ⌝ }
 {
@@ -79,11 +79,20 @@ fn message_ending(
     let Opened::At(end) = overlay_open::open(old) else {
         return Ending::Refused(2);
     };
-    let number = message_number(feed, s);
+    let number = message_number(feed, message);
     if number != 0 {
         return Ending::Refused(number);
     }
-    panel_output::of_put(overlay_message::after_message(new, keys, marks, order, feed, s, old, end))
+    panel_output::of_put(overlay_message::after_message(
+        new,
+        keys,
+        marks,
+        order,
+        feed,
+        message,
+        old,
+        end,
+    ))
 }
 
 fn clear_work(keys: &mut [u8], marks: &mut [u32], order: &mut [u32])
@@ -100,7 +109,7 @@ pub fn message(
     n: usize,
     old: &[u8],
     feed: &[u8],
-    s: &[u8],
+    message: &[u8],
     new: &mut [u8],
     keys: &mut [u8],
     marks: &mut [u32],
@@ -108,12 +117,12 @@ pub fn message(
 ) -> u32
     requires { ⌜ n ≤ mostOld ⌝ }
     ensures { λ r. ⌜ Given (sized n) (now (old .entry))
-        (calls.message (now (feed .entry)) (now (s .entry)) (length (now (new .entry)))
+        (calls.message (now (feed .entry)) (now (message .entry)) (length (now (new .entry)))
         (length (now (keys .entry)) ∷ length (now (marks .entry)) ∷ length (now (order .entry)) ∷ []))
         r (now (new .exit))
         (now (keys .exit) ∷ now (marks .exit) ∷ now (order .exit) ∷ []) ⌝ }
 {
-    let e = message_ending(n, old, feed, s, new, keys, marks, order);
+    let e = message_ending(n, old, feed, message, new, keys, marks, order);
     clear_work(keys, marks, order);
     panel_output::finish(new, e)
 }

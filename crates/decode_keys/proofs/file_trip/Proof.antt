@@ -35,7 +35,7 @@ no-key c =
     let then1 = c .before .before in
     let start = to-start-from-then1 then1 in
     let a = start .args in
-    enters-none (a .feed .now) (a .s .now) (a .t) (start .pre .1 .1) (a .from) (a .to) (start .pre .0 .sound)
+    enters-none (a .feed .now) (a .message .now) (a .t) (start .pre .1 .1) (a .from) (a .to) (start .pre .0 .sound)
     (start .pre .0 .few) (then1 .if1 .taken) (c .if2 .taken)
 
 no-id : tie.Need-returns-2
@@ -45,7 +45,7 @@ no-id c =
     let then1 = else2 .before .before in
     let start = to-start-from-then1 then1 in
     let a = start .args in
-    enters-incomplete (a .feed .now) (a .s .now) (a .t) (start .pre .1 .1)
+    enters-incomplete (a .feed .now) (a .message .now) (a .t) (start .pre .1 .1)
     (at-file-incomplete .file-incomplete .ensures) refl (then1 .if1 .taken) (else2 .if2 .left)
 
 no-date : tie.Need-returns-3
@@ -55,7 +55,7 @@ no-date c =
     let else1 = then3 .before .before in
     let start = to-start else1 in
     let a = start .args in
-    enters-base (a .feed .now) (a .s .now) (a .t) (start .pre .1 .1) (at-file-base .file-base .ensures) refl
+    enters-base (a .feed .now) (a .message .now) (a .t) (start .pre .1 .1) (at-file-base .file-base .ensures) refl
     (else1 .if1 .left) (then3 .if3 .taken)
 
 dated-over : tie.Need-returns-4
@@ -65,7 +65,7 @@ dated-over c =
     let else1 = else3 .before .before in
     let start = to-start else1 in
     let a = start .args in
-    enters-over (a .feed .now) (a .s .now) (a .t) (start .pre .1 .1) (at-file-dated .file-dated .ensures) refl
+    enters-over (a .feed .now) (a .message .now) (a .t) (start .pre .1 .1) (at-file-dated .file-dated .ensures) refl
     (else1 .if1 .left) (else3 .if3 .left) (c .if4 .taken)
 
 base-asks : tie.Need-file-base-requires-2
@@ -83,7 +83,7 @@ dated-and-base c =
     let else1 = else3 .before .before in
     let start = to-start else1 in
     let a = start .args in
-    enters-dated (a .feed .now) (a .s .now) (a .t) (start .pre .1 .1) (at-file-dated .file-dated .ensures) refl
+    enters-dated (a .feed .now) (a .message .now) (a .t) (start .pre .1 .1) (at-file-dated .file-dated .ensures) refl
     (else1 .if1 .left) (else3 .if3 .left) (at-file-base2 .file-base2 .ensures)
 
 pub file-trip-spec : {M : Type 1} → statement M

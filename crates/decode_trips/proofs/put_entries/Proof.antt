@@ -42,7 +42,7 @@ loop-holds : tie.Need-loop-holds Inv-loop μ-loop
 loop-holds c =
     let start = to-start (c .before .before) in (
       omega arith,
-      no-entries (start .args .s .now) (start .args .old .now) (start .args .keys .now)
+      no-entries (start .args .message .now) (start .args .old .now) (start .args .keys .now)
           (start .args .marks .now) (start .args .order .now),
       ready-none refl (c .if1 .left),
     )
@@ -55,7 +55,7 @@ write-entry-requires c κs =
     let start = to-start (to-w at-loop) in (
       start .pre .0,
       (
-        taken-at (GoodSlot (start .args .s .now) (start .args .old .now) (start .args .keys .now)
+        taken-at (GoodSlot (start .args .message .now) (start .args .old .now) (start .args .keys .now)
             (start .args .marks .now))
             (start .args .n) (start .args .order .now) (start .pre .1 .1) (at-loop .loop .i)
             (at-loop-test .loop-test .taken) (start .pre .1 .0)
@@ -71,7 +71,7 @@ loop-again c =
     let at-loop = at-word .before .before in
     let start = to-start (to-w at-loop) in (
       omega arith,
-      entries-more (start .args .s .now) (start .args .old .now) (start .args .keys .now)
+      entries-more (start .args .message .now) (start .args .old .now) (start .args .keys .now)
           (start .args .marks .now) (start .args .order .now) (at-loop .loop .i) (omega
           (arith, start .pre .1 .0)) (at-word .word .ensures)
           (at-loop .loop .inv .1) (at-write-entry .write-entry .ensures .adds),
@@ -83,7 +83,7 @@ returns-3 c =
     let at-loop = c .before in
     let start = to-start (to-w at-loop) in
     from-at (to-w at-loop .w .given .1)
-    (entries-done (start .args .s .now) (start .args .old .now) (start .args .keys .now)
+    (entries-done (start .args .message .now) (start .args .old .now) (start .args .keys .now)
     (start .args .marks .now) (start .args .order .now) (at-loop .loop .inv .0) (c .loop-test .left)
     (at-loop .loop .inv .1))
 

@@ -11,7 +11,8 @@ put-entries-requires c κs =
       start .pre .0,
       (
         omega (arith, start .pre .1 .sound .ordered, start .pre .1 .sound .counted),
-        good-slots (start .args .s .now) (start .args .old .now) (start .args .keys .now) (start .args .marks .now)
+        good-slots (start .args .message .now) (start .args .old .now) (start .args .keys .now)
+            (start .args .marks .now)
             (start .pre .1),
       ),
     )
@@ -21,7 +22,8 @@ returns c =
     let at-put-entries = c .before .before in
     let at-number = at-put-entries .before .before .before .before in
     let start = at-number .before .before .before .before .before .before .before .before in
-    trips-adds (start .args .s .now) (start .args .old .now) (start .args .keys .now) (start .args .marks .now)
+    trips-adds (start .args .message .now) (start .args .old .now) (start .args .keys .now)
+    (start .args .marks .now)
     (start .pre .1 .sound) (at-number .number .ensures) (at-put-entries .put-entries .ensures)
 
 pub write-trips-spec : {M : Type 1} → statement M

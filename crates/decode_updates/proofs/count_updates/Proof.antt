@@ -18,7 +18,7 @@ abbrev μ-loop : tie.MeasureT-loop
 loop-holds : tie.Need-loop-holds Inv-loop μ-loop
 loop-holds c =
     let start = c .before .before in
-    counting (start .args .s .now) (start .args .start) (start .args .len) (start .pre) (c .updates .ensures)
+    counting (start .args .message .now) (start .args .start) (start .args .len) (start .pre) (c .updates .ensures)
 
 returns : tie.Need-returns Inv-loop μ-loop
 returns c =

@@ -11,10 +11,10 @@ use Rattle.decode_updates.proofs.place_crowded.Tie as tie
 abbrev to-start : tie.Joined2 → tie.Start
 to-start c = c .before .before .before
 
-stood : (c : tie.Joined2) → let a = to-start c .args in Readable feedEntity (a .s .now) (a .from, a .to)
+stood : (c : tie.Joined2) → let a = to-start c .args in Readable feedEntity (a .message .now) (a .from, a .to)
 stood c =
     let start = to-start c in
-    place-reads (start .args .s .now) (start .args .from) (start .args .to) (start .pre .1 .1) (search needs)
+    place-reads (start .args .message .now) (start .args .from) (start .args .to) (start .pre .1 .1) (search needs)
 
 old : tie.Need-returns
 old c = search place-old

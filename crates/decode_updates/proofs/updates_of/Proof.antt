@@ -28,7 +28,7 @@ to-start c = c .before .before .before
 loop-holds : tie.Need-loop-holds Inv-loop μ-loop
 loop-holds c =
     let start = to-start c in (
-      listing (start .args .s .now) (start .args .start) (start .args .len) (start .pre .1 .0) (start .pre .0)
+      listing (start .args .message .now) (start .args .start) (start .args .len) (start .pre .1 .0) (start .pre .0)
           (c .updates .ensures),
       omega arith,
     )

@@ -26,7 +26,7 @@ returns c =
     let at-loop = at-loop-test .before in
     let start = at-loop .before in
     sym (at-loop .loop .inv .1
-    ∙ byte-here (start .args .s .now) (at-loop .loop .i) (start .args .to) (at-loop-test .loop-test .taken)
+    ∙ byte-here (start .args .message .now) (at-loop .loop .i) (start .args .to) (at-loop-test .loop-test .taken)
     (start .pre .1) 64
     (c .if1 .taken))
 
@@ -37,7 +37,7 @@ loop-again c =
     let start = at-loop .before in (
       omega arith,
       at-loop .loop .inv .1
-          ∙ byte-later (start .args .s .now) (at-loop .loop .i) (start .args .to)
+          ∙ byte-later (start .args .message .now) (at-loop .loop .i) (start .args .to)
           (at-loop-test .loop-test .taken) (start .pre .1) 64
           (c .if1 .left),
     )
@@ -47,7 +47,7 @@ returns-2 c =
     let at-loop = c .before in
     let start = at-loop .before in
     sym (at-loop .loop .inv .1
-    ∙ byte-nowhere (start .args .s .now) (at-loop .loop .i) (start .args .to) 64 (c .loop-test .left))
+    ∙ byte-nowhere (start .args .message .now) (at-loop .loop .i) (start .args .to) 64 (c .loop-test .left))
 
 pub has-at-spec : {M : Type 1} → statement M
 has-at-spec =

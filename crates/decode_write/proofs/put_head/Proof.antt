@@ -14,7 +14,7 @@ returns c =
     let at-put-flag = at-put-text .before .before .before .before in
     let at-put-delay = at-put-flag .before .before .before .before in
     let start = at-put-delay .before .before .before .before .before .before .before in
-    head-adds (viewTrip (start .args .s .now) (start .args .t)) (at-put-delay .put-delay .ensures)
+    head-adds (viewTrip (start .args .message .now) (start .args .t)) (at-put-delay .put-delay .ensures)
     (at-put-flag .put-flag .ensures)
     (at-put-text .put-text .ensures) (at-put-text2 .put-text2 .ensures)
     (at-put-direction .put-direction .ensures) (at-put-text3 .put-text3 .ensures)

@@ -9,7 +9,7 @@ returns c =
     let at-stretch = c .before .before in
     let at-put-number = at-stretch .before .before .before .before .before in
     let start = at-put-number .before .before .before .before in
-    text-adds (start .args .s .now) (start .args .t) (start .pre) (at-put-number .put-number .ensures)
+    text-adds (start .args .message .now) (start .args .t) (start .pre) (at-put-number .put-number .ensures)
     (at-stretch .stretch .ensures)
 
 pub put-text-spec : {M : Type 1} → statement M

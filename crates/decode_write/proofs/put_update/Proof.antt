@@ -13,7 +13,7 @@ returns c =
     let at-put-text = at-put-event .before .before .before .before in
     let at-put-number = at-put-text .before .before .before .before in
     let start = at-put-number .before .before .before .before .before .before .before in
-    update-adds (start .args .sequence) (viewStop (start .args .s .now) (start .args .u))
+    update-adds (start .args .sequence) (viewStop (start .args .message .now) (start .args .u))
     (at-put-number .put-number .ensures) (at-put-text .put-text .ensures) (at-put-event .put-event .ensures)
     (at-put-event2 .put-event2 .ensures) (at-put-flag .put-flag .ensures)
 

@@ -25,7 +25,7 @@ write-update-requires c κs =
     let at-loop-test = at-word .before .before in
     let at-loop = at-loop-test .before in
     let start = at-loop .before .before .before .before in
-    update-readable (start .args .s .now) (start .args .updates .now) (start .pre .1) (at-loop .loop .i)
+    update-readable (start .args .message .now) (start .args .updates .now) (start .pre .1) (at-loop .loop .i)
     (at-loop-test .loop-test .taken)
     (at-word .word .ensures) (at-word2 .word2 .ensures)
 
@@ -37,7 +37,7 @@ loop-again c =
     let at-loop = at-word .before .before .before in
     let start = at-loop .before .before .before .before in (
       omega arith,
-      updates-more (start .args .s .now) (start .args .updates .now) (at-loop .loop .i) (at-word .word .ensures)
+      updates-more (start .args .message .now) (start .args .updates .now) (at-loop .loop .i) (at-word .word .ensures)
           (at-word2 .word2 .ensures) (at-loop .loop .inv .1) (at-write-update .write-update .ensures),
     )
 
@@ -45,7 +45,7 @@ returns : tie.Need-returns Inv-loop μ-loop
 returns c =
     let at-loop = c .before in
     let start = at-loop .before .before .before .before in
-    updates-done (start .args .s .now) (start .args .updates .now) (at-loop .loop .inv .0) (c .loop-test .left)
+    updates-done (start .args .message .now) (start .args .updates .now) (at-loop .loop .inv .0) (c .loop-test .left)
     (at-loop .loop .inv .1)
 
 pub put-updates-spec : {M : Type 1} → statement M

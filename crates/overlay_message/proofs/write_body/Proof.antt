@@ -17,7 +17,7 @@ returns c =
     let at-put-timestamp = at-number .before .before .before .before in
     let start = at-put-timestamp .before .before .before .before .before .before .before .before in
     λ F a e P. body-adds P (timestampAfter (viewTimestamp (start .args .given)) (givenSigned (start .args .known)))
-    (start .args .count) (held (start .args .s .now) (start .args .home .now)
+    (start .args .count) (held (start .args .message .now) (start .args .home .now)
     (index (start .args .keys .now) (start .args .marks .now) (start .args .order .now) (start .args .n)))
     (at-put-timestamp .put-timestamp .ensures) (at-number .number .ensures)
     (at-write-trips .write-trips .ensures) (at-stretch .stretch .ensures)

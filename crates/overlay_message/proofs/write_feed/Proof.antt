@@ -12,7 +12,7 @@ returns c =
     let at-count-left = at-write-body .before .before in
     let at-header-of = at-count-left .before in
     let start = at-header-of .before .before .before .before .before .before .before .before in
-    let s = start .args .s .now in
+    let s = start .args .message .now in
     let home = start .args .home .now in
     λ F a e t P is. feed-adds (start .args .feed .now)
     (held s home (index (start .args .keys .now) (start .args .marks .now) (start .args .order .now) (start .args .n)))

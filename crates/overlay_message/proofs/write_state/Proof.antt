@@ -15,7 +15,7 @@ returns c =
     let at-head = at-opening .before .before in
     let start = at-head .before .before .before .before .before .before .before .before .before in
     λ st F a e t S P is. state-wrote (feedAfter (start .args .feed .now) t F
-    (held (start .args .s .now) (start .args .home .now)
+    (held (start .args .message .now) (start .args .home .now)
     (index (start .args .keys .now) (start .args .marks .now) (start .args .order .now) (start .args .n))))
     S (at-head .read-head .ensures .to (S .whole) .version-is)
     (at-opening .opening .ensures (start .args .end) st (start .args .to) S)

@@ -42,7 +42,7 @@ after-message-requires c κs =
     let q = measured o in
     let s = start q in
     let a = s .args in
-    let P = passed (a .feed .now) (a .s .now) (sym (k .if2 .left) ∙ n .message-number .ensures) in
+    let P = passed (a .feed .now) (a .message .now) (sym (k .if2 .left) ∙ n .message-number .ensures) in
     let L =
     lends (a .n) (a .old .now) (length (a .new .now)) (a .keys .now) (a .marks .now) (a .order .now)
     (q .before .same-lengths .ensures) (not-false _ (q .if1 .left)) (s .pre) in (
@@ -66,7 +66,7 @@ accepted c =
     let a = start q .args in
     message-ends (q .before .same-lengths .ensures) (not-false _ (q .if1 .left))
     (open-at (o .«open» .ensures) (n .before .before .end .given .1))
-    (passed (a .feed .now) (a .s .now) (sym (k .if2 .left) ∙ n .message-number .ensures)) refl
+    (passed (a .feed .now) (a .message .now) (sym (k .if2 .left) ∙ n .message-number .ensures)) refl
     (w .after-message .ensures) (c .of-put .ensures)
 
 pub message-ending-spec : {M : Type 1} → statement M
