@@ -15,7 +15,9 @@ fn main() {
     };
     let found = places.iter().flat_map(|place| NAMES.map(|name| (place, name)));
     let Some((place, name)) = found.into_iter().find(|(place, name)| file(place, name).exists()) else {
-        panic!("no libmipsuqal.a: build it (docs/GUIDE.md, step 1), or set MIPSUQAL_LIBRARY to its directory");
+        panic!(
+            "no libmipsuqal.a: build it (docs/GUIDE.md, step 1), or set MIPSUQAL_LIBRARY to its directory"
+        );
     };
     println!("cargo:rerun-if-changed={}", file(place, name).display());
     println!("cargo:rustc-link-search=native={}", place.display());
