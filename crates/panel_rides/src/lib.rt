@@ -1,1 +1,1 @@
-// The ride checks of document 01 that are marked P, computed. They stand apart: no edit of a definition waits for it.
+// The ride checks of document 01 that are marked P, computed. They stand apart: no edit of a definition waits for them.
