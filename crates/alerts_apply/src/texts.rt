@@ -6,7 +6,7 @@ use alerts_text::lines::Settled;
 use alerts_text::word::gather;
 use alerts_text::word::spread;
 use formats_skip::past_optional_text;
-use formats_write::Span;
+use formats::Span;
 ghost use mathlib.Core.Path.{_≡_};
 ghost use Prim.Native.Nat.{_+_};
 ghost use lib.Dec.{ltb};

@@ -2,7 +2,7 @@
 // them beside it. They ask nothing of their caller.
 use alerts_apply::known::applies_known;
 use formats_judge::Judge;
-use formats_write::Span;
+use formats::Span;
 
 mod table;
 

@@ -3,8 +3,8 @@
 use decode::sizes::BEYOND;
 use decode::sizes::KEY_BYTES;
 use decode::sizes::UPDATES_LENGTH;
-use formats_write::OptionalNumber;
-use formats_write::OptionalSigned;
+use formats::OptionalNumber;
+use formats::OptionalSigned;
 use formats_write::Put;
 use realtime_views::Delay;
 use realtime_views::Direction;

@@ -56,6 +56,29 @@ pub enum Skip {
     Broken,
 }
 
+// A number, or the bits of a float, that may be missing.
+pub enum OptionalNumber {
+    Absent,
+    Present(u64),
+}
+
+pub enum OptionalSigned {
+    Absent,
+    Present(i64),
+}
+
+// The bytes of a slice from `from` up to `to`.
+pub struct Span {
+    pub from: usize,
+    pub to: usize,
+}
+
+// A text of a slice that may be missing.
+pub enum OptionalText {
+    Absent,
+    Present(Span),
+}
+
 pub fn wide(b: u8) -> u64
     ensures { λ r. ⌜ (r ≡ b) × (r < 256) ⌝ }
 {

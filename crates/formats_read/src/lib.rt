@@ -3,9 +3,9 @@
 use formats::Numeral;
 use formats::Skip;
 use formats::kinds;
-use formats_write::OptionalNumber;
-use formats_write::OptionalSigned;
-use formats_write::Span;
+use formats::OptionalNumber;
+use formats::OptionalSigned;
+use formats::Span;
 ghost use mathlib.Core.Path.{_≡_};
 ghost use Prim.Native.Nat.{ℕ, _≤_};
 ghost use lib.IntN.{ℤ};

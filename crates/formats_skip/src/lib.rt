@@ -1,6 +1,6 @@
 // Quick passes over a value that is known to stand at a place: nothing is judged. They are total: where no such value
 // stands, they answer something.
-use formats_write::Span;
+use formats::Span;
 ghost use mathlib.Core.Path.{_≡_};
 ghost use Prim.Native.Nat.{_+_, _≤_};
 ghost use lib.ListN.{length};

@@ -14,9 +14,9 @@ use Rattle.formats_write.specs.laws.Adds.{none, then, same}
 use Rattle.formats_write.specs.promises.Adds.{Adds}
 use Rattle.formats_write.specs.laws.Slices.{slice-is}
 use Rattle.formats_write.specs.promises.Given.{optionalW, textW, givenText, Inside}
-use Rattle.formats_write.specs.declared.OptionalText.{OptionalText}
-use Rattle.formats_write.specs.declared.OptionalText.the-variants.{Present}
-use Rattle.formats_write.specs.declared.Span.{Span}
+use Rattle.formats.specs.declared.OptionalText.{OptionalText}
+use Rattle.formats.specs.declared.OptionalText.the-variants.{Present}
+use Rattle.formats.specs.declared.Span.{Span}
 use Rattle.formats_write.specs.declared.Put.{Put}
 use Rattle.formats_write.specs.declared.Put.the-variants.{At, Full}
 

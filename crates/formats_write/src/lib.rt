@@ -1,6 +1,9 @@
 // Writers into a lent slice, from its start on, with a room test: each takes the next place and answers the place
 // past what it wrote, or that there is no room. So a value's writing is a straight line of calls, with no early
 // return.
+use formats::OptionalNumber;
+use formats::OptionalSigned;
+use formats::OptionalText;
 ghost use mathlib.Core.Path.{_≡_};
 ghost use mathlib.Core.List.{[], _∷_};
 ghost use Prim.Native.Nat.{_<_, _≤_};
@@ -17,29 +20,6 @@ ghost use Rattle.formats_write.specs.promises.Given.{Inside};
 pub enum Put {
     At(usize),
     Full,
-}
-
-// A number, or the bits of a float, that may be missing.
-pub enum OptionalNumber {
-    Absent,
-    Present(u64),
-}
-
-pub enum OptionalSigned {
-    Absent,
-    Present(i64),
-}
-
-// The bytes of a slice from `from` up to `to`.
-pub struct Span {
-    pub from: usize,
-    pub to: usize,
-}
-
-// A text of a slice that may be missing.
-pub enum OptionalText {
-    Absent,
-    Present(Span),
 }
 
 fn octet(n: u64) -> u8

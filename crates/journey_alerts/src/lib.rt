@@ -1,5 +1,5 @@
 // The alerts of the overlay b that apply to a leg of a card: whether there is one, and their labels, noted.
-use formats_write::Span;
+use formats::Span;
 use overlay_seek::Found;
 ghost use mathlib.Core.Path.{_≡_};
 ghost use Prim.Native.Nat.{_≤_};

@@ -1,5 +1,5 @@
 // The card: what a first pass over its legs gathers, and its head written anew.
-use formats_write::OptionalSigned;
+use formats::OptionalSigned;
 use formats_write::Put;
 use journey_leg::LegRealtime;
 ghost use mathlib.Core.Path.{_≡_};

@@ -1,5 +1,5 @@
 // A transit leg written anew from what look-ups gave: what isn't taken is copied as it stands.
-use formats_write::OptionalSigned;
+use formats::OptionalSigned;
 use formats_write::Put;
 use journey_places::ChangingPlaces;
 use journey_times::StopRealtime;

@@ -1,5 +1,5 @@
 // The legs of a card written anew: look-ups for their stops, their middle stops one by one, and the leg whole.
-use formats_write::OptionalNumber;
+use formats::OptionalNumber;
 use formats_write::Put;
 use journey_leg::LegRealtime;
 use journey_times::Event;

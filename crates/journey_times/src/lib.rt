@@ -1,5 +1,5 @@
 // Times of an event: what a trip's record and a stop's update make of a scheduled time. Times are 64 bits, delays 32.
-use formats_write::OptionalSigned;
+use formats::OptionalSigned;
 ghost use mathlib.Core.Path.{_≡_};
 ghost use mathlib.Core.Bool.{false};
 ghost use mathlib.Core.Logic.{inl};

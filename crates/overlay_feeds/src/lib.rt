@@ -1,5 +1,5 @@
 // Where the parts of an overlay stand: its version, its feeds, one of them by its id, and a feed's parts.
-use formats_write::OptionalSigned;
+use formats::OptionalSigned;
 use slices::Order;
 ghost use Rattle.overlay_feeds.specs.promises.Head.{ReadsHead};
 ghost use Rattle.overlay_feeds.specs.promises.Parts.{ReadsFront, ReadsBack, ReadsParts};

@@ -1,6 +1,6 @@
 // Look-ups among the noted trips of a feed, by the places of what they find.
-use formats_write::OptionalNumber;
-use formats_write::Span;
+use formats::OptionalNumber;
+use formats::Span;
 use overlay_ids::Place;
 use overlay_seek::Found;
 use slices::Order;

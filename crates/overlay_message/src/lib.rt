@@ -1,7 +1,7 @@
 // The state after a message: its trips are written anew, with their count and the message's timestamp; all else of the
 // state is copied.
 use decode_index::Left;
-use formats_write::OptionalSigned;
+use formats::OptionalSigned;
 use formats_write::Put;
 use overlay_feeds::Parts;
 use overlay_frame::FeedSpot;

@@ -1,5 +1,5 @@
 // The record of a leg, the vehicle of a trip and the alerts of its feed, in a whole overlay whose places are noted.
-use formats_write::OptionalNumber;
+use formats::OptionalNumber;
 use overlay_places::FeedRank;
 use overlay_seek::Found;
 use overlay_vehicle::OptionalPlace;

@@ -1,6 +1,6 @@
 // A stop update of a trip whose record stands in an overlay: by its sequence, else by the card's stop id, which is
 // compared with `feed:id` without joining that.
-use formats_write::OptionalNumber;
+use formats::OptionalNumber;
 use overlay_seek::Found;
 ghost use Rattle.decode.specs.Trip.{number32, stopUpdate};
 ghost use Rattle.formats_write.specs.promises.Given.{givenNumber};

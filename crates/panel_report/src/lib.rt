@@ -1,5 +1,5 @@
 // The fresh overlay, and the report on a feed: a call of each.
-use formats_write::OptionalSigned;
+use formats::OptionalSigned;
 use formats_write::Put;
 use overlay_feeds::FeedPlace;
 use overlay_open::Opened;

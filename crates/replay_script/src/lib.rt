@@ -1,6 +1,6 @@
 // A script of calls, read where it stands: what each asks for.
 use formats::Skip;
-use formats_write::Span;
+use formats::Span;
 
 mod table;
 

@@ -1,8 +1,8 @@
 // A vehicle's place by value: latitude, longitude and when it was told. Floats are handed on bit for bit. The
 // language has no bits of a NaN, so a coordinate is a float, or the pattern of a NaN: together they carry all 2^64
 // patterns.
-use formats_write::OptionalNumber;
-use formats_write::OptionalSigned;
+use formats::OptionalNumber;
+use formats::OptionalSigned;
 use formats_write::Put;
 ghost use mathlib.Core.Path.{_≡_};
 ghost use lib.Dec.{T};

@@ -7,12 +7,12 @@ use lib.ListN.{length}
 use lib.Seq.{slice}
 use Rattle.formats.specs.Readers.{choiceW}
 use Rattle.formats.specs.Number.{numberW}
-use Rattle.formats_write.specs.declared.OptionalNumber.{OptionalNumber}
-use Rattle.formats_write.specs.declared.OptionalNumber.the-variants as number
-use Rattle.formats_write.specs.declared.OptionalSigned.{OptionalSigned}
-use Rattle.formats_write.specs.declared.OptionalSigned.the-variants as signed
-use Rattle.formats_write.specs.declared.OptionalText.{OptionalText}
-use Rattle.formats_write.specs.declared.OptionalText.the-variants as text
+use Rattle.formats.specs.declared.OptionalNumber.{OptionalNumber}
+use Rattle.formats.specs.declared.OptionalNumber.the-variants as number
+use Rattle.formats.specs.declared.OptionalSigned.{OptionalSigned}
+use Rattle.formats.specs.declared.OptionalSigned.the-variants as signed
+use Rattle.formats.specs.declared.OptionalText.{OptionalText}
+use Rattle.formats.specs.declared.OptionalText.the-variants as text
 
 -- 0, or 1 and the value
 abbrev pub optionalW : {A : Type 0} → (A → List ℕ) → Unit {0} ⊎ A → List ℕ

@@ -6,7 +6,7 @@ use Prim.Native.Nat.{ℕ}
 use lib.ListN.{length}
 use Rattle.formats.specs.Class.{Class}
 use Rattle.formats.specs.Format.{text}
-use Rattle.formats_write.specs.declared.Span.{Span}
+use Rattle.formats.specs.declared.Span.{Span}
 use Rattle.formats_write.specs.laws.Slices.{slice-is}
 use Rattle.formats_read.specs.promises.Here.{Here}
 use Rattle.formats_read.specs.promises.Reads.{ReadsText}

@@ -4,7 +4,7 @@ use mathlib.Core.List.{List}
 use Prim.Native.Nat.{ℕ, _≤_}
 use lib.ListN.{length}
 use Rattle.formats.specs.Format.{Value}
-use Rattle.formats_write.specs.declared.Span.{Span}
+use Rattle.formats.specs.declared.Span.{Span}
 use Rattle.formats_read.specs.promises.Here.{Here}
 use Rattle.decode_slots.specs.Places.{bytesIn}
 use Rattle.journey.specs.Card.{Transit, transit, transitOf}

@@ -12,8 +12,8 @@ use mir.Val.{SFits, toZ, ofZ}
 use mir.Facts.{toZ-ofZ}
 use Rattle.basics.specs.Options.{givenOr}
 use Rattle.formats_write.specs.promises.Given.{givenSigned}
-use Rattle.formats_write.specs.declared.OptionalSigned.{OptionalSigned}
-use Rattle.formats_write.specs.declared.OptionalSigned.the-variants as signeds
+use Rattle.formats.specs.declared.OptionalSigned.{OptionalSigned}
+use Rattle.formats.specs.declared.OptionalSigned.the-variants as signeds
 use Rattle.journey.specs.Enrich.{isZero, taken}
 use Rattle.journey_leg.specs.declared.LegRealtime.{LegRealtime}
 use Rattle.journey_leg.specs.promises.Leg.{liveOf}

@@ -15,7 +15,7 @@ use Rattle.formats_read.specs.promises.Here.{Here}
 use Rattle.formats_read.specs.promises.Reads.{ReadsNumber, ReadsText}
 use Rattle.formats_read.specs.laws.Here.{halves, signed-here}
 use Rattle.formats_skip.specs.laws.Leads.{lead-field}
-use Rattle.formats_write.specs.declared.OptionalNumber.{OptionalNumber}
+use Rattle.formats.specs.declared.OptionalNumber.{OptionalNumber}
 use Rattle.formats_write.specs.declared.Put.{Put}
 use Rattle.formats_write.specs.laws.Slices.{slice-is}
 use Rattle.formats_write.specs.promises.Given.{givenNumber}

@@ -22,7 +22,7 @@ use Rattle.formats_read.specs.laws.Walk.{Walk, begin, onward, ended, of-list}
 use Rattle.formats_skip.specs.promises.Passes.{Passes}
 use Rattle.formats_skip.specs.laws.Passes.{any-optional-signed}
 use Rattle.formats_skip.specs.laws.Leads.{lead-field}
-use Rattle.formats_write.specs.declared.OptionalSigned.{OptionalSigned}
+use Rattle.formats.specs.declared.OptionalSigned.{OptionalSigned}
 use Rattle.formats_write.specs.promises.Given.{givenSigned}
 use Rattle.alerts.specs.Label.{label}
 use Rattle.overlay.specs.State.{State, overlay}

@@ -8,8 +8,8 @@ use mir.Facts.{toZ-ofZ}
 use Rattle.basics.specs.Integers.{wrap32}
 use Rattle.basics.specs.Options.{orOther}
 use Rattle.formats_write.specs.promises.Given.{givenSigned}
-use Rattle.formats_write.specs.declared.OptionalSigned.{OptionalSigned}
-use Rattle.formats_write.specs.declared.OptionalSigned.the-variants as signeds
+use Rattle.formats.specs.declared.OptionalSigned.{OptionalSigned}
+use Rattle.formats.specs.declared.OptionalSigned.the-variants as signeds
 use Rattle.journey.specs.Times as times
 use Rattle.journey_times.specs.promises.Realtime.{realtimeOf, givenDelay, eventBy}
 use Rattle.journey_times.specs.declared.EventTimes.{EventTimes}

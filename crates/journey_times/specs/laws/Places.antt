@@ -16,8 +16,8 @@ use Rattle.basics.specs.laws.Booleans.{both-true}
 use Rattle.formats.specs.Format.{Format, Value, number, signed, optional, _&_}
 use Rattle.formats_judge.specs.Judged.{ok}
 use Rattle.formats_write.specs.promises.Given.{givenSigned}
-use Rattle.formats_write.specs.declared.OptionalSigned.{OptionalSigned}
-use Rattle.formats_write.specs.declared.OptionalSigned.the-variants as signeds
+use Rattle.formats.specs.declared.OptionalSigned.{OptionalSigned}
+use Rattle.formats.specs.declared.OptionalSigned.the-variants as signeds
 use Rattle.formats_read.specs.laws.Here.{halves, small-here}
 use Rattle.formats_read.specs.promises.Fields.{part}
 use Rattle.formats_read.specs.promises.Here.{Here}

@@ -4,7 +4,7 @@ use mathlib.Core.List.{List}
 use Prim.Native.Nat.{ℕ}
 use lib.IntN.{ℤ}
 use Rattle.formats.specs.Format.{number, signed, list, optional, Value}
-use Rattle.formats_write.specs.declared.OptionalSigned.{OptionalSigned}
+use Rattle.formats.specs.declared.OptionalSigned.{OptionalSigned}
 use Rattle.formats_write.specs.promises.Given.{givenSigned}
 use Rattle.formats_read.specs.promises.Here.{Here}
 use Rattle.formats_read.specs.promises.Reads.{ReadsNumber}

@@ -17,7 +17,7 @@ use Rattle.maps.specs.Map.{get}
 use Rattle.maps.specs.Order.{texts}
 use Rattle.formats.specs.Class.{any}
 use Rattle.formats.specs.Format.{text}
-use Rattle.formats_write.specs.declared.OptionalNumber.{OptionalNumber}
+use Rattle.formats.specs.declared.OptionalNumber.{OptionalNumber}
 use Rattle.formats_write.specs.promises.Given.{givenNumber}
 use Rattle.formats_read.specs.laws.Here.{halves}
 use Rattle.formats_skip.specs.promises.Passes.{Passes}

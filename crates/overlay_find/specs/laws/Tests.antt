@@ -10,8 +10,8 @@ use Rattle.basics.specs.Texts.{same}
 use Rattle.basics.specs.laws.Booleans.{and-no, and-yes}
 use Rattle.formats.specs.Class.{Class, any}
 use Rattle.formats.specs.Format.{number, text, optional, Value}
-use Rattle.formats_write.specs.declared.OptionalNumber.{OptionalNumber}
-use Rattle.formats_write.specs.declared.OptionalNumber.the-variants.{Absent, Present}
+use Rattle.formats.specs.declared.OptionalNumber.{OptionalNumber}
+use Rattle.formats.specs.declared.OptionalNumber.the-variants.{Absent, Present}
 use Rattle.formats_write.specs.promises.Given.{givenNumber}
 use Rattle.formats_write.specs.laws.Slices.{slice-is}
 use Rattle.formats_read.specs.promises.Here.{Here}

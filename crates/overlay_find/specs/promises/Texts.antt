@@ -6,7 +6,7 @@ use Prim.Native.Nat.{ℕ}
 use Rattle.basics.specs.Texts.{same}
 use Rattle.formats.specs.Class.{Class}
 use Rattle.formats.specs.Format.{text, optional, Value}
-use Rattle.formats_write.specs.declared.OptionalNumber.{OptionalNumber}
+use Rattle.formats.specs.declared.OptionalNumber.{OptionalNumber}
 use Rattle.formats_write.specs.promises.Given.{givenNumber}
 use Rattle.formats_read.specs.promises.Fields.{part}
 use Rattle.formats_read.specs.promises.Here.{Here}

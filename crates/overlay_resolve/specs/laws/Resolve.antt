@@ -8,7 +8,7 @@ use native.Mathlib.Omega.{arith}
 use lib.ListN.{length, take}
 use Rattle.basics.specs.Lists.{isEmpty}
 use Rattle.basics.specs.Options.{orElse, bindO}
-use Rattle.formats_write.specs.declared.OptionalNumber.{OptionalNumber}
+use Rattle.formats.specs.declared.OptionalNumber.{OptionalNumber}
 use Rattle.formats_write.specs.promises.Given.{givenNumber}
 use Rattle.decode.specs.Leaves.{Trips}
 use Rattle.decode.specs.Trip.{Trip}

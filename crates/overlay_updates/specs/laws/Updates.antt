@@ -7,8 +7,8 @@ use lib.Dec.{eqb}
 use lib.ListN.{take, drop}
 use borrow.Author.Tests.{eq-eqb, ne-eqb}
 use Rattle.formats.specs.Format.{number, _&_}
-use Rattle.formats_write.specs.declared.OptionalNumber.{OptionalNumber}
-use Rattle.formats_write.specs.declared.OptionalNumber.the-variants.{Absent, Present}
+use Rattle.formats.specs.declared.OptionalNumber.{OptionalNumber}
+use Rattle.formats.specs.declared.OptionalNumber.the-variants.{Absent, Present}
 use Rattle.formats_write.specs.promises.Given.{givenNumber}
 use Rattle.formats_write.specs.laws.Slices.{slice-is}
 use Rattle.formats_read.specs.promises.Reads.{ReadsNumber, ReadsText}

@@ -10,7 +10,7 @@ use Rattle.formats.specs.laws.Format.{law}
 use Rattle.formats.specs.promises.Outcome.{skipped, skipTo}
 use Rattle.formats.specs.declared.Skip.{Skip}
 use Rattle.formats.specs.declared.Skip.the-variants.{At, Broken}
-use Rattle.formats_write.specs.declared.Span.{Span}
+use Rattle.formats.specs.declared.Span.{Span}
 use Rattle.formats_read.specs.promises.Fields.{Has}
 use Rattle.formats_read.specs.promises.Here.{Here, Field}
 use Rattle.formats_read.specs.promises.Lists.{Many, Reaches}
