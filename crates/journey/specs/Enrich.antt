@@ -19,7 +19,7 @@ use Rattle.alerts.specs.Applies.{alert-applies-to-leg-with-mode}
 use Rattle.alerts.specs.Label.{label}
 use Rattle.overlay.specs.State.{Vehicle, latitudeOf, longitudeOf, updatedOf}
 use Rattle.overlay.specs.Records.{Records, Feeds}
-use Rattle.overlay.specs.Lookup.{Found, feed-of, resolve-trip-rt, get-vehicle-for-trip}
+use Rattle.overlay.specs.Lookup.{FeedTrip, feed-of, resolve-trip-rt, get-vehicle-for-trip}
 use Rattle.journey.specs.Card.{Middle, Transit, Card, leg, middleOf, transitOf, middleValue, transitValue}
 use Rattle.journey.specs.Times.{StopRealtime, arrival, departure, apply-time}
 
@@ -30,10 +30,10 @@ abbrev pub seconds : ℤ → ℕ
 seconds (pos n) = n
 seconds (negsuc n) = 0
 
-unfoldable pub trip-rt : Feeds → Transit → Option Found
+unfoldable pub trip-rt : Feeds → Transit → Option FeedTrip
 trip-rt B t = resolve-trip-rt B (t .trip) (t .route) (t .direction) (parisDigits (seconds (t .scheduledDeparture)))
 
-abbrev pub isCancelled : Option Found → Bool
+abbrev pub isCancelled : Option FeedTrip → Bool
 isCancelled none = false
 isCancelled (some r) = eqb (cancelledOf (r .1)) 1
 
@@ -86,7 +86,7 @@ placed f none old = old
 placed f (some v) old = inr (f v)
 
 -- a middle stop is found by its stop id alone, and each event takes its own time
-unfoldable pub enrichMiddle : Option Found → Middle → Middle
+unfoldable pub enrichMiddle : Option FeedTrip → Middle → Middle
 enrichMiddle r m =
     let a = apply-time r arrival (m .scheduledArrival) (inl tt) (m .stop) in
     let d = apply-time r departure (m .scheduledDeparture) (inl tt) (m .stop) in

@@ -9,7 +9,7 @@ use lib.Dec.{eqb}
 use Rattle.decode.specs.Trip.{StopUpdate, Trip, arrivalDelayOf, arrivalTimeOf, departureDelayOf, departureTimeOf}
 use Rattle.decode.specs.Trip.{delayOf, cancelledOf}
 use Rattle.basics.specs.Options.{Maybe, orOther}
-use Rattle.overlay.specs.Lookup.{Found, find-stop-update}
+use Rattle.overlay.specs.Lookup.{FeedTrip, find-stop-update}
 use Rattle.basics.specs.Integers.{wrap32}
 
 pub data Event : Type 0 where
@@ -47,6 +47,6 @@ updated e at t (some u) = timed at (eventTime e u) (delayed at true (orOther (ev
 
 -- APPLY_TIME: an event at a stop, by its sequence where one is given, else by the stop id. No record leaves it as
 -- scheduled
-unfoldable pub apply-time : Option Found → Event → ℤ → Maybe ℕ → List ℕ → StopRealtime
+unfoldable pub apply-time : Option FeedTrip → Event → ℤ → Maybe ℕ → List ℕ → StopRealtime
 apply-time none e at sequence stop = delayed at false (inl tt)
 apply-time (some r) e at sequence stop = updated e at (r .1) (find-stop-update (r .0) sequence stop (r .1))

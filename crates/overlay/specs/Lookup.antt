@@ -59,15 +59,15 @@ find-trip-by-descriptor f route direction date trips =
     && (direction-matches direction (directionOf (e .1)) && same (dateOf (e .1)) date)) trips)
 
 -- a record with the feed that it was found in, whose prefix its stop ids have
-abbrev pub Found : Type 0
-Found = List ℕ × Trip
+abbrev pub FeedTrip : Type 0
+FeedTrip = List ℕ × Trip
 
-abbrev pub inFeed : List ℕ → Option Trip → Option Found
+abbrev pub inFeed : List ℕ → Option Trip → Option FeedTrip
 inFeed f none = none
 inFeed f (some t) = some (f, t)
 
 -- THE RECORD OF A LEG: by its trip id, else by its route's descriptor in the route's feed
-unfoldable pub resolve-trip-rt : Feeds → (trip route : List ℕ) → Maybe ℕ → (date : List ℕ) → Option Found
+unfoldable pub resolve-trip-rt : Feeds → (trip route : List ℕ) → Maybe ℕ → (date : List ℕ) → Option FeedTrip
 resolve-trip-rt B trip route direction date =
     orElse (bindO (B (feed-of trip)) (λ R. inFeed (feed-of trip) (get-trip (feed-of trip) trip (R .trips))))
     (cond (isEmpty route) none

@@ -25,7 +25,7 @@ use Rattle.basics.specs.laws.Booleans.{both-true}
 use Rattle.overlay.specs.laws.Within.{Judged56, left, right, joined, elements, listed, absent, present, both}
 use Rattle.overlay.specs.laws.EveryEntry.{each-map}
 use Rattle.decode.specs.laws.Fine.{Given}
-use Rattle.overlay.specs.Lookup.{Found, find-stop-update, get-vehicle-for-trip}
+use Rattle.overlay.specs.Lookup.{FeedTrip, find-stop-update, get-vehicle-for-trip}
 use Rattle.overlay.specs.Records.{Records, Feeds}
 use Rattle.journey.specs.Card.{scheduled, cardTime, duration, middle, transit, leg, card, Transit, middleOf}
 use Rattle.journey.specs.Card.{middleValue, transitOf, transitValue, cardOf, cardValue}
@@ -134,7 +134,7 @@ updated-judged e z t (some u) j k x =
     timed-judged z (eventTime e u) _ (time-judged u x e)
     (delayed-judged z true _ j (latest-judged {F = delay} (eventDelay e u) (t .0) (delay-judged u x e) (left k)))
 
-apply-judged : (r : Option Found) (e : Event) (z : ℤ) (sequence : Maybe ℕ) (stop : List ℕ) → Given FoundJudged r
+apply-judged : (r : Option FeedTrip) (e : Event) (z : ℤ) (sequence : Maybe ℕ) (stop : List ℕ) → Given FoundJudged r
     → Judged56 scheduled z → EventJudged (apply-time r e z sequence stop)
 unfolding apply-time
 apply-judged none e z sequence stop x j = delayed-judged z false (inl tt) j (absent delay)
@@ -155,7 +155,7 @@ placed-judged : {F : Format} (g : Vehicle → Value F) (o : Option Vehicle) (old
 placed-judged g none old h x k = k
 placed-judged {F} g (some v) old h x k = present F (g v) (h v x)
 
-module _ (r : Option Found) (x : Given FoundJudged r) where
+module _ (r : Option FeedTrip) (x : Given FoundJudged r) where
   middle-judged : (m : Value middle) → Judged56 middle m → Judged56 middle (middleValue (enrichMiddle r (middleOf m)))
   unfolding enrichMiddle
   middle-judged m j =

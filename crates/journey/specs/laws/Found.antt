@@ -22,9 +22,9 @@ use Rattle.overlay.specs.laws.Within.{Judged56, right, elements}
 use Rattle.overlay.specs.laws.EveryEntry.{each-map, get-each}
 use Rattle.decode.specs.laws.Fine.{Given}
 use Rattle.overlay.specs.laws.StaysValid.{TripKept, FeedKept, StateKept}
-use Rattle.overlay.specs.Lookup.{firstThat, valueOf, Found, inFeed, feed-of, trip-at, get-trip, find-trip-by-descriptor}
-use Rattle.overlay.specs.Lookup.{resolve-trip-rt, stop-update-by-stop-id, find-stop-update, vehicle-for-trip}
-use Rattle.overlay.specs.Lookup.{get-vehicle-for-trip}
+use Rattle.overlay.specs.Lookup.{firstThat, valueOf, FeedTrip, inFeed, feed-of, trip-at, get-trip}
+use Rattle.overlay.specs.Lookup.{find-trip-by-descriptor, resolve-trip-rt, stop-update-by-stop-id, find-stop-update}
+use Rattle.overlay.specs.Lookup.{vehicle-for-trip, get-vehicle-for-trip}
 
 -- feeds within questions 5 and 6
 pub record RecordsJudged (R : Records) : Type 0 where
@@ -85,7 +85,7 @@ get-gives {K} {A} {O} W {P} {Q} g k m h = go (get O k m) refl
 
 -- ---- trips, updates, vehicles
 
-abbrev pub FoundJudged : Found → Type 0
+abbrev pub FoundJudged : FeedTrip → Type 0
 FoundJudged r = Judged56 trip (r .1)
 
 found-gives : (f : List ℕ) (o : Option Trip) → Gives (Judged56 trip) o → Gives FoundJudged (inFeed f o)

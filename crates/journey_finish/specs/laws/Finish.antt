@@ -20,7 +20,7 @@ use Rattle.formats_write.specs.declared.Put.{Put}
 use Rattle.formats_write.specs.laws.Slices.{slice-is}
 use Rattle.formats_write.specs.promises.Given.{givenNumber}
 use Rattle.decode.specs.Trip.{trip}
-use Rattle.overlay.specs.Lookup.{Found}
+use Rattle.overlay.specs.Lookup.{FeedTrip}
 use Rattle.overlay.specs.Records.{shown}
 use Rattle.overlay.specs.laws.Within.{Judged56, left, right}
 use Rattle.overlay_resolve.specs.declared.Resolved.{Resolved}

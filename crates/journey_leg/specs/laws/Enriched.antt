@@ -5,7 +5,7 @@ use mathlib.Core.Logic.{inl}
 use mathlib.Core.Option.{Option}
 use Rattle.formats.specs.Format.{Value}
 use Rattle.overlay.specs.Records.{Feeds}
-use Rattle.overlay.specs.Lookup.{Found, get-vehicle-for-trip}
+use Rattle.overlay.specs.Lookup.{FeedTrip, get-vehicle-for-trip}
 use Rattle.journey.specs.Card.{transit, middle, transitOf, transitValue, middleOf, middleValue}
 use Rattle.journey.specs.Times.{arrival, departure, apply-time}
 use Rattle.journey.specs.Enrich.{trip-rt, cancels, departs, arrives, live, enrichMiddle, enrichTransit}
@@ -14,7 +14,7 @@ use Rattle.journey_times.specs.declared.StopRealtime.{StopRealtime}
 use Rattle.journey_leg.specs.declared.LegRealtime.{LegRealtime}
 use Rattle.journey_leg.specs.promises.Leg.{newLeg, newMiddle}
 
-pub middle-is : (r : Option Found) (v : Value middle) (a d : StopRealtime)
+pub middle-is : (r : Option FeedTrip) (v : Value middle) (a d : StopRealtime)
     → realtimeOf a ≡ apply-time r arrival (v .1 .0) (inl tt) (v .0)
     → realtimeOf d ≡ apply-time r departure (v .1 .1 .0) (inl tt) (v .0)
     → newMiddle a d v ≡ middleValue (enrichMiddle r (middleOf v))

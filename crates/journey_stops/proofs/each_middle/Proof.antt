@@ -5,7 +5,7 @@ use Rattle.journey_stops.proofs.each_middle.Statement.{statement}
 use Rattle.journey_stops.proofs.each_middle.Tie as tie
 use Rattle.journey_stops.specs.laws.Advance.{Advance, start, step, stop}
 use Rattle.journey_stops.specs.promises.Stops.{Holds, stopBy}
-use Rattle.overlay.specs.Lookup.{Found}
+use Rattle.overlay.specs.Lookup.{FeedTrip}
 use Rattle.overlay.specs.laws.Within.{Judged56}
 use borrow.Author.Needs.{needs}
 use lib.ListN.{length}
@@ -14,7 +14,7 @@ use mathlib.Core.Path.{_≡_, refl}
 
 abbrev Inv-loop : tie.InvT-loop
 Inv-loop s at n b row feed out₀ p₀ left₀ k₀ out p left k =
-    (length out ≡ length out₀) × ((o : Option Found) → Holds b row feed o
+    (length out ≡ length out₀) × ((o : Option FeedTrip) → Holds b row feed o
     → Advance middle (Judged56 middle) (λ v. write middle (stopBy o v)) s at n p left out₀ k₀ out k)
 
 abbrev μ-loop : tie.MeasureT-loop

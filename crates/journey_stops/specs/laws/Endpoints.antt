@@ -18,7 +18,7 @@ use Rattle.formats_read.specs.promises.Here.{Here}
 use Rattle.formats_read.specs.promises.Reads.{ReadsNumber, ReadsText}
 use Rattle.formats_read.specs.laws.Here.{halves, number-here}
 use Rattle.formats_skip.specs.laws.Leads.{lead-field}
-use Rattle.overlay.specs.Lookup.{Found, get-vehicle-for-trip}
+use Rattle.overlay.specs.Lookup.{FeedTrip, get-vehicle-for-trip}
 use Rattle.overlay.specs.Records.{Feeds}
 use Rattle.overlay.specs.laws.Within.{Judged56, left, right}
 use Rattle.overlay_seek.specs.declared.Found as seek

@@ -26,7 +26,7 @@ use Rattle.formats_skip.specs.promises.Passes.{Passes}
 use Rattle.formats_skip.specs.laws.Passes.{any-signed}
 use Rattle.formats_skip.specs.laws.Leads.{lead-field}
 use Rattle.decode.specs.Trip.{stopUpdate}
-use Rattle.overlay.specs.Lookup.{Found, find-stop-update}
+use Rattle.overlay.specs.Lookup.{FeedTrip, find-stop-update}
 use Rattle.overlay.specs.laws.Within.{Judged56, left, right, elements}
 use Rattle.overlay_seek.specs.declared.Found as seek
 use Rattle.overlay_seek.specs.declared.Found.the-variants as seeks

@@ -14,7 +14,7 @@ use Rattle.formats_judge.specs.Judged.{ok}
 use Rattle.formats_read.specs.promises.Here.{Here}
 use Rattle.formats_write.specs.promises.Given.{givenSigned}
 use Rattle.decode.specs.Trip.{delay, instant, stopUpdate, trip, StopUpdate, Trip, cancelledOf}
-use Rattle.overlay.specs.Lookup.{Found, find-stop-update}
+use Rattle.overlay.specs.Lookup.{FeedTrip, find-stop-update}
 use Rattle.journey.specs.Card.{scheduled}
 use Rattle.journey.specs.Times as times
 use Rattle.journey_times.specs.declared.StopRealtime.{StopRealtime}
@@ -81,16 +81,16 @@ pub record ByUpdate (e : Event) (at : ℤ) (s : List ℕ) (p u : ℕ) (r : StopR
       → realtimeOf r ≡ times.updated (eventOf e) at t (some v)
 
 -- what is known of a stop is what look-up finds in the record o: nothing, the record alone, or its update
-abbrev pub Knows : List ℕ → Known → Option Found → Maybe ℕ → List ℕ → Type 0
+abbrev pub Knows : List ℕ → Known → Option FeedTrip → Maybe ℕ → List ℕ → Type 0
 Knows s knowns.Nothing o sequence stop = o ≡ none
 Knows s (knowns.Trip p) o sequence stop =
-    (F : Found) × (o ≡ some F) × ((q : ℕ) × Ranged trip s p q (F .1))
+    (F : FeedTrip) × (o ≡ some F) × ((q : ℕ) × Ranged trip s p q (F .1))
     × (find-stop-update (F .0) sequence stop (F .1) ≡ none)
 Knows s (knowns.Update p u) o sequence stop =
-    (F : Found) × (o ≡ some F) × ((q : ℕ) × Ranged trip s p q (F .1))
+    (F : FeedTrip) × (o ≡ some F) × ((q : ℕ) × Ranged trip s p q (F .1))
     × ((v : StopUpdate) × (find-stop-update (F .0) sequence stop (F .1) ≡ some v)
     × ((x : ℕ) × Ranged stopUpdate s u x v))
 
 pub record Applies (e : Event) (at : ℤ) (s : List ℕ) (k : Known) (r : StopRealtime) : Type 0 where
-  pub is : (o : Option Found) (sequence : Maybe ℕ) (stop : List ℕ) → Knows s k o sequence stop
+  pub is : (o : Option FeedTrip) (sequence : Maybe ℕ) (stop : List ℕ) → Knows s k o sequence stop
       → realtimeOf r ≡ times.apply-time o (eventOf e) at sequence stop

@@ -72,7 +72,7 @@ feeds (b ∷ f) = cond (eqb b 102)
     (some (record { trips = byKey; vehicles = running; alerts = [] }))
     (some (record { trips = byRoute; vehicles = []; alerts = [] }))
 
-abbrev pub resolved : String → String → Maybe ℕ → String → Option lookup.Found
+abbrev pub resolved : String → String → Maybe ℕ → String → Option lookup.FeedTrip
 resolved trip route direction date = lookup.resolve-trip-rt feeds (text trip) (text route) direction (text date)
 
 abbrev pub routes : String → String → Bool

@@ -13,7 +13,7 @@ use Rattle.formats_write.specs.promises.Given.{givenNumber}
 use Rattle.decode.specs.Leaves.{Trips}
 use Rattle.decode.specs.Trip.{Trip}
 use Rattle.overlay.specs.Records.{shown}
-use Rattle.overlay.specs.Lookup.{Found, feed-of, inFeed, get-trip, find-trip-by-descriptor, resolve-trip-rt}
+use Rattle.overlay.specs.Lookup.{FeedTrip, feed-of, inFeed, get-trip, find-trip-by-descriptor, resolve-trip-rt}
 use Rattle.overlay_feeds.specs.laws.Head.{begins}
 use Rattle.overlay_places.specs.declared.FeedRank.{FeedRank}
 use Rattle.overlay_places.specs.declared.FeedRank.the-variants as rank
@@ -29,13 +29,13 @@ use Rattle.overlay_resolve.specs.promises.Shown.{ResolvedAt, FoundIn, Re
 use Rattle.overlay_resolve.specs.promises.Shown.{inTrips, byRoute, recordFor}
 use Rattle.overlay_resolve.specs.laws.Shown.{shown-some, shown-none}
 
-found-at : {b : List ℕ} {p e : ℕ} {o : Option Found} → ResolvedAt b p e o → FoundIn b o (At p e)
+found-at : {b : List ℕ} {p e : ℕ} {o : Option FeedTrip} → ResolvedAt b p e o → FoundIn b o (At p e)
 found-at {b} {p} {e} R = record {
   found = λ q d h. let x : p ≡ q = cc in let y : e ≡ d = cc in rw (x, y) at R;
   missing = λ h. absurd (let z : _≡_ {A = ℕ} 0 1 = cc in omega arith);
 }
 
-found-none : {b : List ℕ} {o : Option Found} → o ≡ none → FoundIn b o Missing
+found-none : {b : List ℕ} {o : Option FeedTrip} → o ≡ none → FoundIn b o Missing
 found-none e = record { found = λ q d h. absurd (let z : _≡_ {A = ℕ} 0 1 = cc in omega arith); missing = λ h. e }
 
 -- A FEED'S RECORD

@@ -17,7 +17,7 @@ use Rattle.decode.specs.Trip.{Trip, trip}
 use Rattle.overlay.specs.State.{State, overlay, feedsOf}
 use Rattle.alerts.specs.Alert.{alert}
 use Rattle.overlay.specs.Records.{Records, Feeds, shown}
-use Rattle.overlay.specs.Lookup.{Found, feed-of, inFeed, find-trip-by-descriptor}
+use Rattle.overlay.specs.Lookup.{FeedTrip, feed-of, inFeed, find-trip-by-descriptor}
 use Rattle.overlay.specs.Lookup.{resolve-trip-rt, get-vehicle-for-trip}
 use Rattle.overlay_seek.specs.declared.Found as seek
 use Rattle.overlay_seek.specs.declared.Found.the-variants as place
@@ -46,7 +46,7 @@ pub record ShowsAlerts (b x : List ℕ) (r : seek.Found) : Type 0 where
   pub to : {st : State} {q : ℕ} → Here overlay b 0 q st → AlertsIn b (shown st (feed-of x)) r
 
 -- a record at p, of the feed whose id is at e
-pub record ResolvedAt (b : List ℕ) (p e : ℕ) (o : Option Found) : Type 0 where
+pub record ResolvedAt (b : List ℕ) (p e : ℕ) (o : Option FeedTrip) : Type 0 where
   pub feed : List ℕ
   pub id-end : ℕ
   pub id-here : Here (text mostFeed token) b e id-end feed
@@ -55,24 +55,24 @@ pub record ResolvedAt (b : List ℕ) (p e : ℕ) (o : Option Found) : Type 0 whe
   pub here : Here trip b p end it
   pub is : o ≡ some (feed, it)
 
-pub record FoundIn (b : List ℕ) (o : Option Found) (r : Resolved) : Type 0 where
+pub record FoundIn (b : List ℕ) (o : Option FeedTrip) (r : Resolved) : Type 0 where
   pub found : (p e : ℕ) → r ≡ At p e → ResolvedAt b p e o
   pub missing : r ≡ Missing → o ≡ none
 
-pub record Resolves (look : Feeds → Option Found) (b : List ℕ) (r : Resolved) : Type 0 where
+pub record Resolves (look : Feeds → Option FeedTrip) (b : List ℕ) (r : Resolved) : Type 0 where
   pub to : {st : State} {q : ℕ} → Here overlay b 0 q st → ascending texts (feedsOf st) ≡ true
       → FoundIn b (look (shown st)) r
 
 -- in feed f's trips
-unfoldable pub inTrips : List ℕ → (Trips → Option Trip) → Feeds → Option Found
+unfoldable pub inTrips : List ℕ → (Trips → Option Trip) → Feeds → Option FeedTrip
 inTrips f look B = bindO (B f) (λ R. inFeed f (look (R .trips)))
 
 -- the look-up with the feeds last
-unfoldable pub recordFor : (trip route : List ℕ) → Maybe ℕ → (date : List ℕ) → Feeds → Option Found
+unfoldable pub recordFor : (trip route : List ℕ) → Maybe ℕ → (date : List ℕ) → Feeds → Option FeedTrip
 recordFor trip route direction date B = resolve-trip-rt B trip route direction date
 
 -- by a leg's descriptor, in its route's feed
-unfoldable pub byRoute : List ℕ → Maybe ℕ → List ℕ → Feeds → Option Found
+unfoldable pub byRoute : List ℕ → Maybe ℕ → List ℕ → Feeds → Option FeedTrip
 byRoute route direction date B =
     cond (isEmpty route) none
     (inTrips (feed-of route) (find-trip-by-descriptor (feed-of route) route direction date) B)
