@@ -1,8 +1,8 @@
 // Calls of the tests on an alert for a C host: differential/port compares them with the original, bench/run measures
 // them beside it. They ask nothing of their caller.
 use alerts_apply::known::applies_known;
-use formats_judge::Judge;
 use formats::Span;
+use formats_judge::Judge;
 
 mod table;
 

@@ -56,42 +56,43 @@ fn decimal(k: usize, out: &mut [u8], at: usize, n: u32) -> usize
     add_byte(out, p, digit(n % 10))
 }
 
-// A key that stands in s, into slot n: how long it is.
-pub fn write_key(keys: &mut [u8], n: usize, s: &[u8], start: usize, len: usize) -> usize
+// A key that stands in the message, into slot n: how long it is.
+pub fn write_key(keys: &mut [u8], n: usize, message: &[u8], start: usize, len: usize) -> usize
     requires { ⌜ Room (now keys) n ⌝ }
-    requires { ⌜ (start + len ≤ length (now s)) × (len ≤ keyBytes) ⌝ }
-    ensures { λ r. ⌜ Keyed (now (keys .entry)) n (take len (drop start (now (s .entry)))) (now (keys .exit)) r ⌝ }
+    requires { ⌜ (start + len ≤ length (now message)) × (len ≤ keyBytes) ⌝ }
+    ensures { λ r. ⌜ Keyed (now (keys .entry)) n (take len (drop start (now (message .entry)))) (now (keys .exit)) r ⌝ }
 {
-    add(keys, KEY_BYTES * n, slices::part(s, start, len)) - KEY_BYTES * n
+    add(keys, KEY_BYTES * n, slices::part(message, start, len)) - KEY_BYTES * n
 }
 
 // The raw trip id of an entity with its date.
-pub fn write_dated(keys: &mut [u8], n: usize, s: &[u8], t: Trip) -> usize
+pub fn write_dated(keys: &mut [u8], n: usize, message: &[u8], t: Trip) -> usize
     requires { ⌜ Room (now keys) n ⌝ }
-    requires { ⌜ Short (now s) t ⌝ }
+    requires { ⌜ Short (now message) t ⌝ }
     ensures { λ r. ⌜ Keyed (now (keys .entry)) n
-        (datedKey (partIn (now (s .entry)) (t .id)) (partIn (now (s .entry)) (t .date))) (now (keys .exit)) r ⌝ }
+        (datedKey (partIn (now (message .entry)) (t .id)) (partIn (now (message .entry)) (t .date)))
+        (now (keys .exit)) r ⌝ }
 {
     let id = t.id;
     let date = t.date;
-    let p = add(keys, KEY_BYTES * n, slices::part(s, id.start, id.len));
+    let p = add(keys, KEY_BYTES * n, slices::part(message, id.start, id.len));
     let q = add_byte(keys, p, b'@');
-    add(keys, q, slices::part(s, date.start, date.len)) - KEY_BYTES * n
+    add(keys, q, slices::part(message, date.start, date.len)) - KEY_BYTES * n
 }
 
 // feed:route, and nothing where there is no route: 16 + 1 + 64 bytes at most.
-fn write_route(keys: &mut [u8], at: usize, feed: &[u8], s: &[u8], route: TextPart) -> usize
+fn write_route(keys: &mut [u8], at: usize, feed: &[u8], message: &[u8], route: TextPart) -> usize
     requires { ⌜ (at + 81 ≤ length (now keys)) × (length (now feed) ≤ mostFeed) ⌝ }
-    requires { ⌜ PartInside (length (now s)) route × (route .len ≤ mostId) ⌝ }
+    requires { ⌜ PartInside (length (now message)) route × (route .len ≤ mostId) ⌝ }
     ensures { λ r. ⌜ Added (now (keys .entry)) at
-        (prefixed (now (feed .entry)) (partIn (now (s .entry)) route)) (now (keys .exit)) r ⌝ }
+        (prefixed (now (feed .entry)) (partIn (now (message .entry)) route)) (now (keys .exit)) r ⌝ }
 {
     if route.len == 0 {
         return at;
     }
     let p = add(keys, at, feed);
     let q = add_byte(keys, p, b':');
-    add(keys, q, slices::part(s, route.start, route.len))
+    add(keys, q, slices::part(message, route.start, route.len))
 }
 
 // A direction has 10 digits at most.
@@ -107,46 +108,47 @@ fn write_direction(keys: &mut [u8], at: usize, direction: Direction) -> usize
 }
 
 // #r=, 81 bytes of a route, &d= and a direction: 97 at most.
-fn write_head(keys: &mut [u8], at: usize, feed: &[u8], s: &[u8], t: Trip) -> usize
+fn write_head(keys: &mut [u8], at: usize, feed: &[u8], message: &[u8], t: Trip) -> usize
     requires { ⌜ (at + 97 ≤ length (now keys)) × (length (now feed) ≤ mostFeed) ⌝ }
-    requires { ⌜ Short (now s) t ⌝ }
+    requires { ⌜ Short (now message) t ⌝ }
     ensures { λ r. ⌜ Added (now (keys .entry)) at
-        (headOf (now (feed .entry)) (partIn (now (s .entry)) (t .route)) (maybe (viewDirection (t .direction))))
+        (headOf (now (feed .entry)) (partIn (now (message .entry)) (t .route)) (maybe (viewDirection (t .direction))))
         (now (keys .exit)) r ⌝ }
 {
     let route = t.route;
     let direction = t.direction;
     let a = add(keys, at, b"#r=");
-    let b = write_route(keys, a, feed, s, route);
+    let b = write_route(keys, a, feed, message, route);
     let c = add(keys, b, b"&d=");
     write_direction(keys, c, direction)
 }
 
 // &sd= and a date, &st= and a time: 40 bytes at most.
-fn write_tail(keys: &mut [u8], at: usize, s: &[u8], date: TextPart, time: TextPart) -> usize
+fn write_tail(keys: &mut [u8], at: usize, message: &[u8], date: TextPart, time: TextPart) -> usize
     requires { ⌜ at + 40 ≤ length (now keys) ⌝ }
-    requires { ⌜ PartInside (length (now s)) date × (date .len ≤ mostDate) ⌝ }
-    requires { ⌜ PartInside (length (now s)) time × (time .len ≤ mostTime) ⌝ }
+    requires { ⌜ PartInside (length (now message)) date × (date .len ≤ mostDate) ⌝ }
+    requires { ⌜ PartInside (length (now message)) time × (time .len ≤ mostTime) ⌝ }
     ensures { λ r. ⌜ Added (now (keys .entry)) at
-        (tailOf (partIn (now (s .entry)) date) (partIn (now (s .entry)) time)) (now (keys .exit)) r ⌝ }
+        (tailOf (partIn (now (message .entry)) date) (partIn (now (message .entry)) time)) (now (keys .exit)) r ⌝ }
 {
     let a = add(keys, at, b"&sd=");
-    let b = add(keys, a, slices::part(s, date.start, date.len));
+    let b = add(keys, a, slices::part(message, date.start, date.len));
     let c = add(keys, b, b"&st=");
-    add(keys, c, slices::part(s, time.start, time.len))
+    add(keys, c, slices::part(message, time.start, time.len))
 }
 
 // The key of an entity without a trip id.
-pub fn write_incomplete(keys: &mut [u8], n: usize, feed: &[u8], s: &[u8], t: Trip) -> usize
+pub fn write_incomplete(keys: &mut [u8], n: usize, feed: &[u8], message: &[u8], t: Trip) -> usize
     requires { ⌜ Room (now keys) n ⌝ }
     requires { ⌜ length (now feed) ≤ mostFeed ⌝ }
-    requires { ⌜ Short (now s) t ⌝ }
+    requires { ⌜ Short (now message) t ⌝ }
     ensures { λ r. ⌜ Keyed (now (keys .entry)) n
-        (headOf (now (feed .entry)) (partIn (now (s .entry)) (t .route)) (maybe (viewDirection (t .direction)))
-        ++ tailOf (partIn (now (s .entry)) (t .date)) (partIn (now (s .entry)) (t .time))) (now (keys .exit)) r ⌝ }
+        (headOf (now (feed .entry)) (partIn (now (message .entry)) (t .route)) (maybe (viewDirection (t .direction)))
+        ++ tailOf (partIn (now (message .entry)) (t .date)) (partIn (now (message .entry)) (t .time)))
+        (now (keys .exit)) r ⌝ }
 {
-    let p = write_head(keys, KEY_BYTES * n, feed, s, t);
+    let p = write_head(keys, KEY_BYTES * n, feed, message, t);
     let date = t.date;
     let time = t.time;
-    write_tail(keys, p, s, date, time) - KEY_BYTES * n
+    write_tail(keys, p, message, date, time) - KEY_BYTES * n
 }

@@ -1,11 +1,11 @@
 // Reads at a place of a lent slice, by the format of the value that stands there. They are total: where no such
 // value stands, they answer something.
 use formats::Numeral;
-use formats::Skip;
-use formats::kinds;
 use formats::OptionalNumber;
 use formats::OptionalSigned;
+use formats::Skip;
 use formats::Span;
+use formats::kinds;
 ghost use mathlib.Core.Path.{_≡_};
 ghost use Prim.Native.Nat.{ℕ, _≤_};
 ghost use lib.IntN.{ℤ};

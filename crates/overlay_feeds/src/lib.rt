@@ -13,12 +13,12 @@ pub struct Head {
     pub first: usize,
 }
 
-pub fn read_head(s: &[u8]) -> Head
-    ensures { λ r. ⌜ ReadsHead (now (s .entry)) (r .version) (r .counted) (r .count) (r .first) ⌝ }
+pub fn read_head(old: &[u8]) -> Head
+    ensures { λ r. ⌜ ReadsHead (now (old .entry)) (r .version) (r .counted) (r .count) (r .first) ⌝ }
 {
-    let v = formats_read::number(s, 1);
+    let v = formats_read::number(old, 1);
     let counted = v.next;
-    let n = formats_read::number(s, counted);
+    let n = formats_read::number(old, counted);
     Head {
         version: v.value,
         counted,
@@ -36,12 +36,12 @@ pub struct Front {
 }
 
 // The front of the feed whose id ends at `at`.
-pub fn read_front(s: &[u8], at: usize) -> Front
-    ensures { λ r. ⌜ ReadsFront (now (s .entry)) at r ⌝ }
+pub fn read_front(old: &[u8], at: usize) -> Front
+    ensures { λ r. ⌜ ReadsFront (now (old .entry)) at r ⌝ }
 {
-    let timestamp = formats_read::optional_signed(s, at);
-    let counted = formats_skip::past_optional_number(s, at);
-    let n = formats_read::number(s, counted);
+    let timestamp = formats_read::optional_signed(old, at);
+    let counted = formats_skip::past_optional_number(old, at);
+    let n = formats_read::number(old, counted);
     Front {
         timestamp,
         counted,
@@ -62,12 +62,12 @@ pub struct Parts {
 }
 
 // The parts of the feed with this front, whose trips end at `vehicles`.
-pub fn read_back(s: &[u8], front: Front, vehicles: usize) -> Parts
-    ensures { λ r. ⌜ ReadsBack (now (s .entry)) front vehicles r ⌝ }
+pub fn read_back(old: &[u8], front: Front, vehicles: usize) -> Parts
+    ensures { λ r. ⌜ ReadsBack (now (old .entry)) front vehicles r ⌝ }
 {
     let timestamp = front.timestamp;
-    let alerts = overlay_skip::past_vehicles(s, vehicles);
-    let end = alerts_skip::past_alerts(s, alerts);
+    let alerts = overlay_skip::past_vehicles(old, vehicles);
+    let end = alerts_skip::past_alerts(old, alerts);
     Parts {
         timestamp,
         counted: front.counted,
@@ -80,22 +80,22 @@ pub fn read_back(s: &[u8], front: Front, vehicles: usize) -> Parts
 }
 
 // The parts of the feed whose id ends at `at`.
-pub fn read_parts(s: &[u8], at: usize) -> Parts
-    ensures { λ r. ⌜ ReadsParts (now (s .entry)) at r ⌝ }
+pub fn read_parts(old: &[u8], at: usize) -> Parts
+    ensures { λ r. ⌜ ReadsParts (now (old .entry)) at r ⌝ }
 {
-    let front = read_front(s, at);
-    let vehicles = decode_skip::past_trips(s, front.trips);
-    read_back(s, front, vehicles)
+    let front = read_front(old, at);
+    let vehicles = decode_skip::past_trips(old, front.trips);
+    read_back(old, front, vehicles)
 }
 
 // The order of a text and the one that stands at `at`.
-pub fn compare_text(s: &[u8], at: usize, text: &[u8]) -> Order
-    ensures { λ r. ⌜ Compares (now (s .entry)) at (now (text .entry)) r ⌝ }
+pub fn compare_text(old: &[u8], at: usize, text: &[u8]) -> Order
+    ensures { λ r. ⌜ Compares (now (old .entry)) at (now (text .entry)) r ⌝ }
 {
-    let t = formats_read::text(s, at);
+    let t = formats_read::text(old, at);
     let from = t.from;
     let to = t.to;
-    slices::compare(text, &s[from..to])
+    slices::compare(text, &old[from..to])
 }
 
 // A feed's rank, the place of its entry, and the place past its id; or the rank and the place where it would go in.
@@ -104,19 +104,19 @@ pub enum FeedPlace {
     Missing(u64, usize),
 }
 
-pub fn find_feed(s: &[u8], feed: &[u8]) -> FeedPlace
-    ensures { λ r. ⌜ FindsFeed (now (s .entry)) (now (feed .entry)) r ⌝ }
+pub fn find_feed(old: &[u8], feed: &[u8]) -> FeedPlace
+    ensures { λ r. ⌜ FindsFeed (now (old .entry)) (now (feed .entry)) r ⌝ }
 {
-    let h = read_head(s);
+    let h = read_head(old);
     let mut p = h.first;
     let mut left = h.count;
     let mut i = 0;
     while 0 < left {
-        match compare_text(s, p, feed) {
+        match compare_text(old, p, feed) {
             Order::Less => return FeedPlace::Missing(i, p),
-            Order::Same => return FeedPlace::At(i, p, formats_skip::past_text(s, p)),
+            Order::Same => return FeedPlace::At(i, p, formats_skip::past_text(old, p)),
             Order::More => {
-                p = overlay_skip::past_feed_entry(s, p);
+                p = overlay_skip::past_feed_entry(old, p);
                 left -= 1;
                 i += 1;
             }

@@ -31,30 +31,30 @@ fn has_at(v: &[u8]) -> bool
 }
 
 // What the key from a up to e adds to the count. `marked`: the feed's id has an '@', and so every key.
-fn adds(marked: bool, feed: &[u8], s: &[u8], a: usize, e: usize) -> u64
+fn adds(marked: bool, feed: &[u8], old: &[u8], a: usize, e: usize) -> u64
     requires { ⌜ marked ≡ hasByte 64 (now feed) ⌝ }
-    requires { ⌜ Inside (now s) a e ⌝ }
-    ensures { λ r. ⌜ (r ≡ plain (now (feed .entry)) (bytes (now (s .entry)) a e)) × (r ≤ 1) ⌝ }
+    requires { ⌜ Inside (now old) a e ⌝ }
+    ensures { λ r. ⌜ (r ≡ plain (now (feed .entry)) (bytes (now (old .entry)) a e)) × (r ≤ 1) ⌝ }
 {
     if marked {
         return 0;
     }
-    if has_at(&s[a..e]) {
+    if has_at(&old[a..e]) {
         return 0;
     }
     1
 }
 
-fn trip_entry(feed: &[u8], s: &[u8], at: usize) -> Entry
-    ensures { λ r. ⌜ Entered 137 printable (entryGood (now (feed .entry))) (now (s .entry)) at r ⌝ }
+fn trip_entry(feed: &[u8], old: &[u8], at: usize) -> Entry
+    ensures { λ r. ⌜ Entered 137 printable (entryGood (now (feed .entry))) (now (old .entry)) at r ⌝ }
 {
-    let CheckedText::At(a, e) = formats_check::printable_at(137, s, at) else {
+    let CheckedText::At(a, e) = formats_check::printable_at(137, old, at) else {
         return Entry::No;
     };
-    let Skip::At(q) = overlay_trip::trip(s, e) else {
+    let Skip::At(q) = overlay_trip::trip(old, e) else {
         return Entry::No;
     };
-    if overlay_keys::key_ok(feed, s, a, e) {
+    if overlay_keys::key_ok(feed, old, a, e) {
         return Entry::At(a, e, q);
     }
     Entry::No
@@ -67,17 +67,17 @@ fn trips_from(
     n: u64,
     marked: bool,
     feed: &[u8],
-    s: &[u8],
+    old: &[u8],
     at: usize,
     noted: &mut [u32],
     base: usize,
 ) -> Skip
     requires { ⌜ marked ≡ hasByte 64 (now feed) ⌝ }
-    requires { ⌜ at ≤ length (now s) ⌝ }
+    requires { ⌜ at ≤ length (now old) ⌝ }
     requires { ⌜ (base ≤ 6144) × (n ≤ mostTrips) ⌝ }
     ensures { λ r. ⌜ Climbs 137 printable (entryGood (now (feed .entry))) (byKey (plain (now (feed .entry))))
-        (isCount c n) n (now (s .entry)) at r ⌝ }
-    ensures { λ r. ⌜ Unless r Skip.Broken (EntriesPut (now (s .entry)) at n base (now (noted .entry))
+        (isCount c n) n (now (old .entry)) at r ⌝ }
+    ensures { λ r. ⌜ Unless r Skip.Broken (EntriesPut (now (old .entry)) at n base (now (noted .entry))
         (now (noted .exit))) ⌝ }
 {
     let mut p = at;
@@ -88,13 +88,13 @@ fn trips_from(
     let mut d: usize = 0;
     let mut m: u64 = 0;
     while 0 < left {
-        let Entry::At(a, e, q) = trip_entry(feed, s, p) else {
+        let Entry::At(a, e, q) = trip_entry(feed, old, p) else {
             return Skip::Broken;
         };
-        if !formats_check::follows(first, s, b, d, a, e) {
+        if !formats_check::follows(first, old, b, d, a, e) {
             return Skip::Broken;
         }
-        m += adds(marked, feed, s, a, e);
+        m += adds(marked, feed, old, a, e);
         overlay_noted::note(noted, i, p);
         p = q;
         i += 1;
@@ -113,18 +113,18 @@ fn trips_from(
 }
 
 // The trips of the feed whose count is c. Their places are noted from `base` on.
-pub fn trips(c: u64, feed: &[u8], s: &[u8], at: usize, noted: &mut [u32], base: usize) -> Skip
+pub fn trips(c: u64, feed: &[u8], old: &[u8], at: usize, noted: &mut [u32], base: usize) -> Skip
     requires { ⌜ base ≤ 6144 ⌝ }
-    ensures { λ r. ⌜ Tested (list 2048 tripEntry) (tripsGood (now (feed .entry)) c) (now (s .entry)) at r ⌝ }
-    ensures { λ r. ⌜ Unless r Skip.Broken (TripsPut (now (s .entry)) at base (now (noted .entry))
+    ensures { λ r. ⌜ Tested (list 2048 tripEntry) (tripsGood (now (feed .entry)) c) (now (old .entry)) at r ⌝ }
+    ensures { λ r. ⌜ Unless r Skip.Broken (TripsPut (now (old .entry)) at base (now (noted .entry))
         (now (noted .exit))) ⌝ }
 {
-    let Numeral::Got(n, p) = formats_check::number_at(s, at) else {
+    let Numeral::Got(n, p) = formats_check::number_at(old, at) else {
         return Skip::Broken;
     };
     if 2048 < n {
         return Skip::Broken;
     }
     let marked = has_at(feed);
-    trips_from(c, n, marked, feed, s, p, noted, base)
+    trips_from(c, n, marked, feed, old, p, noted, base)
 }

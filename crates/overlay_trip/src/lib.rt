@@ -15,11 +15,11 @@ ghost use Rattle.formats_check.specs.laws.Rising.{Rises, ascend};
 ghost use Rattle.overlay_trip.specs.laws.Trip.{timeGood, routeGood, tripGood};
 
 // Any 32 bits: a delay, by how a signed number is written, or a number.
-fn word(s: &[u8], at: usize) -> Skip
-    ensures { λ r. ⌜ Fine delay (now (s .entry)) at r ⌝ }
-    ensures { λ r. ⌜ Fine number32 (now (s .entry)) at r ⌝ }
+fn word(old: &[u8], at: usize) -> Skip
+    ensures { λ r. ⌜ Fine delay (now (old .entry)) at r ⌝ }
+    ensures { λ r. ⌜ Fine number32 (now (old .entry)) at r ⌝ }
 {
-    let Numeral::Got(n, p) = number_at(s, at) else {
+    let Numeral::Got(n, p) = number_at(old, at) else {
         return Skip::Broken;
     };
     if 4294967295 < n {
@@ -28,10 +28,10 @@ fn word(s: &[u8], at: usize) -> Skip
     Skip::At(p)
 }
 
-pub fn instant(s: &[u8], at: usize) -> Skip
-    ensures { λ r. ⌜ Fine instant (now (s .entry)) at r ⌝ }
+pub fn instant(old: &[u8], at: usize) -> Skip
+    ensures { λ r. ⌜ Fine instant (now (old .entry)) at r ⌝ }
 {
-    let Numeral::Got(n, p) = number_five(s, at) else {
+    let Numeral::Got(n, p) = number_five(old, at) else {
         return Skip::Broken;
     };
     if n % 2 != 0 {
@@ -43,84 +43,84 @@ pub fn instant(s: &[u8], at: usize) -> Skip
     Skip::At(p)
 }
 
-pub fn optional_word(s: &[u8], at: usize) -> Skip
-    ensures { λ r. ⌜ Fine (optional delay) (now (s .entry)) at r ⌝ }
-    ensures { λ r. ⌜ Fine (optional number32) (now (s .entry)) at r ⌝ }
+pub fn optional_word(old: &[u8], at: usize) -> Skip
+    ensures { λ r. ⌜ Fine (optional delay) (now (old .entry)) at r ⌝ }
+    ensures { λ r. ⌜ Fine (optional number32) (now (old .entry)) at r ⌝ }
 {
-    if s.len() <= at {
+    if old.len() <= at {
         return Skip::Broken;
     }
-    let c = s[at];
+    let c = old[at];
     if c == 0 {
         return Skip::At(at + 1);
     }
     if c == 1 {
-        return word(s, at + 1);
+        return word(old, at + 1);
     }
     Skip::Broken
 }
 
-fn optional_instant(s: &[u8], at: usize) -> Skip
-    ensures { λ r. ⌜ Fine (optional instant) (now (s .entry)) at r ⌝ }
+fn optional_instant(old: &[u8], at: usize) -> Skip
+    ensures { λ r. ⌜ Fine (optional instant) (now (old .entry)) at r ⌝ }
 {
-    if s.len() <= at {
+    if old.len() <= at {
         return Skip::Broken;
     }
-    let c = s[at];
+    let c = old[at];
     if c == 0 {
         return Skip::At(at + 1);
     }
     if c == 1 {
-        return instant(s, at + 1);
+        return instant(old, at + 1);
     }
     Skip::Broken
 }
 
 // Delay and time of one event, and what follows them in a stop's update.
-fn departure(s: &[u8], at: usize) -> Skip
-    ensures { λ r. ⌜ Fine (optional delay & optional instant & small 1) (now (s .entry)) at r ⌝ }
+fn departure(old: &[u8], at: usize) -> Skip
+    ensures { λ r. ⌜ Fine (optional delay & optional instant & small 1) (now (old .entry)) at r ⌝ }
 {
-    let Skip::At(p) = optional_word(s, at) else {
+    let Skip::At(p) = optional_word(old, at) else {
         return Skip::Broken;
     };
-    let Skip::At(q) = optional_instant(s, p) else {
+    let Skip::At(q) = optional_instant(old, p) else {
         return Skip::Broken;
     };
-    at_most(1, s, q)
+    at_most(1, old, q)
 }
 
-fn arrival(s: &[u8], at: usize) -> Skip
+fn arrival(old: &[u8], at: usize) -> Skip
     ensures { λ r. ⌜ Fine (optional delay & optional instant & optional delay & optional instant & small 1)
-        (now (s .entry)) at r ⌝ }
+        (now (old .entry)) at r ⌝ }
 {
-    let Skip::At(p) = optional_word(s, at) else {
+    let Skip::At(p) = optional_word(old, at) else {
         return Skip::Broken;
     };
-    let Skip::At(q) = optional_instant(s, p) else {
+    let Skip::At(q) = optional_instant(old, p) else {
         return Skip::Broken;
     };
-    departure(s, q)
+    departure(old, q)
 }
 
-fn stop_update(s: &[u8], at: usize) -> Skip
-    ensures { λ r. ⌜ Fine stopUpdate (now (s .entry)) at r ⌝ }
+fn stop_update(old: &[u8], at: usize) -> Skip
+    ensures { λ r. ⌜ Fine stopUpdate (now (old .entry)) at r ⌝ }
 {
-    let Skip::At(p) = printable(64, s, at) else {
+    let Skip::At(p) = printable(64, old, at) else {
         return Skip::Broken;
     };
-    arrival(s, p)
+    arrival(old, p)
 }
 
 // n updates one after another, ascending by sequence: the walk keeps the least that the next may have.
-fn updates_from(n: u64, s: &[u8], at: usize) -> Skip
-    requires { ⌜ at ≤ length (now s) ⌝ }
-    ensures { λ r. ⌜ Rises 4294967295 stopUpdate 0 n (now (s .entry)) at r ⌝ }
+fn updates_from(n: u64, old: &[u8], at: usize) -> Skip
+    requires { ⌜ at ≤ length (now old) ⌝ }
+    ensures { λ r. ⌜ Rises 4294967295 stopUpdate 0 n (now (old .entry)) at r ⌝ }
 {
     let mut p = at;
     let mut left = n;
     let mut low: u64 = 0;
     while 0 < left {
-        let Numeral::Got(k, q) = number_at(s, p) else {
+        let Numeral::Got(k, q) = number_at(old, p) else {
             return Skip::Broken;
         };
         if k < low {
@@ -129,7 +129,7 @@ fn updates_from(n: u64, s: &[u8], at: usize) -> Skip
         if 4294967295 < k {
             return Skip::Broken;
         }
-        let Skip::At(e) = stop_update(s, q) else {
+        let Skip::At(e) = stop_update(old, q) else {
             return Skip::Broken;
         };
         p = e;
@@ -140,53 +140,53 @@ fn updates_from(n: u64, s: &[u8], at: usize) -> Skip
 }
 
 // The updates of a trip: at most 128, each good, ascending by sequence.
-fn updates(s: &[u8], at: usize) -> Skip
+fn updates(old: &[u8], at: usize) -> Skip
     ensures { λ r. ⌜ Checked (list 128 (number32 & stopUpdate)) (ascend 128 4294967295 stopUpdate)
-        (now (s .entry)) at r ⌝ }
+        (now (old .entry)) at r ⌝ }
 {
-    let Numeral::Got(n, p) = number_long(s, at) else {
+    let Numeral::Got(n, p) = number_long(old, at) else {
         return Skip::Broken;
     };
     if 128 < n {
         return Skip::Broken;
     }
-    updates_from(n, s, p)
+    updates_from(n, old, p)
 }
 
 // The record of a trip from its start time on, from its route on, and whole.
-fn from_time(s: &[u8], at: usize) -> Skip
-    ensures { λ r. ⌜ Tested (time & list 128 (number32 & stopUpdate)) timeGood (now (s .entry)) at r ⌝ }
+fn from_time(old: &[u8], at: usize) -> Skip
+    ensures { λ r. ⌜ Tested (time & list 128 (number32 & stopUpdate)) timeGood (now (old .entry)) at r ⌝ }
 {
-    let Skip::At(p) = printable(16, s, at) else {
+    let Skip::At(p) = printable(16, old, at) else {
         return Skip::Broken;
     };
-    updates(s, p)
+    updates(old, p)
 }
 
-fn from_route(s: &[u8], at: usize) -> Skip
+fn from_route(old: &[u8], at: usize) -> Skip
     ensures { λ r. ⌜ Tested (id & optional number32 & time & list 128 (number32 & stopUpdate)) routeGood
-        (now (s .entry)) at r ⌝ }
+        (now (old .entry)) at r ⌝ }
 {
-    let Skip::At(p) = printable(64, s, at) else {
+    let Skip::At(p) = printable(64, old, at) else {
         return Skip::Broken;
     };
-    let Skip::At(q) = optional_word(s, p) else {
+    let Skip::At(q) = optional_word(old, p) else {
         return Skip::Broken;
     };
-    from_time(s, q)
+    from_time(old, q)
 }
 
-pub fn trip(s: &[u8], at: usize) -> Skip
-    ensures { λ r. ⌜ Tested trip tripGood (now (s .entry)) at r ⌝ }
+pub fn trip(old: &[u8], at: usize) -> Skip
+    ensures { λ r. ⌜ Tested trip tripGood (now (old .entry)) at r ⌝ }
 {
-    let Skip::At(p) = optional_word(s, at) else {
+    let Skip::At(p) = optional_word(old, at) else {
         return Skip::Broken;
     };
-    let Skip::At(q) = at_most(1, s, p) else {
+    let Skip::At(q) = at_most(1, old, p) else {
         return Skip::Broken;
     };
-    let Skip::At(u) = printable(16, s, q) else {
+    let Skip::At(u) = printable(16, old, q) else {
         return Skip::Broken;
     };
-    from_route(s, u)
+    from_route(old, u)
 }

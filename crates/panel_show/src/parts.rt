@@ -1,6 +1,6 @@
 // What states and cards are made of: numbers, texts, times of day, and what may be absent.
-use formats_read::Numbered;
 use formats::Span;
+use formats_read::Numbered;
 use libc::STDOUT_FILENO;
 
 pub fn say(text: &[u8]) {

@@ -20,7 +20,7 @@ add-requires : tie.Need-add-requires
 add-requires c κs =
     let start = to-start c in
     let a = start .args in
-    let l = span-length (a .s .now) (c .part .result .now) (a .t .id .start) (a .t .id .len) (c .part .ensures)
+    let l = span-length (a .message .now) (c .part .result .now) (a .t .id .start) (a .t .id .len) (c .part .ensures)
     (start .pre .1 .id .0) in
     omega (arith, start .pre .0 .counted, start .pre .0 .keyed, start .pre .1 .id .1)
 
@@ -30,7 +30,7 @@ add-byte-requires c κs =
     let at-part = at-add .before in
     let start = to-start at-part in
     let a = start .args in
-    let l = span-length (a .s .now) (at-part .part .result .now) (a .t .id .start) (a .t .id .len)
+    let l = span-length (a .message .now) (at-part .part .result .now) (a .t .id .start) (a .t .id .len)
     (at-part .part .ensures) (start .pre .1 .id .0) in
     omega (
       arith,
@@ -53,9 +53,9 @@ add-requires-2 c κs =
     let at-part = at-add .before in
     let start = to-start at-part in
     let a = start .args in
-    let l = span-length (a .s .now) (at-part .part .result .now) (a .t .id .start) (a .t .id .len)
+    let l = span-length (a .message .now) (at-part .part .result .now) (a .t .id .start) (a .t .id .len)
     (at-part .part .ensures) (start .pre .1 .id .0) in
-    let m = span-length (a .s .now) (c .part2 .result .now) (a .t .date .start) (a .t .date .len)
+    let m = span-length (a .message .now) (c .part2 .result .now) (a .t .date .start) (a .t .date .len)
     (c .part2 .ensures) (start .pre .1 .date .0) in
     omega (
       arith,
@@ -92,9 +92,9 @@ returns c =
     let at-part = at-add .before in
     let start = to-start at-part in
     let a = start .args in
-    let l = span-length (a .s .now) (at-part .part .result .now) (a .t .id .start) (a .t .id .len)
+    let l = span-length (a .message .now) (at-part .part .result .now) (a .t .id .start) (a .t .id .len)
     (at-part .part .ensures) (start .pre .1 .id .0) in
-    let m = span-length (a .s .now) (at-part2 .part2 .result .now) (a .t .date .start) (a .t .date .len)
+    let m = span-length (a .message .now) (at-part2 .part2 .result .now) (a .t .date .start) (a .t .date .len)
     (at-part2 .part2 .ensures) (start .pre .1 .date .0) in
     keyed-dated (at-part .part .ensures) (at-part2 .part2 .ensures) (omega (arith, start .pre .1 .id .1))
     (omega (arith, start .pre .1 .date .1)) (at-add .add .ensures) (at-add-byte .add-byte .ensures)

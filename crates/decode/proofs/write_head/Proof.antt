@@ -36,7 +36,7 @@ add-requires-2 c κs =
     let at-add = to-add at-write-route in
     let start = to-start at-add in
     let a = start .args in
-    let l = prefixed-short (a .feed .now) (a .s .now) (a .t .route) (start .pre .0 .1) (start .pre .1 .route .0)
+    let l = prefixed-short (a .feed .now) (a .message .now) (a .t .route) (start .pre .0 .1) (start .pre .1 .route .0)
     (start .pre .1 .route .1) in
     omega (
       arith,
@@ -54,7 +54,7 @@ write-direction-requires c κs =
     let at-add = to-add at-write-route in
     let start = to-start at-add in
     let a = start .args in
-    let l = prefixed-short (a .feed .now) (a .s .now) (a .t .route) (start .pre .0 .1) (start .pre .1 .route .0)
+    let l = prefixed-short (a .feed .now) (a .message .now) (a .t .route) (start .pre .0 .1) (start .pre .1 .route .0)
     (start .pre .1 .route .1) in
     omega (
       arith,

@@ -23,7 +23,7 @@ write-tail-requires c κs =
     let at-write-head = c .before .before .before .before .before in
     let start = to-start at-write-head in
     let a = start .args in
-    let l = spans-head (a .feed .now) (a .s .now) (a .t) (start .pre .1 .0) (start .pre .1 .1) in (
+    let l = spans-head (a .feed .now) (a .message .now) (a .t) (start .pre .1 .0) (start .pre .1 .1) in (
       omega (
         arith,
         start .pre .0 .counted,
@@ -53,7 +53,7 @@ returns c =
     let start = to-start at-write-head in
     let a = start .args in
     keyed (then (at-write-head .write-head .ensures) (at-write-tail .write-tail .ensures))
-    (spans-whole (a .feed .now) (a .s .now) (a .t) (start .pre .1 .0) (start .pre .1 .1))
+    (spans-whole (a .feed .now) (a .message .now) (a .t) (start .pre .1 .0) (start .pre .1 .1))
 
 pub write-incomplete-spec : {M : Type 1} → statement M
 write-incomplete-spec =

@@ -13,8 +13,8 @@ add-requires : tie.Need-add-requires
 add-requires c κs =
     let start = to-start c in
     let a = start .args in
-    let l = span-length (a .s .now) (c .part .result .now) (a .start) (a .len) (c .part .ensures) (start .pre .1 .0)
-    in
+    let l = span-length (a .message .now) (c .part .result .now) (a .start) (a .len) (c .part .ensures)
+    (start .pre .1 .0) in
     omega (arith, start .pre .0 .counted, start .pre .0 .keyed, start .pre .1 .1)
 
 returns : tie.Need-returns
@@ -23,7 +23,7 @@ returns c =
     let at-part = at-add .before in
     let start = to-start at-part in
     let a = start .args in
-    let l = span-length (a .s .now) (at-part .part .result .now) (a .start) (a .len) (at-part .part .ensures)
+    let l = span-length (a .message .now) (at-part .part .result .now) (a .start) (a .len) (at-part .part .ensures)
     (start .pre .1 .0) in
     rw (at-part .part .ensures) at (keyed (at-add .add .ensures) (omega (arith, start .pre .1 .1)))
 

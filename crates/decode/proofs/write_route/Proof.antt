@@ -23,7 +23,7 @@ returns : tie.Need-returns
 returns c =
     let start = to-start c in
     let a = start .args in
-    unrouted (a .keys .now) (a .feed .now) (a .s .now) (a .at) (a .route) (c .if1 .taken) (omega arith)
+    unrouted (a .keys .now) (a .feed .now) (a .message .now) (a .at) (a .route) (c .if1 .taken) (omega arith)
 
 add-byte-requires : tie.Need-add-byte-requires
 add-byte-requires c κs =
@@ -42,7 +42,7 @@ add-requires-2 c κs =
     let at-add = to-add at-add-byte in
     let start = to-start-from-else1 (at-add .before .before) in
     let a = start .args in
-    let l = span-length (a .s .now) (c .part .result .now) (a .route .start) (a .route .len) (c .part .ensures)
+    let l = span-length (a .message .now) (c .part .result .now) (a .route .start) (a .route .len) (c .part .ensures)
     (start .pre .1 .0) in
     omega (
       arith,
@@ -70,8 +70,9 @@ returns-2 c =
     let else1 = at-add .before .before in
     let start = to-start-from-else1 else1 in
     let a = start .args in
-    routed (a .feed .now) (a .s .now) (at-part .part .result .now) (a .route) (start .pre .1 .0) (else1 .if1 .left)
-    (at-part .part .ensures) (at-add .add .ensures) (at-add-byte .add-byte .ensures) (at-add2 .add2 .ensures)
+    routed (a .feed .now) (a .message .now) (at-part .part .result .now) (a .route) (start .pre .1 .0)
+    (else1 .if1 .left) (at-part .part .ensures) (at-add .add .ensures) (at-add-byte .add-byte .ensures)
+    (at-add2 .add2 .ensures)
 
 pub write-route-spec : {M : Type 1} → statement M
 write-route-spec =

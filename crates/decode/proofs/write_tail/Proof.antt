@@ -24,7 +24,7 @@ add-requires-2 c κs =
     let at-add = to-add c in
     let start = to-start at-add in
     let a = start .args in
-    let l = span-length (a .s .now) (c .part .result .now) (a .date .start) (a .date .len) (c .part .ensures)
+    let l = span-length (a .message .now) (c .part .result .now) (a .date .start) (a .date .len) (c .part .ensures)
     (start .pre .1 .0 .0) in
     omega (
       arith,
@@ -42,7 +42,7 @@ add-requires-3 c κs =
     let at-add = to-add at-part in
     let start = to-start at-add in
     let a = start .args in
-    let l = span-length (a .s .now) (at-part .part .result .now) (a .date .start) (a .date .len)
+    let l = span-length (a .message .now) (at-part .part .result .now) (a .date .start) (a .date .len)
     (at-part .part .ensures) (start .pre .1 .0 .0) in
     omega (
       arith,
@@ -62,9 +62,9 @@ add-requires-4 c κs =
     let at-add = to-add at-part in
     let start = to-start at-add in
     let a = start .args in
-    let l = span-length (a .s .now) (at-part .part .result .now) (a .date .start) (a .date .len)
+    let l = span-length (a .message .now) (at-part .part .result .now) (a .date .start) (a .date .len)
     (at-part .part .ensures) (start .pre .1 .0 .0) in
-    let m = span-length (a .s .now) (c .part2 .result .now) (a .time .start) (a .time .len) (c .part2 .ensures)
+    let m = span-length (a .message .now) (c .part2 .result .now) (a .time .start) (a .time .len) (c .part2 .ensures)
     (start .pre .1 .1 .0) in
     omega (
       arith,

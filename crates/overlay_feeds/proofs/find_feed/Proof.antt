@@ -5,10 +5,10 @@ use Rattle.overlay_feeds.proofs.find_feed.Statement.{statement}
 use Rattle.overlay_feeds.proofs.find_feed.Tie as tie
 
 abbrev Inv-loop : tie.InvT-loop
-Inv-loop s feed p₀ left₀ i₀ p left i = Seeking s feed p₀ left₀ p left i
+Inv-loop old feed p₀ left₀ i₀ p left i = Seeking old feed p₀ left₀ p left i
 
 abbrev μ-loop : tie.MeasureT-loop
-μ-loop s feed p₀ left₀ i₀ p left i = left
+μ-loop old feed p₀ left₀ i₀ p left i = left
 
 pub find-feed-spec : {M : Type 1} → statement M
 find-feed-spec =

@@ -16,13 +16,13 @@ use Rattle.overlay_keyed.proofs.trips_from.Statement.{statement}
 use Rattle.overlay_keyed.proofs.trips_from.Tie as tie
 
 abbrev Inv-loop : tie.InvT-loop
-Inv-loop c n marked feed s at noted₀ base p₀ i₀ left₀ first₀ b₀ d₀ m₀ noted p i left first b d m =
-    (p ≤ length s) × (b ≤ d) × (d ≤ length s) × (m + left ≤ n)
-    × Climbing 137 printable (entryGood feed) (byKey (plain feed)) (isCount c n) n s at (known first s b d) m left p
-    × Noting s at n base noted₀ p i left noted
+Inv-loop c n marked feed old at noted₀ base p₀ i₀ left₀ first₀ b₀ d₀ m₀ noted p i left first b d m =
+    (p ≤ length old) × (b ≤ d) × (d ≤ length old) × (m + left ≤ n)
+    × Climbing 137 printable (entryGood feed) (byKey (plain feed)) (isCount c n) n old at (known first old b d) m left p
+    × Noting old at n base noted₀ p i left noted
 
 abbrev μ-loop : tie.MeasureT-loop
-μ-loop c n marked feed s at noted₀ base p₀ i₀ left₀ first₀ b₀ d₀ m₀ noted p i left first b d m = left
+μ-loop c n marked feed old at noted₀ base p₀ i₀ left₀ first₀ b₀ d₀ m₀ noted p i left first b d m = left
 
 loop-holds : tie.Need-loop-holds Inv-loop μ-loop
 loop-holds c = (search needs, search needs, search needs, search needs, search climbing-start, noting-start)

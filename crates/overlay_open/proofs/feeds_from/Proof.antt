@@ -16,13 +16,13 @@ use Rattle.overlay_open.proofs.feeds_from.Statement.{statement}
 use Rattle.overlay_open.proofs.feeds_from.Tie as tie
 
 abbrev Inv-loop : tie.InvT-loop
-Inv-loop n s at noted₀ p₀ left₀ r₀ first₀ b₀ d₀ noted p left r first b d =
-    (p ≤ length s) × (b ≤ d) × (d ≤ length s) × (r + left ≡ n) × (length noted ≡ length noted₀)
-    × Climbing 16 token entryGood weightless (whatever n) n s at (known first s b d) 0 left p
-    × Feeding s at n p left r noted
+Inv-loop n old at noted₀ p₀ left₀ r₀ first₀ b₀ d₀ noted p left r first b d =
+    (p ≤ length old) × (b ≤ d) × (d ≤ length old) × (r + left ≡ n) × (length noted ≡ length noted₀)
+    × Climbing 16 token entryGood weightless (whatever n) n old at (known first old b d) 0 left p
+    × Feeding old at n p left r noted
 
 abbrev μ-loop : tie.MeasureT-loop
-μ-loop n s at noted₀ p₀ left₀ r₀ first₀ b₀ d₀ noted p left r first b d = left
+μ-loop n old at noted₀ p₀ left₀ r₀ first₀ b₀ d₀ noted p left r first b d = left
 
 loop-holds : tie.Need-loop-holds Inv-loop μ-loop
 loop-holds c = (

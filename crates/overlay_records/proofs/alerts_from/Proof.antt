@@ -9,10 +9,10 @@ use Rattle.overlay_records.proofs.alerts_from.Statement.{statement}
 use Rattle.overlay_records.proofs.alerts_from.Tie as tie
 
 abbrev Inv-loop : tie.InvT-loop
-Inv-loop n s at p₀ left₀ p left = (p ≤ length s) × Eaching alert n s at left p
+Inv-loop n old at p₀ left₀ p left = (p ≤ length old) × Eaching alert n old at left p
 
 abbrev μ-loop : tie.MeasureT-loop
-μ-loop n s at p₀ left₀ p left = left
+μ-loop n old at p₀ left₀ p left = left
 
 loop-holds : tie.Need-loop-holds Inv-loop μ-loop
 loop-holds c = (search needs, search each-start)

@@ -13,12 +13,12 @@ use Rattle.overlay_records.proofs.vehicles_from.Statement.{statement}
 use Rattle.overlay_records.proofs.vehicles_from.Tie as tie
 
 abbrev Inv-loop : tie.InvT-loop
-Inv-loop n s at p₀ left₀ first₀ b₀ d₀ p left first b d =
-    (p ≤ length s) × (b ≤ d) × (d ≤ length s)
-    × Climbing 64 printable vehicleGood weightless (whatever n) n s at (known first s b d) 0 left p
+Inv-loop n old at p₀ left₀ first₀ b₀ d₀ p left first b d =
+    (p ≤ length old) × (b ≤ d) × (d ≤ length old)
+    × Climbing 64 printable vehicleGood weightless (whatever n) n old at (known first old b d) 0 left p
 
 abbrev μ-loop : tie.MeasureT-loop
-μ-loop n s at p₀ left₀ first₀ b₀ d₀ p left first b d = left
+μ-loop n old at p₀ left₀ first₀ b₀ d₀ p left first b d = left
 
 loop-holds : tie.Need-loop-holds Inv-loop μ-loop
 loop-holds c = (search needs, search needs, search needs, search climbing-start)

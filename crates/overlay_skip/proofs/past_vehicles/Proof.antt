@@ -6,10 +6,10 @@ use Rattle.overlay_skip.proofs.past_vehicles.Statement.{statement}
 use Rattle.overlay_skip.proofs.past_vehicles.Tie as tie
 
 abbrev Inv-loop : tie.InvT-loop
-Inv-loop s at p₀ left₀ p left = Passing vehicleEntry s p₀ left₀ p left
+Inv-loop old at p₀ left₀ p left = Passing vehicleEntry old p₀ left₀ p left
 
 abbrev μ-loop : tie.MeasureT-loop
-μ-loop s at p₀ left₀ p left = left
+μ-loop old at p₀ left₀ p left = left
 
 pub past-vehicles-spec : {M : Type 1} → statement M
 past-vehicles-spec =

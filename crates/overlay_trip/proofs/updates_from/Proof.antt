@@ -10,10 +10,10 @@ use Rattle.overlay_trip.proofs.updates_from.Statement.{statement}
 use Rattle.overlay_trip.proofs.updates_from.Tie as tie
 
 abbrev Inv-loop : tie.InvT-loop
-Inv-loop n s at p₀ left₀ low₀ p left low = (p ≤ length s) × Rising 4294967295 stopUpdate n s at low left p
+Inv-loop n old at p₀ left₀ low₀ p left low = (p ≤ length old) × Rising 4294967295 stopUpdate n old at low left p
 
 abbrev μ-loop : tie.MeasureT-loop
-μ-loop n s at p₀ left₀ low₀ p left low = left
+μ-loop n old at p₀ left₀ low₀ p left low = left
 
 loop-holds : tie.Need-loop-holds Inv-loop μ-loop
 loop-holds c = (search needs, search rising-start)
