@@ -13,7 +13,7 @@ use Rattle.basics.specs.Lists.{All, isEmpty}
 use Rattle.formats.specs.Class.{printable, inClass}
 use Rattle.realtime.specs.Tree.{Tree, Leaf, count, words, tree, last, sub, rep}
 use Rattle.realtime.specs.Schema.{fieldRows, feed, feedMessage, feedEntity, tripUpdate, tripDescriptor}
-use Rattle.realtime.specs.Judge.{rules, asked, textsFine, numbersFine, limit}
+use Rattle.realtime.specs.Judge.{rules, asked, textsFine, numbersFine, limitBy}
 use Rattle.realtime.specs.declared.Verdict.{Verdict}
 use Rattle.realtime.specs.Typed.{textIn}
 use Rattle.realtime.specs.Views.{trip, deleted}
@@ -90,15 +90,15 @@ whole s J = go (tree feed feedMessage s) refl J
 
 -- the texts of an entity's trip are short
 text-short : (o : Option Leaf) (f : ℕ) → Given (LeafFine feed rules tripDescriptor f) o
-    → length (textIn o) ≤ limit tripDescriptor f
+    → length (textIn o) ≤ limitBy 64 tripDescriptor f
 text-short none f g = omega arith
 text-short (some (count n)) f g = omega arith
 text-short (some (words x)) f g =
-    leb-true (length x) (limit tripDescriptor f)
-    (both-true (leb (length x) (limit tripDescriptor f)) (inClass printable x) g .0)
+    leb-true (length x) (limitBy 64 tripDescriptor f)
+    (both-true (leb (length x) (limitBy 64 tripDescriptor f)) (inClass printable x) g .0)
 
 module _ (e : Tree) (F : FineEntity e) where
-  short : (f : ℕ) → length (textIn (last f (sub 1 (sub 3 e)))) ≤ limit tripDescriptor f
+  short : (f : ℕ) → length (textIn (last f (sub 1 (sub 3 e)))) ≤ limitBy 64 tripDescriptor f
   unfolding feed fieldRows
   short f =
       text-short (last f (sub 1 (sub 3 e))) f

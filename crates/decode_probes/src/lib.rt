@@ -15,6 +15,7 @@ use formats_judge::Judge;
 use realtime::Verdict;
 use realtime_read::FEED_ENTITY;
 use realtime_read::FEED_MESSAGE;
+use realtime_read::ID_LIMIT;
 use realtime_read::STOP_TIME_UPDATE;
 use realtime_views::Delay;
 use realtime_views::Direction;
@@ -75,14 +76,14 @@ fn question_of(v: Verdict) -> u32
 pub extern "C" fn trips_judge(s: &[u8]) -> u32
     ensures { λ r. ⌜ r ≡ questionOf (asked rules feedMessage (tree feed feedMessage (now (s .entry)))) ⌝ }
 {
-    question_of(realtime_read::judge(s, FEED_MESSAGE))
+    question_of(realtime_read::judge(s, FEED_MESSAGE, ID_LIMIT))
 }
 
 // Whether a message of a type is not broken.
 fn is_whole(s: &[u8], message: u64) -> bool
     ensures { λ r. ⌜ r ≡ isWhole (tree feed message (now (s .entry))) ⌝ }
 {
-    match realtime_read::judge(s, message) {
+    match realtime_read::judge(s, message, ID_LIMIT) {
         Verdict::Broken => false,
         Verdict::Text => true,
         Verdict::Time => true,

@@ -15,7 +15,8 @@ use Rattle.maps.specs.Order.{numbers}
 use Rattle.maps.specs.laws.Map.{puts-most}
 use Rattle.decode.specs.Record.{updatesIn, tripIn}
 use Rattle.decode_updates.specs.promises.Updates.{Counted, CrowdedRead}
-use Rattle.decode_updates.proofs.Walking.{Walked, starts, walks-on, ends}
+use Rattle.realtime_views.specs.laws.Turns.{walks-on, ends}
+use Rattle.decode_updates.proofs.Walking.{Walked, starts}
 use Rattle.decode_updates.proofs.Listing.{pair}
 
 -- THE INVARIANT
@@ -37,7 +38,7 @@ module _ {s : List ℕ} {start len n : ℕ} {w : Walk} (W : Counting s start len
     counted d h = record { of = λ e q. omega (arith, ends (W .walked) X N d e q) }
 
     pub counts-on : {i l : ℕ} {w′ : Walk} → r ≡ Item.At i l w′ → n ≤ 128 → Counting s start len (n + 1) w′
-    counts-on a h = record { most = omega arith; walked = walks-on (W .walked) X N a (λ e t k y p. omega (arith, p)) }
+    counts-on a h = record { most = omega arith; walked = walks-on (W .walked) X N a (λ e t k q y p. omega (arith, p)) }
 
 -- no more than 128 are no more at their sequences
 pub crowded-counted : {s : List ℕ} {start len r : ℕ} → Counted s start len r → r ≤ 128 → CrowdedRead s start len false

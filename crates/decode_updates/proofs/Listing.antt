@@ -28,7 +28,8 @@ use Rattle.decode_slots.specs.promises.Places.{Readable}
 use Rattle.decode_slots.specs.laws.Places.{read-at, readable-at}
 use Rattle.decode_updates.specs.Updates.{updatesAt}
 use Rattle.decode_updates.specs.promises.Updates.{ListedUpdates}
-use Rattle.decode_updates.proofs.Walking.{Walked, starts, walks-on, ends, there}
+use Rattle.realtime_views.specs.laws.Turns.{walks-on, ends, there}
+use Rattle.decode_updates.proofs.Walking.{Walked, starts}
 
 -- an update with its sequence
 abbrev pub pair : Tree → ℕ × StopUpdate
@@ -98,6 +99,6 @@ module _ {s : List ℕ} {start len : ℕ} {u : List ℕ} {n : ℕ} {w : Walk} (L
           → AllReadable s (laid n′ u′) = λ t y h.
           rw (M .map) (put-all numbers (λ x. Readable stopTimeUpdate s (x .1)) q (i, i + l) (laid n u)
           (readable-at stopTimeUpdate s i l t y (there (L .walked) X N a)) h) in
-          walks-on (L .walked) X N a (λ e t k y p.
+          walks-on (L .walked) X N a (λ e t k q y p.
           (ap (puts numbers (map pair k)) (noted t y) ∙ p .0, read t y (p .1)));
     }

@@ -92,7 +92,7 @@ pub fn updates_of(updates: &mut [u32], message: &[u8], start: usize, len: usize)
     ensures { λ r. ⌜ ListedUpdates (now (message .entry)) start len (now (updates .exit)) r ⌝ }
 {
     let end = start + len;
-    let mut walk = realtime_views::updates(start);
+    let mut walk = realtime_views::merged_items(start);
     let mut n: usize = 0;
     loop {
         match realtime_views::next_update(slices::part(message, 0, end), walk) {
@@ -119,7 +119,7 @@ fn count_updates(message: &[u8], start: usize, len: usize) -> usize
     ensures { λ r. ⌜ Counted (now (message .entry)) start len r ⌝ }
 {
     let end = start + len;
-    let mut walk = realtime_views::updates(start);
+    let mut walk = realtime_views::merged_items(start);
     let mut n: usize = 0;
     while n <= MOST_UPDATES {
         match realtime_views::next_update(slices::part(message, 0, end), walk) {

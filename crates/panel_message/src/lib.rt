@@ -8,6 +8,7 @@ use overlay_open::Opened;
 use panel_output::Ending;
 use realtime::Verdict;
 use realtime_read::FEED_MESSAGE;
+use realtime_read::ID_LIMIT;
 ghost use mathlib.Core.Path.{_≡_};
 ghost use mathlib.Core.List.{[], _∷_};
 ghost use Prim.Native.Nat.{_≤_};
@@ -49,7 +50,7 @@ fn message_number(feed: &[u8], message: &[u8]) -> u32
         return 3;
     }
     number_by(
-        realtime_read::judge(message, FEED_MESSAGE),
+        realtime_read::judge(message, FEED_MESSAGE, ID_LIMIT),
         panel_questions::feed_ok(feed),
     )
 }

@@ -1,7 +1,9 @@
 pub mod Tree
+pub mod Merged
 pub mod Gains
 pub mod Transitive
 pub mod Places
 pub mod Examples
 pub mod Viewed
 pub mod Asked
+pub mod Schema

@@ -8,7 +8,7 @@ use native.Mathlib.Omega.{arith}
 use lib.Dec.{leb}
 use lib.ListN.{length, take, drop, length-take}
 use borrow.Author.Tests.{le-leb, lt-leb}
-use Rattle.formats.specs.Class.{printable, inClass}
+use Rattle.formats.specs.Class.{Class, inClass}
 use Rattle.realtime.specs.Tree.{Schema, Tree, num, txt, msg, tree}
 use Rattle.basics.specs.Options.{bindO}
 use Rattle.realtime_read.specs.promises.Steps.{Lies, Stepped}
@@ -18,13 +18,13 @@ use Rattle.realtime_read.specs.declared.Step.{Step}
 use Rattle.realtime.specs.declared.Verdict.{Verdict}
 
 -- the judgement of a text
-pub too-long : {n : ℕ} (s : List ℕ) (l : ℕ) → n ≡ l → n < length s
-    → Verdict.Text ≡ cond (leb (length s) l && inClass printable s) Verdict.Fine Verdict.Text
-too-long s l e h = rw (lt-leb (length s) l (omega arith))
+pub too-long : {n : ℕ} (s : List ℕ) (l : ℕ) (c : Class) → n ≡ l → n < length s
+    → Verdict.Text ≡ cond (leb (length s) l && inClass c s) Verdict.Fine Verdict.Text
+too-long s l c e h = rw (lt-leb (length s) l (omega arith))
 
-pub fits : {n : ℕ} (s : List ℕ) (l : ℕ) (b : Bool) → n ≡ l → length s ≤ n → b ≡ inClass printable s
-    → cond b Verdict.Fine Verdict.Text ≡ cond (leb (length s) l && inClass printable s) Verdict.Fine Verdict.Text
-fits s l b e h p = rw (le-leb (length s) l (omega arith), p)
+pub fits : {n : ℕ} (s : List ℕ) (l : ℕ) (c : Class) (b : Bool) → n ≡ l → length s ≤ n → b ≡ inClass c s
+    → cond b Verdict.Fine Verdict.Text ≡ cond (leb (length s) l && inClass c s) Verdict.Fine Verdict.Text
+fits s l c b e h p = rw (le-leb (length s) l (omega arith), p)
 
 -- parts of a message are judged one by one
 pub first-assoc : (a b c : Verdict) → askedFirst (askedFirst a b) c ≡ askedFirst a (askedFirst b c)

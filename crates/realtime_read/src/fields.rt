@@ -56,3 +56,32 @@ pub mod stop_time_event {
 
     pub const TIME: u64 = 2;
 }
+
+// Those that a message of alerts lists.
+pub mod alert_entity {
+    pub const ALERT: u64 = 5;
+}
+
+pub mod alert {
+    pub const INFORMED_ENTITY: u64 = 5;
+
+    pub const HEADER_TEXT: u64 = 10;
+
+    pub const DESCRIPTION_TEXT: u64 = 11;
+}
+
+pub mod entity_selector {
+    pub const ROUTE_ID: u64 = 2;
+
+    pub const TRIP: u64 = 4;
+
+    pub const STOP_ID: u64 = 5;
+}
+
+pub mod translated_string {
+    pub const TRANSLATION: u64 = 1;
+}
+
+pub mod translation {
+    pub const TEXT: u64 = 1;
+}

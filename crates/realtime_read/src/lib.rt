@@ -1,11 +1,16 @@
 // The messages of GTFS Realtime, read by what a list says of each field.
 pub mod fields; // the numbers of the listed fields
 
+use fields::alert;
+use fields::alert_entity;
+use fields::entity_selector;
 use fields::feed_entity;
 use fields::feed_header;
 use fields::feed_message;
 use fields::stop_time_event;
 use fields::stop_time_update;
+use fields::translated_string;
+use fields::translation;
 use fields::trip_descriptor;
 use fields::trip_update;
 use realtime::Verdict;
@@ -21,7 +26,7 @@ ghost use Rattle.wire.specs.promises.Places.{skippedAt};
 ghost use Rattle.formats.specs.Class.{printable, inClass};
 ghost use Rattle.realtime_read.specs.promises.Steps.{Stepped, numberBehind, textBehind};
 ghost use Rattle.realtime.specs.Tree.{tree};
-ghost use Rattle.realtime.specs.Judge.{asked, rules, limit, textRule, numberRule};
+ghost use Rattle.realtime.specs.Judge.{asked, rulesBy, limitBy, classBy, textRule, numberRule};
 ghost use Rattle.realtime_read.specs.promises.Judge.{sign, fine, askedFirst};
 ghost use mathlib.Core.Bool.{cond};
 ghost use Rattle.realtime.specs.Schema.{feed, stopTimeUpdate, tripDescriptor};
@@ -50,13 +55,40 @@ pub const STOP_TIME_UPDATE: u64 = 5;
 
 pub const STOP_TIME_EVENT: u64 = 6;
 
+// Those of a message of alerts.
+pub const ALERT_MESSAGE: u64 = 7;
+
+pub const ALERT_ENTITY: u64 = 8;
+
+pub const ALERT: u64 = 9;
+
+pub const ENTITY_SELECTOR: u64 = 10;
+
+pub const SELECTED_TRIP: u64 = 11;
+
+pub const HEADER_TEXT: u64 = 12;
+
+pub const HEADER_TRANSLATION: u64 = 13;
+
+pub const DESCRIPTION_TEXT: u64 = 14;
+
+pub const DESCRIPTION_TRANSLATION: u64 = 15;
+
 // Groups nest at most this deep.
 const GROUPS_DEEP: usize = 16;
 
-// The longest id, and the longest start time or start date.
-const ID_LIMIT: usize = 64;
+// The longest id of a message of trips.
+pub const ID_LIMIT: usize = 64;
 
+// The longest start time or start date, header and description.
 const DATE_LIMIT: usize = 16;
+
+const HEADER_LIMIT: usize = 512;
+
+const DESCRIPTION_LIMIT: usize = 2048;
+
+// The class of words that are UTF-8.
+const UTF8: u64 = 3;
 
 // The latest time of a stop, in seconds since 1970 UTC.
 const LATEST: u64 = 4102444800;
@@ -87,6 +119,67 @@ fn in_stop(field: u64) -> Holds
         stop_time_update::STOP_ID => Holds::Text,
         stop_time_update::SCHEDULE_RELATIONSHIP => Holds::Number,
         _ => Holds::Unlisted,
+    }
+}
+
+// Those of what stands in an alert: a selector's trip, and words.
+fn in_texts(message: u64, field: u64) -> Holds
+    requires { ⌜ 11 ≤ message ⌝ }
+    ensures { λ r. ⌜ r ≡ holds (feed message field) ⌝ }
+{
+    match message {
+        SELECTED_TRIP => match field {
+            trip_descriptor::TRIP_ID => Holds::Text,
+            _ => Holds::Unlisted,
+        },
+        HEADER_TEXT => match field {
+            translated_string::TRANSLATION => Holds::Message(HEADER_TRANSLATION),
+            _ => Holds::Unlisted,
+        },
+        HEADER_TRANSLATION => match field {
+            translation::TEXT => Holds::Text,
+            _ => Holds::Unlisted,
+        },
+        DESCRIPTION_TEXT => match field {
+            translated_string::TRANSLATION => Holds::Message(DESCRIPTION_TRANSLATION),
+            _ => Holds::Unlisted,
+        },
+        DESCRIPTION_TRANSLATION => match field {
+            translation::TEXT => Holds::Text,
+            _ => Holds::Unlisted,
+        },
+        _ => Holds::Unlisted,
+    }
+}
+
+// Those of a message of alerts and of what stands in it.
+fn in_alerts(message: u64, field: u64) -> Holds
+    requires { ⌜ 7 ≤ message ⌝ }
+    ensures { λ r. ⌜ r ≡ holds (feed message field) ⌝ }
+{
+    match message {
+        ALERT_MESSAGE => match field {
+            feed_message::ENTITY => Holds::Message(ALERT_ENTITY),
+            _ => Holds::Unlisted,
+        },
+        ALERT_ENTITY => match field {
+            feed_entity::IS_DELETED => Holds::Number,
+            alert_entity::ALERT => Holds::Message(ALERT),
+            _ => Holds::Unlisted,
+        },
+        ALERT => match field {
+            alert::INFORMED_ENTITY => Holds::Message(ENTITY_SELECTOR),
+            alert::HEADER_TEXT => Holds::Message(HEADER_TEXT),
+            alert::DESCRIPTION_TEXT => Holds::Message(DESCRIPTION_TEXT),
+            _ => Holds::Unlisted,
+        },
+        ENTITY_SELECTOR => match field {
+            entity_selector::ROUTE_ID => Holds::Text,
+            entity_selector::TRIP => Holds::Message(SELECTED_TRIP),
+            entity_selector::STOP_ID => Holds::Text,
+            _ => Holds::Unlisted,
+        },
+        _ => in_texts(message, field),
     }
 }
 
@@ -123,7 +216,7 @@ pub fn kind_of(message: u64, field: u64) -> Holds
             stop_time_event::TIME => Holds::Number,
             _ => Holds::Unlisted,
         },
-        _ => Holds::Unlisted,
+        _ => in_alerts(message, field),
     }
 }
 
@@ -239,19 +332,26 @@ fn worse(a: Verdict, b: Verdict) -> Verdict
     }
 }
 
-fn text_limit(message: u64, field: u64) -> usize
-    ensures { λ r. ⌜ r ≡ limit message field ⌝ }
+// The longest text of a field, where an id has at most `ids` bytes.
+fn text_limit(message: u64, field: u64, ids: usize) -> usize
+    ensures { λ r. ⌜ r ≡ limitBy ids message field ⌝ }
 {
-    if message != TRIP_DESCRIPTOR {
-        return ID_LIMIT;
+    if message == TRIP_DESCRIPTOR {
+        if field == trip_descriptor::START_TIME {
+            return DATE_LIMIT;
+        }
+        if field == trip_descriptor::START_DATE {
+            return DATE_LIMIT;
+        }
+        return ids;
     }
-    if field == trip_descriptor::START_TIME {
-        return DATE_LIMIT;
+    if message == HEADER_TRANSLATION {
+        return HEADER_LIMIT;
     }
-    if field == trip_descriptor::START_DATE {
-        return DATE_LIMIT;
+    if message == DESCRIPTION_TRANSLATION {
+        return DESCRIPTION_LIMIT;
     }
-    ID_LIMIT
+    ids
 }
 
 fn is_sign(b: u8) -> bool
@@ -294,13 +394,26 @@ fn is_printable(s: &[u8]) -> bool
     true
 }
 
-fn judge_text(s: &[u8], message: u64, field: u64) -> Verdict
-    ensures { λ r. ⌜ r ≡ cond (textRule message field (now (s .entry))) Verdict.Fine Verdict.Text ⌝ }
+// Whether a text is of its class: words are UTF-8, ids are printable.
+fn is_fit(s: &[u8], message: u64) -> bool
+    ensures { λ r. ⌜ r ≡ inClass (classBy message) (now (s .entry)) ⌝ }
 {
-    if s.len() > text_limit(message, field) {
+    if message == HEADER_TRANSLATION {
+        return formats_text::in_class(UTF8, s);
+    }
+    if message == DESCRIPTION_TRANSLATION {
+        return formats_text::in_class(UTF8, s);
+    }
+    is_printable(s)
+}
+
+fn judge_text(s: &[u8], message: u64, field: u64, ids: usize) -> Verdict
+    ensures { λ r. ⌜ r ≡ cond (textRule ids message field (now (s .entry))) Verdict.Fine Verdict.Text ⌝ }
+{
+    if s.len() > text_limit(message, field, ids) {
         return Verdict::Text;
     }
-    if is_printable(s) {
+    if is_fit(s, message) {
         Verdict::Fine
     } else {
         Verdict::Text
@@ -323,10 +436,10 @@ fn judge_number(message: u64, field: u64, value: u64) -> Verdict
     }
 }
 
-// The judgement of a message of a type, by its own bytes. It steps by itself and not by `next`, which the compiler
-// would leave a function of its own: that takes twice the time.
-pub fn judge(s: &[u8], message: u64) -> Verdict
-    ensures { λ r. ⌜ r ≡ asked rules message (tree feed message (now (s .entry))) ⌝ }
+// The judgement of a message of a type, by its own bytes, where an id has at most `ids` of them. It steps by itself and
+// not by `next`, which the compiler would leave a function of its own: that takes twice the time.
+pub fn judge(s: &[u8], message: u64, ids: usize) -> Verdict
+    ensures { λ r. ⌜ r ≡ asked (rulesBy ids) message (tree feed message (now (s .entry))) ⌝ }
 {
     let mut at: usize = 0;
     let mut worst = Verdict::Fine;
@@ -353,7 +466,7 @@ pub fn judge(s: &[u8], message: u64) -> Verdict
                     GotText::Read(start, len, after) => {
                         worst = worse(
                             worst,
-                            judge_text(slices::part(s, start, len), message, field),
+                            judge_text(slices::part(s, start, len), message, field, ids),
                         );
                         at = after.at;
                     }
@@ -361,7 +474,7 @@ pub fn judge(s: &[u8], message: u64) -> Verdict
                 Holds::Message(inner) => match text_behind(s, next, wire) {
                     GotText::Broken => return Verdict::Broken,
                     GotText::Read(start, len, after) => {
-                        worst = worse(worst, judge(slices::part(s, start, len), inner));
+                        worst = worse(worst, judge(slices::part(s, start, len), inner, ids));
                         at = after.at;
                     }
                 },

@@ -12,6 +12,7 @@
 // nothing of what was written, so they have no `ensures`.
 use realtime::Verdict;
 use realtime_read::FEED_MESSAGE;
+use realtime_read::ID_LIMIT;
 use realtime_views::Delay;
 use realtime_views::Direction;
 use realtime_views::Event;
@@ -157,7 +158,7 @@ fn write_trip(s: &[u8], start: usize, len: usize)
 fn write_updates(s: &[u8], start: usize)
     requires { ⌜ start ≤ length (now s) ⌝ }
 {
-    let mut w = realtime_views::updates(start);
+    let mut w = realtime_views::merged_items(start);
     loop {
         match realtime_views::next_update(s, w) {
             Item::Done => return,
@@ -204,7 +205,7 @@ fn write_entities(s: &[u8]) {
 }
 
 fn write_message(s: &[u8]) {
-    match realtime_read::judge(s, FEED_MESSAGE) {
+    match realtime_read::judge(s, FEED_MESSAGE, ID_LIMIT) {
         Verdict::Broken => write(b"4"),
         Verdict::Text => write(b"5"),
         Verdict::Time => write(b"6"),

@@ -13,9 +13,11 @@ use Rattle.realtime.specs.Schema.{fieldRows, feed, feedMessage, feedEntity, sto
 use Rattle.realtime_views.specs.laws.Fold.{inside-sub}
 use Rattle.realtime_views.specs.promises.Fold.{Takes, folded, inside}
 use Rattle.realtime_views.specs.laws.Reading.{front-rest}
-use Rattle.realtime_views.specs.promises.Reading.{Lens, Reads}
-use Rattle.realtime_views.specs.laws.Scalars.{Lasting}
-use Rattle.realtime_views.specs.promises.Scalars.{one, two, three, four, five, six, said, Lying}
+use Rattle.realtime_views.specs.promises.Reading.{Lens, Ready, Reads}
+use Rattle.realtime_views.specs.laws.Scalars.{leaf-is, Lasting}
+use Rattle.realtime_views.specs.laws.Spans.{span-says, span-inside}
+use Rattle.realtime_views.specs.promises.Scalars.{one, two, three, four, five, six, said, scalar}
+use Rattle.realtime_views.specs.promises.Scalars.{scalarAt, ScalarRead}
 use Rattle.realtime_views.specs.laws.Last.{leaf, taking-last}
 use Rattle.realtime_views.specs.promises.Last.{taking}
 use Rattle.realtime_views.specs.promises.Numbers.{orZeroAt, singleText, singleNumber, plain, spans, valueOf}
@@ -23,11 +25,11 @@ use Rattle.realtime_views.specs.promises.Numbers.{noNumber, noSpan, from
 use Rattle.realtime_views.specs.promises.Numbers.{NumberReads, StopReads}
 use Rattle.realtime.specs.Typed.{uint32, int32, int64, bool, enum, numberIn, textIn, orZero}
 use Rattle.basics.specs.Options.{someAnd}
-use Rattle.realtime_views.specs.promises.Narrow.{toSpan, toTimestamp, toDirection, toDelay, isValue, toHeader}
+use Rattle.realtime_views.specs.promises.Narrow.{toTimestamp, toDirection, toDelay, isValue, toHeader}
 use Rattle.realtime_views.specs.promises.Narrow.{toTrip}
 use Rattle.realtime.specs.Views.{event}
 use Rattle.realtime_views.specs.promises.Views.{partIn, viewTimestamp, viewDirection, viewDelay, viewTime}
-use Rattle.realtime_views.specs.promises.Views.{viewEvent, PartInside, HeaderRead, DeletedRead, TripRead}
+use Rattle.realtime_views.specs.promises.Views.{viewEvent, HeaderRead, DeletedRead, TripRead}
 use Rattle.realtime_views.specs.promises.Views.{StopRead, SequenceRead}
 use Rattle.realtime_views.specs.declared.Scalar.{Scalar}
 use Rattle.realtime_views.specs.declared.Scalars.{Scalars}
@@ -42,11 +44,6 @@ use Rattle.realtime_views.specs.declared.StopUpdate.{StopUpdate}
 
 -- of one scalar
 module _ (s : List ℕ) where
-  span-says : (x : Scalar) → partIn s (toSpan x) ≡ textIn (said s x)
-  span-says (Scalar.Number n) = refl
-  span-says (Scalar.Text i l) = refl
-  span-says Scalar.Nothing = refl
-
   timestamp-says : (x : Scalar) → viewTimestamp (toTimestamp x) ≡ numberIn (said s x)
   timestamp-says (Scalar.Number n) = refl
   timestamp-says (Scalar.Text i l) = refl
@@ -66,11 +63,6 @@ module _ (s : List ℕ) where
   value-says v (Scalar.Number n) = refl
   value-says v (Scalar.Text i l) = refl
   value-says v Scalar.Nothing = refl
-
-span-inside : (n : ℕ) (x : Scalar) → Lying n x → PartInside n (toSpan x)
-span-inside n (Scalar.Number k) h = omega arith
-span-inside n (Scalar.Text i l) h = h
-span-inside n Scalar.Nothing h = omega arith
 
 -- of a message
 pub header-read : {σ : Schema} {s : List ℕ} {h : Scalars} {r : Header}
@@ -118,6 +110,28 @@ module _ {D B : Type 0} {L : Lens D B} {φ : Takes B} {t : ℕ} (s : List ℕ) {
   made-of m q =
       sym (ap (λ y. L .look y r) e ∙ L .front s (i + l) r h room)
       ∙ Q .made .of m (ap (tree feed t) (ap (drop i) e ∙ front-rest s (i + l) i l refl h) ∙ q)
+
+-- of one field, of the message itself or of those at a field merged
+pub scalar-read : {t k : ℕ} (s : List ℕ) {x : List ℕ} (i l : ℕ) {r : Scalar} → i + l ≤ length s → x ≡ take (i + l) s
+    → Reads scalar (taking (scalarAt k)) feed t x i Scalar.Nothing r → ScalarRead feed t s i l (λ m. m) k r
+scalar-read {t} {k} s i l h e Q = record {
+  of = λ m q. made-of s i l h e Q m q ∙ taking-last (scalarAt k) none m ∙ leaf-is k (last k m);
+  within = room-far s i l h e Q;
+}
+
+pub scalar-read-in : {t a k : ℕ} (s : List ℕ) {x : List ℕ} (i l : ℕ) {r : Scalar} → i + l ≤ length s
+    → x ≡ take (i + l) s → Reads scalar (inside a (taking (scalarAt k))) feed t x i Scalar.Nothing r
+    → ScalarRead feed t s i l (sub a) k r
+scalar-read-in {t} {a} {k} s i l h e Q = record {
+  of = λ m q. made-of s i l h e Q m q ∙ inside-sub a (taking (scalarAt k)) none m
+      ∙ taking-last (scalarAt k) none (sub a m) ∙ leaf-is k (last k (sub a m));
+  within = room-far s i l h e Q;
+}
+
+-- what their readers ask
+pub scalar-ready : (s : List ℕ) {x : List ℕ} (i l : ℕ) → i + l ≤ length s → x ≡ take (i + l) s
+    → Ready scalar x i Scalar.Nothing
+scalar-ready s i l h e = record { inside = omega (arith, ap length e, length-take (i + l) s); within = tt }
 
 -- of the numbers and the text of a stop_time_update
 leaf-zero : (k : ℕ) (o : Option Leaf) → leaf (orZeroAt k) 0 o ≡ orZero (numberIn o)

@@ -4,3 +4,5 @@ pub mod Last
 pub mod Scalars
 pub mod Walks
 pub mod Starts
+pub mod Turns
+pub mod Spans

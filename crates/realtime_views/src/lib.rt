@@ -21,9 +21,12 @@ ghost use lib.Dec.{eqb};
 ghost use lib.ListN.{length};
 ghost use mathlib.Core.Bool.{cond};
 ghost use Rattle.realtime.specs.Schema.{feed, stopTimeUpdate};
+ghost use Rattle.realtime.specs.Tree.{sub};
+ghost use Rattle.realtime_views.specs.promises.Fold.{inside};
+ghost use Rattle.realtime_views.specs.promises.Last.{taking};
 ghost use Rattle.realtime_views.specs.promises.Reading.{Ready, Reads};
-ghost use Rattle.realtime_views.specs.promises.Scalars.{TripReads, TripReady, UpdateReads, blank, kept, own};
-ghost use Rattle.realtime_views.specs.promises.Scalars.{scalars, takesAlong};
+ghost use Rattle.realtime_views.specs.promises.Scalars.{ScalarRead, TripReads, TripReady, UpdateReads, blank};
+ghost use Rattle.realtime_views.specs.promises.Scalars.{kept, own, scalar, scalarAt, scalars, takesAlong};
 ghost use Rattle.realtime_views.specs.promises.Narrow.{isValue, toDelay, toDirection, toHeader, toSpan};
 ghost use Rattle.realtime_views.specs.promises.Narrow.{toTimestamp, toTrip};
 ghost use Rattle.realtime_views.specs.promises.Numbers.{EventReads, NumberReads, NumberReady, StopReads, isPart};
@@ -31,7 +34,7 @@ ghost use Rattle.realtime_views.specs.promises.Numbers.{fromDelay, fromE
 ghost use Rattle.realtime.specs.Typed as typed;
 ghost use Rattle.realtime_views.specs.promises.Walks.{NextEntity, NextUpdate, SoundWalk, Walks, Yields, met};
 ghost use Rattle.realtime_views.specs.promises.Walks.{typeOf};
-ghost use Rattle.realtime_views.specs.promises.Starts.{atMerged, atPlain};
+ghost use Rattle.realtime_views.specs.promises.Starts.{atItems, atMerged, atPlain};
 ghost use Rattle.realtime_views.specs.promises.Views.{DeletedRead, HeaderRead, SequenceRead, StopRead, TripRead};
 
 // The values of the enums that count.
@@ -56,7 +59,7 @@ const RELATIONSHIP_KEY: u8 = 40;
 const UPDATE_KEY: u8 = 18;
 
 // No field has this number.
-const NO_FIELD: u64 = 0;
+pub const NO_FIELD: u64 = 0;
 
 // The last value of a field: of a text, where it stands.
 pub enum Scalar {
@@ -167,6 +170,92 @@ fn over_field(s: &[u8], from: usize, message: u64, a: u64, before: Scalars) -> S
             }
         }
     }
+}
+
+// The last value of field `k` alone, from `from` to the end, over what is known already.
+fn over_scalar(s: &[u8], from: usize, message: u64, k: u64, before: Scalar) -> Scalar
+    requires { ⌜ Ready scalar (now s) from before ⌝ }
+    ensures { λ r. ⌜ Reads scalar (taking (scalarAt k)) feed message (now (s .entry)) from before r ⌝ }
+{
+    let mut at = from;
+    let mut d = before;
+    loop {
+        match next(s, at, message) {
+            Step::Broken => return d,
+            Step::End => return d,
+            Step::Number(field, value, after) => {
+                if field == k {
+                    d = Scalar::Number(value);
+                }
+                at = after;
+            }
+            Step::Text(field, start, len, after) => {
+                if field == k {
+                    d = Scalar::Text { start, len };
+                }
+                at = after;
+            }
+            Step::Message(_, _, _, _, after) => {
+                at = after;
+            }
+        }
+    }
+}
+
+// The same of the messages at field `a`, all merged.
+fn over_scalar_in(s: &[u8], from: usize, message: u64, a: u64, k: u64, before: Scalar) -> Scalar
+    requires { ⌜ Ready scalar (now s) from before ⌝ }
+    ensures { λ r. ⌜ Reads scalar (inside a (taking (scalarAt k))) feed message (now (s .entry)) from before r ⌝ }
+{
+    let mut at = from;
+    let mut d = before;
+    loop {
+        match next(s, at, message) {
+            Step::Broken => return d,
+            Step::End => return d,
+            Step::Number(_, _, after) => {
+                at = after;
+            }
+            Step::Text(_, _, _, after) => {
+                at = after;
+            }
+            Step::Message(field, inner, start, _, after) => {
+                if field == a {
+                    d = over_scalar(slices::part(s, 0, after), start, inner, k, d);
+                }
+                at = after;
+            }
+        }
+    }
+}
+
+// Of a message in `len` bytes at `start`: the last value of field `k`.
+pub fn scalar_at(s: &[u8], start: usize, len: usize, message: u64, k: u64) -> Scalar
+    requires { ⌜ start + len ≤ length (now s) ⌝ }
+    ensures { λ r. ⌜ ScalarRead feed message (now (s .entry)) start len (λ m. m) k r ⌝ }
+{
+    over_scalar(
+        slices::part(s, 0, start + len),
+        start,
+        message,
+        k,
+        Scalar::Nothing,
+    )
+}
+
+// And that of the messages at field `a`, all merged.
+pub fn scalar_in(s: &[u8], start: usize, len: usize, message: u64, a: u64, k: u64) -> Scalar
+    requires { ⌜ start + len ≤ length (now s) ⌝ }
+    ensures { λ r. ⌜ ScalarRead feed message (now (s .entry)) start len (sub a) k r ⌝ }
+{
+    over_scalar_in(
+        slices::part(s, 0, start + len),
+        start,
+        message,
+        a,
+        k,
+        Scalar::Nothing,
+    )
 }
 
 // Of the trip_updates of an entity: the last values of their trips, and their own.
@@ -316,7 +405,8 @@ fn int64(n: u64) -> i64
     -1 - ((18446744073709551615 - n) as i64)
 }
 
-fn span_of(x: Scalar) -> TextPart
+// The place of a scalar that is a text.
+pub fn span_of(x: Scalar) -> TextPart
     ensures { λ r. ⌜ r ≡ toSpan x ⌝ }
 {
     match x {
@@ -755,7 +845,7 @@ fn meet(k: u64, step: Step) -> Met
 }
 
 // The next message at field `k` of those of type `inner` at field `a` of a message.
-fn next_item(s: &[u8], message: u64, a: u64, inner: u64, k: u64, walk: Walk) -> Item
+pub fn next_item(s: &[u8], message: u64, a: u64, inner: u64, k: u64, walk: Walk) -> Item
     requires { ⌜ Walks feed message a inner (now s) walk ⌝ }
     ensures { λ r. ⌜ Yields feed message a inner k (typeOf (feed inner k)) (now (s .entry)) walk r ⌝ }
 {
@@ -789,16 +879,22 @@ fn next_item(s: &[u8], message: u64, a: u64, inner: u64, k: u64, walk: Walk) -> 
     }
 }
 
+// The messages in one message that starts at `start` and ends at `end`, one after the other.
+pub fn items(start: usize, end: usize) -> Walk
+    ensures { λ r. ⌜ r ≡ atItems start end ⌝ }
+{
+    Walk {
+        outer: end,
+        end,
+        at: start,
+    }
+}
+
 // The entities of a message, one after the other.
 pub fn entities(s: &[u8]) -> Walk
     ensures { λ r. ⌜ r ≡ atPlain (now (s .entry)) ⌝ }
 {
-    let n = s.len();
-    Walk {
-        outer: n,
-        end: n,
-        at: 0,
-    }
+    items(0, s.len())
 }
 
 pub fn next_entity(s: &[u8], walk: Walk) -> Item
@@ -815,8 +911,8 @@ pub fn next_entity(s: &[u8], walk: Walk) -> Item
     )
 }
 
-// The stop_time_updates of an entity that starts at `start` and ends with `s`, one after the other.
-pub fn updates(start: usize) -> Walk
+// Those in all the messages at a field of one that starts at `start`, merged, one after the other.
+pub fn merged_items(start: usize) -> Walk
     ensures { λ r. ⌜ r ≡ atMerged start ⌝ }
 {
     Walk {

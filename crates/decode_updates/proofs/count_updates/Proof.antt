@@ -4,7 +4,7 @@ use Prim.Native.Nat.{_+_}
 use native.Mathlib.Omega.{arith}
 use lib.ListN.{take}
 use Rattle.realtime_views.specs.promises.Walks.{ahead}
-use Rattle.decode_updates.proofs.Walking.{walks, less}
+use Rattle.realtime_views.specs.laws.Turns.{walks, less}
 use Rattle.decode_updates.proofs.Counting.{Counting, counting, counted, counts-on, counts-many}
 use Rattle.decode_updates.proofs.count_updates.Statement.{statement}
 use Rattle.decode_updates.proofs.count_updates.Tie as tie
@@ -18,7 +18,7 @@ abbrev μ-loop : tie.MeasureT-loop
 loop-holds : tie.Need-loop-holds Inv-loop μ-loop
 loop-holds c =
     let start = c .before .before in
-    counting (start .args .message .now) (start .args .start) (start .args .len) (start .pre) (c .updates .ensures)
+    counting (start .args .message .now) (start .args .start) (start .args .len) (start .pre) (c .merged-items .ensures)
 
 returns : tie.Need-returns Inv-loop μ-loop
 returns c =

@@ -4,7 +4,7 @@ use Prim.Native.Nat.{_+_, _≤_}
 use native.Mathlib.Omega.{arith}
 use lib.ListN.{take}
 use Rattle.realtime_views.specs.promises.Walks.{ahead}
-use Rattle.decode_updates.proofs.Walking.{walks, there, less}
+use Rattle.realtime_views.specs.laws.Turns.{walks, there, less}
 use Rattle.decode_updates.proofs.Listing.{Listing, listing, listed, lists-on, lists-many}
 use Rattle.decode_updates.proofs.updates_of.Statement.{statement}
 use Rattle.decode_updates.proofs.updates_of.Tie as tie
@@ -22,14 +22,14 @@ to-note c = c .before .before .before
 abbrev to-note-from-then1 : tie.Then1 Inv-loop μ-loop → tie.After-note Inv-loop μ-loop
 to-note-from-then1 c = c .before .before .before
 
-abbrev to-start : tie.After-updates Inv-loop μ-loop → tie.Start Inv-loop μ-loop
+abbrev to-start : tie.After-merged-items Inv-loop μ-loop → tie.Start Inv-loop μ-loop
 to-start c = c .before .before .before
 
 loop-holds : tie.Need-loop-holds Inv-loop μ-loop
 loop-holds c =
     let start = to-start c in (
       listing (start .args .message .now) (start .args .start) (start .args .len) (start .pre .1 .0) (start .pre .0)
-          (c .updates .ensures),
+          (c .merged-items .ensures),
       omega arith,
     )
 

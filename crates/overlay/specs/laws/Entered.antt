@@ -1,5 +1,5 @@
 -- Law. What the entities of a message within questions 4 to 6 enter is within them too: records, updates and keys.
-use mathlib.Core.Path.{_≡_, refl, ap}
+use mathlib.Core.Path.{_≡_, refl, sym, ap, _∙_}
 use mathlib.Core.Bool.{Bool, true, false, cond, not}
 use mathlib.Core.List.{List, [], _∷_, _++_, map}
 use mathlib.Core.Option.{Option, none, some, Option·map}
@@ -18,7 +18,7 @@ use Rattle.overlay.specs.laws.Within.{Judged56, joined, listed, absent, 
 use Rattle.realtime.specs.Tree.{Tree, Leaf, count, words, tree, last, sub, rep}
 use Rattle.realtime.specs.Schema.{feedMessage, feedEntity, tripUpdate, tripDescriptor, stopTimeUpdate, stopTimeEvent}
 use Rattle.realtime.specs.Schema.{fieldRows, feed}
-use Rattle.realtime.specs.Judge.{rules, textsFine, numbersFine, numberRule, limit}
+use Rattle.realtime.specs.Judge.{rules, textsFine, numbersFine, numberRule, limitBy, classBy}
 use Rattle.realtime.specs.Typed.{int32, int64, uint32, numberIn, orZero}
 use Rattle.realtime.specs.Typed as typed
 use Rattle.realtime.specs.Views as view
@@ -103,15 +103,19 @@ number-given t f (some (words s)) x = tt
 -- ---- texts
 
 -- the last text of a field
-text-printed : (t f l : ℕ) (m : Tree) → limit t f ≡ l → FineIn t m → Printed l (typed.textIn (last f m))
-text-printed t f l m e x = go (last f m) (fine-last feed rules t f m x)
+text-printed : (t f l : ℕ) (m : Tree) → classBy t ≡ printable → limitBy 64 t f ≡ l → FineIn t m
+    → Printed l (typed.textIn (last f m))
+text-printed t f l m d e x = go (last f m) (fine-last feed rules t f m x)
   where
     go : (o : Option Leaf) → Given (LeafFine feed rules t f) o → Printed l (typed.textIn o)
     go none h = record { short = omega arith; fair = refl }
     go (some (count n)) h = record { short = omega arith; fair = refl }
     go (some (words s)) h =
-        let q = both-true (leb (length s) (limit t f)) (inClass printable s) h in
-        record { short = omega (arith, leb-true (length s) (limit t f) (q .0)); fair = q .1 }
+        let q = both-true (leb (length s) (limitBy 64 t f)) (inClass (classBy t) s) h in
+        record {
+          short = omega (arith, leb-true (length s) (limitBy 64 t f) (q .0));
+          fair = ap (λ c. inClass c s) (sym d) ∙ q .1;
+        }
 
 -- ---- a stop time update, and a trip
 
@@ -128,7 +132,7 @@ unfolding updateIn feed fieldRows
 update-judged s x =
     let a = event-judged (sub 2 s) (fine-sub feed rules stopTimeUpdate 2 stopTimeEvent refl s x) in
     let d = event-judged (sub 3 s) (fine-sub feed rules stopTimeUpdate 3 stopTimeEvent refl s x) in
-    joined _ (printed-judged 64 _ (text-printed stopTimeUpdate 4 64 s refl x))
+    joined _ (printed-judged 64 _ (text-printed stopTimeUpdate 4 64 s refl refl x))
     (joined _ (a .0) (joined _ (a .1) (joined _ (d .0) (joined _ (d .1) (flag-judged (view.stopUpdate s .skipped))))))
 
 abbrev updateEntries : List Tree → List (ℕ × StopUpdate)
@@ -162,8 +166,8 @@ module _ (e : Tree) (x : FineIn feedEntity e) where
   unfolding feed fieldRows
   fine-descriptor = fine-sub feed rules tripUpdate 1 tripDescriptor refl (sub 3 e) fine-update
 
-  text-of : (f l : ℕ) → limit tripDescriptor f ≡ l → Printed l (typed.textIn (last f (descriptor e)))
-  text-of f l q = text-printed tripDescriptor f l (descriptor e) q fine-descriptor
+  text-of : (f l : ℕ) → limitBy 64 tripDescriptor f ≡ l → Printed l (typed.textIn (last f (descriptor e)))
+  text-of f l q = text-printed tripDescriptor f l (descriptor e) refl q fine-descriptor
 
   trip-judged : Judged56 trip (tripIn e)
   unfolding tripIn

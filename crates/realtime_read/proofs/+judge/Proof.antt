@@ -9,7 +9,7 @@ use denote.Ref.{now}
 use lib.ListN.{length}
 use Rattle.wire.specs.Wire.{Value, value}
 use Rattle.wire.specs.laws.At.{ReadAt, key-read, key-broken, skipped-read, skipped-broken}
-use Rattle.realtime.specs.Judge.{rules}
+use Rattle.realtime.specs.Judge.{rulesBy}
 use Rattle.realtime.specs.Schema.{feed}
 use Rattle.realtime.specs.Tree.{aNumber, aText, aMessage}
 use Rattle.realtime_read.specs.promises.Steps.{Stepped}
@@ -49,10 +49,10 @@ abbrev judge-below : ℕ → In 1 judge-kinds.ps
 judge-below t = and 1 judge-kinds.ps (falls 1 judge-kinds.ps _<_ μ-judge t) judge.Pre
 
 abbrev Inv : judge-lts.InvT-loop
-Inv s message at₀ worst₀ at worst = Judged rules feed message s at worst
+Inv s message ids at₀ worst₀ at worst = Judged (rulesBy ids) feed message s at worst
 
 abbrev μ : judge-lts.MeasureT-loop
-μ s message at₀ worst₀ at worst = length s - at
+μ s message ids at₀ worst₀ at worst = length s - at
 
 abbrev claims : ℕ → judge-lts.Claims
 claims t = (
@@ -133,7 +133,10 @@ module _ (t : ℕ) where
   measure : (c : Keyed) → length (bytes c) ≡ t
   measure c = c .before .before .before .before .before .before .before .pre .0
 
-  so-far : (c : Keyed) → Judged rules feed (type c) (bytes c) (place c) (worst c)
+  abbrev longest : Keyed → ℕ
+  longest c = c .before .before .before .before .before .before .before .args .ids
+
+  so-far : (c : Keyed) → Judged (rulesBy (longest c)) feed (type c) (bytes c) (place c) (worst c)
   so-far c = c .before .before .before .before .before .loop .inv
 
   here : (c : Keyed) → Here feed (type c) (bytes c) (place c) (field c) (wire c) (next c)

@@ -19,7 +19,7 @@ write-updates-spec =
     Inv-loop
     μ-loop
     (λ c κs. tt)
-    (λ c. merged-sound _ (c .before .before .pre) (c .updates .ensures))
+    (λ c. merged-sound _ (c .before .before .pre) (c .merged-items .ensures))
     (λ c κs. c .loop .inv)
     (λ c. search needs)
     (λ c. search needs)

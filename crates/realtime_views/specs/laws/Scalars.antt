@@ -32,7 +32,7 @@ abbrev pub along : List ℕ → Tree → Tree
 along [] t = t
 along (p ∷ ps) t = along ps (sub p t)
 
-leaf-is : (k : ℕ) (l : Option Leaf) → leaf (scalarAt k) none l ≡ l
+pub leaf-is : (k : ℕ) (l : Option Leaf) → leaf (scalarAt k) none l ≡ l
 leaf-is k none = refl
 leaf-is k (some (count n)) = refl
 leaf-is k (some (words x)) = refl

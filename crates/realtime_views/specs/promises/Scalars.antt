@@ -8,7 +8,7 @@ use mathlib.Core.Option.{Option, none, some}
 use native.Mathlib.Omega.{arith}
 use lib.Dec.{eqb}
 use lib.ListN.{length, take, drop}
-use Rattle.realtime.specs.Tree.{Leaf, count, words}
+use Rattle.realtime.specs.Tree.{Schema, Tree, Leaf, count, words, tree, last}
 use Rattle.realtime.specs.Schema.{feed, feedEntity, tripUpdate}
 use Rattle.realtime_views.specs.promises.Fold.{Takes, inside}
 use Rattle.realtime_views.specs.promises.Last.{Single, each}
@@ -29,15 +29,19 @@ Lying n (Scalar.Number k) = Unit {0}
 Lying n (Scalar.Text i l) = i + l ≤ n
 Lying n Scalar.Nothing = Unit {0}
 
-lying-far : (n m : ℕ) (d : Scalar) → n ≤ m → Lying n d → Lying m d
+pub lying-far : (n m : ℕ) (d : Scalar) → n ≤ m → Lying n d → Lying m d
 lying-far n m (Scalar.Number k) h l = tt
 lying-far n m (Scalar.Text i k) h l = omega arith
 lying-far n m Scalar.Nothing h l = tt
 
-said-front : (s : List ℕ) (n : ℕ) (d : Scalar) → n ≤ length s → Lying n d → said (take n s) d ≡ said s d
+pub said-front : (s : List ℕ) (n : ℕ) (d : Scalar) → n ≤ length s → Lying n d → said (take n s) d ≡ said s d
 said-front s n (Scalar.Number k) h l = refl
 said-front s n (Scalar.Text i k) h l = ap (λ x. some (words x)) (front-part s n i k l h)
 said-front s n Scalar.Nothing h l = refl
+
+-- one alone as an answer that has positions. The laws above are the lens's
+abbrev pub scalar : Lens Scalar (Option Leaf)
+scalar = record { look = said; In = Lying; far = lying-far; front = said-front }
 
 -- the fields of the code's scalars, and their numbers
 pub data Slot : Type 0 where
@@ -67,7 +71,7 @@ at d six = d .f6
 abbrev pub Lasts : Type 0
 Lasts = Slot → Option Leaf
 
--- as an answer that has positions. The laws above are the lens's
+-- all as an answer that has positions, with the lens's laws
 pub scalars-far : (n m : ℕ) (d : Scalars) → n ≤ m → ((i : Slot) → Lying n (at d i)) → (i : Slot) → Lying m (at d i)
 scalars-far n m d h l i = lying-far n m (at d i) h (l i)
 
@@ -129,3 +133,10 @@ pub record UpdateReads (s : List ℕ) (from : ℕ) (b r : TripScalars) : Type 0 
 pub record TripReads (s : List ℕ) (from : ℕ) (r : TripScalars) : Type 0 where
   pub trip : Reads scalars (takesAlong (3 ∷ 1 ∷ [])) feed feedEntity s from blank (r .trip)
   pub update : Reads scalars (takesAlong (3 ∷ [])) feed feedEntity s from blank (r .update)
+
+-- THE ANSWER r for the message of type t in l bytes at i of s: where it is not broken, the last scalar at field k of
+-- what `inner` takes of it, itself or the messages at a field merged. A text lies in s
+pub record ScalarRead (σ : Schema) (t : ℕ) (s : List ℕ) (i l : ℕ) (inner : Tree → Tree) (k : ℕ) (r : Scalar) : Type 0
+  where
+    pub of : (m : Tree) → tree σ t (take l (drop i s)) ≡ some m → said s r ≡ last k (inner m)
+    pub within : Lying (length s) r
