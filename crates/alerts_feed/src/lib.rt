@@ -1,0 +1,1 @@
+// The alerts of a GTFS Realtime message.
