@@ -1,0 +1,4 @@
+-- Lemmas on plain values.
+mod Progress
+mod Listing
+mod Keeping
