@@ -1,4 +1,4 @@
--- Believe: 01, Questions before work. The lengths that docs/ publishes, with the overlay's as a parameter.
+-- Believe: 01, Questions before work; 02, C-11. The lengths that docs/ publishes, with the overlay's as a parameter.
 use Prim.Native.Nat.{ℕ}
 use mathlib.Core.List.{List, [], _∷_, _++_}
 use Rattle.overlay.specs.Buffer.{published}
@@ -22,6 +22,7 @@ abbrev pub sized : ℕ → Lengths
 sized n = record {
   overlay = n;
   card = 65536;
+  sheet = 1048576;
   work = working;
 }
 
@@ -30,6 +31,7 @@ abbrev pub lengths : Lengths
 lengths = sized published
 
 -- in one row, as a host asks for them: the overlay's, a card's, a report's, those of a message's working buffers and of
--- a card's
+-- a card's, a sheet's
 abbrev pub publishedLengths : List ℕ
-publishedLengths = lengths .overlay ∷ lengths .card ∷ 25 ∷ (lengths .work .message ++ lengths .work .card)
+publishedLengths =
+    lengths .overlay ∷ lengths .card ∷ 25 ∷ (lengths .work .message ++ lengths .work .card ++ lengths .sheet ∷ [])

@@ -26,16 +26,18 @@ pub record Working : Type 0 where
 abbrev pub noWork : Working
 noWork = record { message = []; alertSheet = []; vehicleSheet = []; card = [] }
 
--- the lengths of the overlay, of a card's output and of working buffers
+-- the lengths of the overlay, of a card's output, of an alert sheet's and of working buffers
 pub record Lengths : Type 0 where
   pub overlay : ℕ
   pub card : ℕ
+  pub sheet : ℕ
   pub work : Working
 
 -- L keeps the lengths that the papers give; those of working buffers are the code's, as docs/ publishes them
 pub record Published (L : Lengths) : Type 0 where
   pub overlay : L .overlay ≡ published
   pub card : L .card ≡ 65536
+  pub sheet : L .sheet ≡ 1048576
 
 -- a value that ends at the last byte
 abbrev pub endedOnly : {A : Type 0} → Option (A × List ℕ) → Option A

@@ -1,17 +1,17 @@
 // THE PANEL'S CALLS, for hosts in C and Rust, at the published lengths. Each answers document 01's number: 0 where it
 // is accepted, else that of the first question whose answer is no.
+use panel_alerts::SHEET;
+use panel_report::OVERLAY;
 ghost use mathlib.Core.Path.{_≡_};
 ghost use mathlib.Core.List.{[], _∷_};
 ghost use lib.ListN.{length, getD};
 ghost use Rattle.panel.specs.Calls as calls;
 ghost use Rattle.panel.specs.Lengths.{lengths, publishedLengths};
 ghost use Rattle.panel.specs.Given.{Given};
-
-// How long an overlay is.
-const OVERLAY: usize = 111398044;
+ghost use Rattle.panel.specs.End.{end};
 
 // The lengths of all buffers, in elements.
-const LENGTHS: [usize; 10] = [
+const LENGTHS: [usize; 11] = [
     OVERLAY,
     65536, // a card
     25, // a report
@@ -22,6 +22,7 @@ const LENGTHS: [usize; 10] = [
     256,
     8208,
     4096,
+    SHEET,
 ];
 
 // The published length k, in elements; 0 where there is none.
@@ -30,7 +31,7 @@ pub extern "C" fn mipsuqal_length(k: u32) -> usize
     ensures { λ r. ⌜ r ≡ getD publishedLengths k 0 ⌝ }
 {
     let i = k as usize;
-    if i < 10 {
+    if i < 11 {
         return LENGTHS[i];
     }
     0
@@ -118,4 +119,22 @@ pub extern "C" fn mipsuqal_report(old: &[u8], feed: &[u8], out: &mut [u8]) -> u3
         (now (out .exit)) [] ⌝ }
 {
     panel_report::report(OVERLAY, old, feed, out)
+}
+
+// A MESSAGE'S ALERTS as an alert sheet, over no overlay.
+#[no_mangle]
+pub extern "C" fn mipsuqal_feed_alerts(feed: &[u8], message: &[u8], out: &mut [u8]) -> u32
+    ensures { λ r. ⌜ Given lengths [] (calls.feedAlerts (now (feed .entry)) (now (message .entry))
+        (length (now (out .entry)))) r (now (out .exit)) [] ⌝ }
+{
+    panel_alerts::feed_alerts(feed, message, out)
+}
+
+// THE END of a card, an alert sheet or a vehicle sheet (kinds 0, 1, 2) that stands in front: how many bytes it has,
+// whatever follows; 0 where there is none.
+#[no_mangle]
+pub extern "C" fn mipsuqal_end(kind: u32, bytes: &[u8]) -> usize
+    ensures { λ r. ⌜ r ≡ end kind (now (bytes .entry)) ⌝ }
+{
+    panel_end::end(kind, bytes)
 }

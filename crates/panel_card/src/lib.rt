@@ -38,7 +38,7 @@ const NOTHING: u32 = 0;
 const LABELS_LENGTH: usize = 1025;
 
 // The end of a card, and the first of the questions 5 to 7 that it fails.
-fn judge_card(s: &[u8]) -> Judge
+pub fn judge_card(s: &[u8]) -> Judge
     ensures { λ r. ⌜ r ≡ judgeTo form.card (now (s .entry)) 0 ⌝ }
 {
     formats_judge::judge_value(&CARD_TABLE, CARD_DEPTH, CARD, s, 0)

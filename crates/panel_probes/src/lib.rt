@@ -1,6 +1,7 @@
 // For a C host: whether a buffer is an overlay, and the calls over overlays of any length up to the published one, so
 // that tests need not run at that length.
 use overlay_open::Opened;
+use panel_report::OVERLAY;
 ghost use mathlib.Core.Path.{_≡_};
 ghost use mathlib.Core.List.{[], _∷_};
 ghost use lib.ListN.{length};
@@ -10,16 +11,14 @@ ghost use Rattle.panel.specs.Lengths.{sized};
 ghost use Rattle.panel.specs.Given.{Given};
 ghost use Rattle.panel_probes.specs.States.{endOf, lengthOf};
 
-// How long an overlay may be.
-const PUBLISHED: usize = 111398044;
-
+// Up to the published length.
 fn length_of(n: usize) -> usize
     ensures { λ r. ⌜ r ≡ lengthOf n ⌝ }
 {
-    if n <= PUBLISHED {
+    if n <= OVERLAY {
         return n;
     }
-    PUBLISHED
+    OVERLAY
 }
 
 // Where the state of a buffer ends; 0 where it is no overlay.

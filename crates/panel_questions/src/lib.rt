@@ -17,14 +17,14 @@ ghost use Rattle.panel.specs.Questions.{feedOk};
 ghost use Rattle.panel_questions.specs.promises.Numbers.{alertNumber, timed, vehicleNumber, ClockIs};
 
 // An alert sheet's end, and the first of the questions 5 to 7 that it fails.
-fn judge_alerts(sheet: &[u8]) -> Judge
+pub fn judge_alerts(sheet: &[u8]) -> Judge
     ensures { λ r. ⌜ r ≡ judgeTo alertSheet (now (sheet .entry)) 0 ⌝ }
 {
     formats_judge::judge_value(&ALERTS, ALERT_DEPTH, ALERT_SHEET, sheet, 0)
 }
 
 // The same of a vehicle sheet.
-fn judge_vehicles(sheet: &[u8]) -> Judge
+pub fn judge_vehicles(sheet: &[u8]) -> Judge
     ensures { λ r. ⌜ r ≡ judgeTo vehicleSheet (now (sheet .entry)) 0 ⌝ }
 {
     formats_judge::judge_value(&VEHICLES, VEHICLE_DEPTH, VEHICLE_SHEET, sheet, 0)

@@ -1,6 +1,7 @@
 // A script of calls, replayed on the calls themselves: from a fresh overlay on, one call after the other.
 use formats_write::Put;
 use panel_output::Ending;
+use panel_report::OVERLAY;
 use replay_script::Standing;
 ghost use mathlib.Core.Path.{_≡_};
 ghost use mathlib.Core.Bool.{true};
@@ -120,9 +121,6 @@ pub fn replay(
     panel_output::finish(out, e)
 }
 
-// An overlay's published length.
-const PUBLISHED: usize = 111398044;
-
 // A REPLAY of a script at the published lengths.
 #[no_mangle]
 pub extern "C" fn mipsuqal_replay(
@@ -139,5 +137,5 @@ pub extern "C" fn mipsuqal_replay(
         (length (now (out .entry))) (length (now (keys .entry))) (length (now (marks .entry)))
         (length (now (order .entry)))) (now (script .entry)) r (now (out .exit)) ⌝ }
 {
-    replay(PUBLISHED, script, a, b, out, keys, marks, order)
+    replay(OVERLAY, script, a, b, out, keys, marks, order)
 }

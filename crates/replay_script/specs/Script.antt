@@ -12,7 +12,7 @@ use Rattle.basics.specs.Options.{bindO}
 use Rattle.formats.specs.Class.{any}
 use Rattle.formats.specs.Format.{Format, number, signed, small, text, list, _&_, Value}
 use Rattle.panel.specs.Questions.{Lengths, whole}
-use Rattle.panel.specs.Calls.{Call, fresh, message, alertSheet, vehicleSheet, card, report, outOf, writes}
+use Rattle.panel.specs.Calls.{Call, fresh, message, alertSheet, vehicleSheet, card, report, feedAlerts, outOf, writes}
 
 abbrev pub most64 : ℕ
 most64 = 18446744073709551615
@@ -91,6 +91,7 @@ lends R (alertSheet f sheet new work) = within work [] && leb new (R .overlay)
 lends R (vehicleSheet f sheet clock new work) = within work [] && leb new (R .overlay)
 lends R (card bytes out work) = within work (R .cardWork)
 lends R (report f out) = true
+lends R (feedAlerts f m out) = true
 
 abbrev pub lentAll : Lent → List Call → Option (List Call)
 lentAll R cs = cond (all (lends R) cs && leb (sizeOf cs) (R .output)) (some cs) none

@@ -1,13 +1,14 @@
 -- Law. WHERE EACH QUESTION TURNS, worked by hand from the papers: call by call, the last input that a question passes
 -- and the first that it doesn't. Lengths of a million bytes (question 3) and counts of thousands (7) are
 -- `EachQuestion`'s and `Seven`'s.
-use Prim.Native.Nat.{ℕ, _+_}
+use Prim.Native.Nat.{ℕ, _+_, _/_, _%_}
 use mathlib.Core.Path.{refl}
 use mathlib.Core.Bool.{Bool, true, false}
 use mathlib.Core.List.{List, [], _∷_, _++_, map}
 use mathlib.Core.Logic.{inl}
 use lib.IntN.{ℤ, pos, negsuc}
-use lib.ListN.{replicate}
+use lib.ListN.{length, replicate}
+use Rattle.basics.specs.Lists.{concatMap}
 use Rattle.basics.specs.Rows.{Row, row, Holds}
 use Rattle.basics.specs.laws.Rows.{_also_}
 use Rattle.slices.specs.Lists.{lexOf}
@@ -19,6 +20,7 @@ use Rattle.decode.specs.Leaves as leaves
 use Rattle.decode.specs.Key as key
 use Rattle.decode.specs.Record as trips
 use Rattle.alerts.specs.Text.{text}
+use Rattle.alerts_feed.specs.Sheet as sheets
 use Rattle.overlay.specs.State.{overlay, noState}
 use Rattle.overlay.specs.Valid as valid
 use Rattle.overlay.specs.Image as image
@@ -33,8 +35,9 @@ use Rattle.panel.specs.AlertSheet.{alertsAsk, alertSheetAsks}
 use Rattle.panel.specs.VehicleSheet.{vehiclesAsk, vehicleSheetAsks}
 use Rattle.panel.specs.Card.{finished, arrivingAsks, cardAsks}
 use Rattle.panel.specs.Report.{reportAsks}
-use Rattle.panel.specs.Calls.{Call, fresh, message, alertSheet, vehicleSheet, card, report, gives, run}
-use Rattle.panel.specs.Calls.{freshOverlay, numbersGiven}
+use Rattle.panel.specs.FeedAlerts.{alertTreeAsks, feedAlertsAsks}
+use Rattle.panel.specs.Calls.{Call, fresh, message, alertSheet, vehicleSheet, card, report, feedAlerts, gives}
+use Rattle.panel.specs.Calls.{run, freshOverlay, numbersGiven}
 use Rattle.panel.specs.Rides.{emptyCard}
 
 -- ---- what the rows speak of
@@ -43,6 +46,7 @@ abbrev pub L : Lengths
 L = record {
   overlay = 256;
   card = 64;
+  sheet = 128;
   work = record { message = 2 ∷ 1 ∷ []; alertSheet = []; vehicleSheet = []; card = 3 ∷ [] };
 }
 
@@ -144,6 +148,35 @@ walks n = legs (n ∷ replicate (n + n) 0)
 abbrev pub walk : ℕ → Call
 walk n = legs (1 ∷ 0 ∷ n ∷ replicate n 0)
 
+-- messages of alerts: a field of bytes, its length in two bytes; bytes n times; an entity with an alert, and one that
+-- is deleted; a header or a description of n bytes; n alerts; an alert with n stops; a route of n bytes in a feed of k
+abbrev pub field : ℕ → List ℕ → List ℕ
+field key x = key ∷ (128 + length x % 128) ∷ (length x / 128) ∷ x
+
+abbrev pub times : ℕ → List ℕ → List ℕ
+times n x = concatMap (λ y. y) (replicate n x)
+
+abbrev pub entity : List ℕ → List ℕ
+entity alert = field 0x12 (field 0x2a alert)
+
+abbrev pub gone : List ℕ
+gone = field 0x12 (0x10 ∷ 0x01 ∷ field 0x2a [])
+
+abbrev pub told : List ℕ → Call
+told m = feedAlerts f m 128
+
+abbrev pub words : ℕ → ℕ → Call
+words key n = told (entity (field key (field 0x0a (field 0x0a (replicate n 0x61)))))
+
+abbrev pub alerts : ℕ → List ℕ → Call
+alerts n more = told (times n (entity []) ++ more)
+
+abbrev pub stops : ℕ → List ℕ → Call
+stops n more = told (entity (times n (field 0x2a (field 0x2a (0x61 ∷ []))) ++ more))
+
+abbrev pub routeIn : ℕ → ℕ → Call
+routeIn k n = feedAlerts (replicate k 0x61) (entity (field 0x2a (field 0x12 (replicate n 0x61)))) 128
+
 -- ---- the table
 
 unfoldable pub table : List Row
@@ -192,11 +225,22 @@ table =
     ∷ row (numbers (report f) (24 ∷ 25 ∷ 26 ∷ [])) (1 ∷ 0 ∷ 1 ∷ [])
     ∷ row (overZeros (report f 25)) (1 ∷ 2 ∷ 1 ∷ [])
     ∷ row (numbers (λ g. report g 25) feedIds) idsDue
+    -- a message's alerts as a sheet; where 5 and 7 turn on long input, 8 stands behind them
+    ∷ row (numbers (feedAlerts f []) (127 ∷ 128 ∷ 129 ∷ [])) (1 ∷ 0 ∷ 1 ∷ [])
+    ∷ row (numbers told ([] ∷ (0x00 ∷ []) ∷ (0x12 ∷ 0x02 ∷ 0x28 ∷ 0x00 ∷ []) ∷ [])) (0 ∷ 4 ∷ 4 ∷ [])
+    ∷ row (numbers (λ g. feedAlerts g [] 128) feedIds) idsDue
+    ∷ row (numbers (routeIn 1) (62 ∷ 63 ∷ [])) (0 ∷ 5 ∷ [])
+    ∷ row (numbers (routeIn 16) (47 ∷ 48 ∷ [])) (0 ∷ 5 ∷ [])
+    ∷ row (numbers (words 0x52) (512 ∷ 513 ∷ [])) (8 ∷ 5 ∷ [])
+    ∷ row (numbers (words 0x5a) (2048 ∷ 2049 ∷ [])) (8 ∷ 5 ∷ [])
+    ∷ row (numbers (alerts 256) ([] ∷ gone ∷ entity [] ∷ [])) (8 ∷ 8 ∷ 7 ∷ [])
+    ∷ row (numbers (stops 32) ([] ∷ field 0x2a [] ∷ field 0x2a (field 0x2a (0x61 ∷ [])) ∷ [])) (8 ∷ 8 ∷ 7 ∷ [])
+    ∷ row (numbers (words 0x52) (119 ∷ 120 ∷ [])) (0 ∷ 8 ∷ [])
     ∷ []
 
 pub bounds : Holds table
 unfolding table run freshAsks messageAsks treeAsks alertSheetAsks alertsAsk vehicleSheetAsks vehiclesAsk cardAsks
-    arrivingAsks finished reportAsks whole
+    arrivingAsks finished reportAsks feedAlertsAsks alertTreeAsks sheets.sheetIn sheets.alertIn whole
     image.stateOf image.filled image.room valid.valid valid.within valid.feedValid shown
     change.afterMessage change.afterAlerts change.afterVehicles change.withoutStale change.feedAt change.putFeed
     reports.report
@@ -208,6 +252,7 @@ unfolding table run freshAsks messageAsks treeAsks alertSheetAsks alertsAsk vehi
     enrich.disrupted enrich.live enrich.alerts-of
 bounds =
     refl also refl also refl also refl also refl also refl also refl also refl also refl also refl
+    also refl also refl also refl also refl also refl also refl also refl also refl also refl also refl
     also refl also refl also refl also refl also refl also refl also refl also refl also refl also refl
     also refl also refl also refl also refl also refl also refl also refl also refl also refl also refl
     also refl also refl also refl also refl also refl also tt

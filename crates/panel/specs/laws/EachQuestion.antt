@@ -4,7 +4,7 @@ use mathlib.Core.Path.{_≡_}
 use mathlib.Core.Bool.{Bool, _&&_}
 use mathlib.Core.List.{List, []}
 use mathlib.Core.Option.{some}
-use Prim.Native.Nat.{ℕ}
+use Prim.Native.Nat.{ℕ, _-_}
 use lib.IntN.{ℤ}
 use lib.Dec.{eqb, leb}
 use lib.ListN.{length}
@@ -14,10 +14,11 @@ use Rattle.formats.specs.Class.{token}
 use Rattle.formats.specs.Format.{text, Value, write}
 use Rattle.formats_judge.specs.Judged.{ok}
 use Rattle.realtime.specs.Tree.{Tree, tree}
-use Rattle.realtime.specs.Schema.{feedMessage, feed}
-use Rattle.realtime.specs.Judge.{rules, textsFine, numbersFine}
+use Rattle.realtime.specs.Schema.{feedMessage, alertMessage, feed}
+use Rattle.realtime.specs.Judge.{rules, rulesBy, textsFine, numbersFine}
 use Rattle.decode.specs.Trip.{instant}
 use Rattle.alerts.specs.Alert.{alertSheet as alertForm}
+use Rattle.alerts_feed.specs.Sheet.{sheetIn}
 use Rattle.overlay.specs.State.{State, noState, vehicleSheet as vehicleForm, overlay}
 use Rattle.overlay.specs.Image.{room, stateOf}
 use Rattle.overlay.specs.Change.{afterMessage, afterAlerts, afterVehicles}
@@ -29,7 +30,8 @@ use Rattle.panel.specs.AlertSheet.{alertsAsk, alertSheetAsks}
 use Rattle.panel.specs.VehicleSheet.{vehiclesIn, vehiclesAsk, vehicleSheetAsks}
 use Rattle.panel.specs.Card.{finished, arrivingAsks, cardAsks}
 use Rattle.panel.specs.Report.{reportAsks}
-use Rattle.panel.specs.Calls.{Call, fresh, message, alertSheet, vehicleSheet, card, report, asks}
+use Rattle.panel.specs.FeedAlerts.{alertTreeAsks, feedAlertsAsks}
+use Rattle.panel.specs.Calls.{Call, fresh, message, alertSheet, vehicleSheet, card, report, feedAlerts, asks}
 use Rattle.panel.specs.Answers.{answer}
 use Rattle.panel.specs.laws.AsPut.{Each, as-put}
 
@@ -225,3 +227,39 @@ module _ (L : Lengths) (old : List ℕ) (f : List ℕ) (out : ℕ) where
     pub report-5 : answer (asks L old report-call) 5 ≡ ok 5 (text 16 token) f
     unfolding reportAsks
     report-5 = report-put .1 .1 s d .0
+
+-- ---- a message's alerts as a sheet
+
+module _ (L : Lengths) (old : List ℕ) (f m : List ℕ) (out : ℕ) where
+  abbrev feed-alerts-call : Call
+  feed-alerts-call = feedAlerts f m out
+
+  feed-alerts-put : Each (answer (asks L old feed-alerts-call)) (asks L old feed-alerts-call)
+  feed-alerts-put = as-put L old feed-alerts-call
+
+  pub feed-alerts-1 : answer (asks L old feed-alerts-call) 1 ≡ eqb out (L .sheet)
+  unfolding feedAlertsAsks
+  feed-alerts-1 = feed-alerts-put .0
+
+  pub feed-alerts-3 : answer (asks L old feed-alerts-call) 3 ≡ leb (length m) 1048576
+  unfolding feedAlertsAsks
+  feed-alerts-3 = feed-alerts-put .1 .0
+
+  pub feed-alerts-4 : answer (asks L old feed-alerts-call) 4 ≡ isSome (tree feed alertMessage m)
+  unfolding feedAlertsAsks
+  feed-alerts-4 = feed-alerts-put .1 .1 .0
+
+  module _ (t : Tree) (is : tree feed alertMessage m ≡ some t) where
+    pub feed-alerts-5 : answer (asks L old feed-alerts-call) 5
+        ≡ (ok 5 (text 16 token) f && textsFine (rulesBy (63 - length f)) alertMessage t)
+    unfolding feedAlertsAsks alertTreeAsks
+    feed-alerts-5 = feed-alerts-put .1 .1 .1 t is .0
+
+    pub feed-alerts-7 : answer (asks L old feed-alerts-call) 7 ≡ ok 7 alertForm (sheetIn f t)
+    unfolding feedAlertsAsks alertTreeAsks
+    feed-alerts-7 = feed-alerts-put .1 .1 .1 t is .1 .0
+
+    pub feed-alerts-8 : answer (asks L old feed-alerts-call) 8
+        ≡ leb (length (write alertForm (sheetIn f t))) (L .sheet)
+    unfolding feedAlertsAsks alertTreeAsks
+    feed-alerts-8 = feed-alerts-put .1 .1 .1 t is .1 .1 .0

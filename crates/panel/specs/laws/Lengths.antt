@@ -9,7 +9,7 @@ use Rattle.panel.specs.laws.Demand3.{demand-3}
 use Rattle.panel.specs.Lengths.{lengths}
 
 pub lengths-published : Published lengths
-lengths-published = record { overlay = refl; card = refl }
+lengths-published = record { overlay = refl; card = refl; sheet = refl }
 
 -- DEMAND 3 at the lengths of the compiled calls
 pub demand-3-compiled : (cs : List Call) → Demand3 lengths (freshOverlay lengths) noBook cs

@@ -2,7 +2,8 @@
 use mathlib.Core.Path.{_≡_, refl, sym, ap, ap₂, _∙_}
 use mathlib.Core.List.{List, [], _∷_}
 use Prim.Native.Nat.{ℕ}
-use Rattle.panel.specs.Calls.{Call, fresh, Gave, gives, overlayAfter, freshOverlay, run, numbersGiven}
+use Rattle.panel.specs.Calls.{Call, fresh, feedAlerts, Gave, gives, overlayAfter, freshOverlay, run}
+use Rattle.panel.specs.Calls.{numbersGiven}
 use Rattle.panel.specs.Rule.{noBook}
 use Rattle.panel.specs.Book.{History}
 use Rattle.panel.specs.Gained.{AlikeAll}
@@ -36,6 +37,11 @@ run-made old (c ∷ cs) =
 pub fresh-over : (old : List ℕ) {n number : ℕ} {out : List ℕ} {work : List (List ℕ)}
     → Given lengths [] (fresh n) number out work → Given lengths old (fresh n) number out work
 fresh-over old g = record { is = g .is }
+
+-- and so is that of a message's alerts
+pub feed-alerts-over : (old : List ℕ) {f m : List ℕ} {n number : ℕ} {out : List ℕ} {work : List (List ℕ)}
+    → Given lengths [] (feedAlerts f m n) number out work → Given lengths old (feedAlerts f m n) number out work
+feed-alerts-over old g = record { is = g .is }
 
 -- the two halves at the published lengths
 pub history-published : (cs : List Call) → History lengths (freshOverlay lengths) noBook cs

@@ -15,6 +15,7 @@ use Rattle.panel.specs.AlertSheet.{alertsAsk, alertSheetAsks}
 use Rattle.panel.specs.VehicleSheet.{vehiclesAsk, vehicleSheetAsks}
 use Rattle.panel.specs.Card.{arrivingAsks, cardAsks}
 use Rattle.panel.specs.Report.{reportAsks}
+use Rattle.panel.specs.FeedAlerts.{alertTreeAsks, feedAlertsAsks}
 
 abbrev pub changedState : Lengths → List ℕ → State → Outcome
 changedState L old s = outcome (changed L old s)
@@ -48,3 +49,9 @@ cardCallOf L old bytes out work = outcome (cardAsks bytes out work L old)
 
 abbrev pub reportOf : Lengths → List ℕ → List ℕ → ℕ → Outcome
 reportOf L old f out = outcome (reportAsks f out L old)
+
+abbrev pub alertTreeOutcome : Lengths → List ℕ → Tree → Outcome
+alertTreeOutcome L f t = outcome (alertTreeAsks L f t)
+
+abbrev pub feedAlertsOf : Lengths → List ℕ → List ℕ → ℕ → Outcome
+feedAlertsOf L f m out = outcome (feedAlertsAsks f m out L)

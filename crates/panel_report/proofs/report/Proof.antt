@@ -7,8 +7,9 @@ use Rattle.panel_report.proofs.report.Tie as tie
 
 returns : tie.Need-returns
 returns c =
-    let ended = c .before .before .before .before .before .before in
-    finished (ended .report-ending .ensures) (c .before .before .finish .ensures) (search needs) refl
+    let done = c .before .before in
+    let ended = done .before .before .before .before in
+    finished (ended .report-ending .ensures) (done .finish .ensures) (search needs) refl
 
 pub report-spec : {M : Type 1} → statement M
 report-spec = tie.close (tie.spec (λ c κs. search needs) (λ c κs. search needs) (λ c. search needs) returns)

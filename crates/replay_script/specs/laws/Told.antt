@@ -15,7 +15,7 @@ use Rattle.panel.specs.Calls.{Call, Gave, gives, outOf, writes}
 use Rattle.panel.specs.Calls.{overlayAfter, freshOverlay, run, numbersGiven}
 use Rattle.panel.specs.Rule.{Book, noBook}
 use Rattle.panel.specs.Book.{fed, seen, saidAll, seenAll}
-use Rattle.panel.specs.Gained.{Alike, equal, gained, AlikeAll}
+use Rattle.panel.specs.Gained.{Alike, equal, gained, gainedAlerts, AlikeAll}
 use Rattle.panel.specs.laws.Gained.{history-gains}
 use Rattle.panel.specs.laws.History.{history}
 use Rattle.panel.specs.laws.Sizes.{out-long}
@@ -111,6 +111,7 @@ told L cs {l} e =
 alike-telling : {c d : Call} {n : ℕ} → Alike c n d → (g : Gave) → telling c g ≡ telling d g
 alike-telling equal g = refl
 alike-telling (gained a z l) g = refl
+alike-telling (gainedAlerts a z l) g = refl
 
 alike-tells : (cs : List Call) (ns : List ℕ) (ds : List Call) → AlikeAll cs ns ds → (gs : List Gave)
     → tellAll cs gs ≡ tellAll ds gs

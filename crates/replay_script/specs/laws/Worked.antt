@@ -20,6 +20,7 @@ abbrev small : Lengths
 small = record {
   overlay = 16;
   card = 64;
+  sheet = 64;
   work = record { message = 4 ∷ 3 ∷ 2 ∷ 1 ∷ []; alertSheet = []; vehicleSheet = []; card = [] };
 }
 
