@@ -6,8 +6,10 @@ use crate::papers::{Alert, AlertSheet, Card, Leg, Middle, Transit, VehicleSheet,
 use crate::routing::journey::{
     self, enrich_with_realtime, IntermediateStop, Journey, StopRef, TransitLegData,
 };
-use crate::rt::decode::{apply_trip_updates, decode_feed_message};
+use crate::rt::decode::{apply_service_alerts, apply_trip_updates, decode_feed_message};
 use crate::rt::overlay::{AlertRt, FeedRtState, RealtimeOverlay, VehiclePos};
+use crate::tree::{field_end, inner, Type};
+use crate::wire::delimited;
 use chrono::{DateTime, TimeZone, Utc};
 
 #[derive(Clone, Default)]
@@ -42,6 +44,14 @@ impl Original {
         if whole {
             apply_trip_updates(feed, message, self.feed(feed));
         }
+        whole
+    }
+
+    /// A message's alerts, as the original reads them; false where prost refuses the bytes.
+    pub fn service_alerts(&mut self, feed: &str, message: &[u8]) -> bool {
+        let message = with_alerts(message);
+        let whole = decode_feed_message(&message).is_ok();
+        apply_service_alerts(feed, &message, self.feed(feed));
         whole
     }
 
@@ -89,6 +99,27 @@ impl Original {
             timestamp: state.and_then(|state| state.header_timestamp),
         }
     }
+}
+
+/// A whole message with its alerts at the number that the original's schema has them at (`schema/`).
+pub fn with_alerts(message: &[u8]) -> Vec<u8> {
+    let entities = |field: u64, bytes: &[u8]| {
+        delimited(field, each_inner(Type::AlertEntity, bytes, |_, alert| delimited(500_000_005, alert)))
+    };
+    each_inner(Type::AlertMessage, message, entities)
+}
+
+/// The fields of a message, each listed message among them written anew.
+fn each_inner(of: Type, bytes: &[u8], anew: impl Fn(u64, &[u8]) -> Vec<u8>) -> Vec<u8> {
+    let (mut out, mut at) = (Vec::new(), 0);
+    while let Some(end) = field_end(bytes, at).filter(|_| at < bytes.len()) {
+        match inner(of, bytes, at) {
+            Some((field, _, place)) => out.extend(anew(field, &bytes[place])),
+            None => out.extend(&bytes[at..end]),
+        }
+        at = end;
+    }
+    out
 }
 
 pub fn instant(seconds: i64) -> DateTime<Utc> {

@@ -123,7 +123,7 @@ pub fn vehicle(key: &str, vehicle: &VehiclePos) -> Vehicle {
     }
 }
 
-fn alert(alert: &AlertRt) -> Alert {
+pub fn alert(alert: &AlertRt) -> Alert {
     let texts = |ids: &[String]| ids.iter().map(|id| Text::from(id.as_str())).collect();
     Alert {
         header: alert.header.as_deref().map(Text::from),

@@ -83,6 +83,16 @@ calls!(
     exported: mipsuqal_fresh mipsuqal_message mipsuqal_alert_sheet mipsuqal_vehicle_sheet mipsuqal_card mipsuqal_report
 );
 
+extern "C" {
+    fn mipsuqal_end(kind: u32, bytes: From, length: usize) -> usize;
+}
+
+/// How many bytes the form of a kind has that stands in front.
+pub fn end(kind: u32, bytes: &[u8]) -> usize {
+    // A reference's slice is valid for its length.
+    unsafe { mipsuqal_end(kind, bytes.as_ptr(), bytes.len()) }
+}
+
 /// The panel's calls, which take an overlay of the published length, or those for tests, which take any.
 pub type Calls = unsafe fn(&Call, &Lent) -> u32;
 

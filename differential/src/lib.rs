@@ -11,6 +11,7 @@ pub use original::{gtfs, routing, rt};
 
 pub mod after;
 pub mod bounds;
+pub mod feed_alerts;
 pub mod form;
 pub mod gens;
 pub mod guarded;

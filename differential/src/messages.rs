@@ -35,3 +35,12 @@ texts!(trip_id 1, start_time 2, start_date 3, route_id 5, stop_id 4);
 pub const DIFFERENTIAL: i64 = 1;
 pub const CANCELED: i64 = 3;
 pub const SKIPPED: i64 = 1;
+
+/// Those of document 02's list for alerts, which have names of document 01's list at other numbers.
+pub mod alerts {
+    pub use super::{entity, is_deleted};
+    use crate::wire::delimited;
+
+    messages!(alert 5, informed_entity 5, header_text 10, description_text 11, trip 4, translation 1);
+    texts!(text 1, language 2, trip_id 1, route_id 2, stop_id 5);
+}

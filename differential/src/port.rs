@@ -1,6 +1,7 @@
 //! The port's compiled calls. They ask nothing of their caller but that a slice is what it says it is: two arguments, where it begins
 //! and how long it is.
 use crate::layout::{StopUpdate, Trip, UpdateEntry};
+use crate::lent::end;
 
 mod raw {
     #[repr(C)]
@@ -108,6 +109,14 @@ mod raw {
             short: *const u8,
             short_length: usize,
         ) -> bool;
+        pub fn mipsuqal_feed_alerts(
+            feed: *const u8,
+            feed_length: usize,
+            message: *const u8,
+            message_length: usize,
+            out: *mut u8,
+            out_length: usize,
+        ) -> u32;
     }
 }
 
@@ -296,4 +305,24 @@ pub fn applies(text: &mut [u8], alert: &[u8], leg: &Leg) -> u32 {
 pub fn label(alert: &[u8]) -> &[u8] {
     let label = unsafe { raw::alerts_label(alert.as_ptr(), alert.len()) };
     &alert[label.from..label.to]
+}
+
+/// A message's alerts as a sheet, and zeros behind it; the number of the first no, or 0.
+pub fn feed_alerts(feed: &[u8], message: &[u8], out: &mut [u8]) -> u32 {
+    unsafe {
+        raw::mipsuqal_feed_alerts(
+            feed.as_ptr(),
+            feed.len(),
+            message.as_ptr(),
+            message.len(),
+            out.as_mut_ptr(),
+            out.len(),
+        )
+    }
+}
+
+/// Where the alert sheet that bytes begin with ends; none where they begin with none.
+pub fn sheet_end(bytes: &[u8]) -> Option<usize> {
+    const ALERT_SHEET: u32 = 1;
+    Some(end(ALERT_SHEET, bytes)).filter(|end| *end > 0)
 }

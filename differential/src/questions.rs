@@ -15,6 +15,22 @@ pub fn message(feed: &[u8], message: &[u8]) -> Result<Vec<Field>, u8> {
     Ok(fields)
 }
 
+/// Questions 3 to 5 of a message whose alerts are wanted (document 02, C-11). An id is judged with the feed's prefix,
+/// which an empty one doesn't get.
+pub fn alert_message(feed: &[u8], message: &[u8]) -> Result<Vec<Field>, u8> {
+    yes(message.len() <= LONGEST_INPUT, 3)?;
+    let fields = tree(Type::AlertMessage, message, DEEPEST_GROUP).ok_or(4)?;
+    let prefixed = |text: &[u8]| if text.is_empty() { 0 } else { feed.len() + 1 + text.len() };
+    let text_within = |field: &Field| match (field.listed, &field.value) {
+        (Listed::Prefixed, Value::Text(text)) => printable(text, 64) && prefixed(text) <= 64,
+        (Listed::Header, Value::Text(text)) => is_utf8(text, 512),
+        (Listed::Description, Value::Text(text)) => is_utf8(text, 2_048),
+        _ => true,
+    };
+    yes(feed_id(feed) && every(&fields, &text_within), 5)?;
+    Ok(fields)
+}
+
 pub fn alert_sheet(feed: &[u8], sheet: &[u8]) -> Result<AlertSheet, u8> {
     yes(sheet.len() <= LONGEST_INPUT, 3)?;
     let sheet = AlertSheet::of(sheet).ok_or(4)?;
@@ -97,7 +113,11 @@ pub fn id(text: &Text) -> bool {
 }
 
 pub fn utf8(text: &Text, longest: usize) -> bool {
-    text.0.len() <= longest && std::str::from_utf8(&text.0).is_ok()
+    is_utf8(&text.0, longest)
+}
+
+fn is_utf8(text: &[u8], longest: usize) -> bool {
+    text.len() <= longest && std::str::from_utf8(text).is_ok()
 }
 
 /// A feed's, a vehicle sheet's or the clock's time.

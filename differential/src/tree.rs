@@ -2,7 +2,8 @@
 //! tree in which unlisted fields leave no trace. It judges messages where prost has other limits.
 use std::ops::Range;
 
-/// The message types of document 01's list.
+/// The message types of document 01's list, and those of document 02's for alerts (C-11). These have a list of their
+/// own from the message on, and are told apart by their place where their limits are.
 #[derive(Clone, Copy, Debug, PartialEq)]
 pub enum Type {
     FeedMessage,
@@ -12,6 +13,15 @@ pub enum Type {
     TripDescriptor,
     StopTimeUpdate,
     StopTimeEvent,
+    AlertMessage,
+    AlertEntity,
+    Alert,
+    EntitySelector,
+    SelectedTrip,
+    HeaderText,
+    HeaderTranslation,
+    DescriptionText,
+    DescriptionTranslation,
 }
 
 /// What a listed field holds, as far as questions 4 to 6 tell them apart.
@@ -22,11 +32,15 @@ pub enum Listed {
     Id,
     /// A start date or start time.
     Short,
+    /// An id that gets the feed's prefix on a sheet.
+    Prefixed,
+    Header,
+    Description,
     Message(Type),
 }
 
 pub fn listed(message: Type, field: u64) -> Option<Listed> {
-    use Listed::*;
+    use Listed::{Description, Header, Id, Message, Number, Prefixed, Short, Time};
     use Type::*;
     Some(match (message, field) {
         (FeedMessage, 1) => Message(FeedHeader),
@@ -45,6 +59,19 @@ pub fn listed(message: Type, field: u64) -> Option<Listed> {
         (StopTimeUpdate, 4) => Id,
         (StopTimeEvent, 1) => Number,
         (StopTimeEvent, 2) => Time,
+        (AlertMessage, 2) => Message(AlertEntity),
+        (AlertEntity, 2) => Number,
+        (AlertEntity, 5) => Message(Alert),
+        (Alert, 5) => Message(EntitySelector),
+        (Alert, 10) => Message(HeaderText),
+        (Alert, 11) => Message(DescriptionText),
+        (EntitySelector, 2 | 5) => Prefixed,
+        (EntitySelector, 4) => Message(SelectedTrip),
+        (SelectedTrip, 1) => Prefixed,
+        (HeaderText, 1) => Message(HeaderTranslation),
+        (HeaderTranslation, 1) => Header,
+        (DescriptionText, 1) => Message(DescriptionTranslation),
+        (DescriptionTranslation, 1) => Description,
         _ => return None,
     })
 }
@@ -77,8 +104,9 @@ pub fn tree(message: Type, bytes: &[u8], deepest_group: usize) -> Option<Vec<Fie
         };
         let value = match (listed, wire_type) {
             (Listed::Number | Listed::Time, 0) => Value::Number(varint(&mut left)?),
-            (Listed::Id | Listed::Short, 2) => Value::Text(delimited(&mut left)?.into()),
+            (Listed::Number | Listed::Time, _) => return None,
             (Listed::Message(inner), 2) => Value::Message(tree(inner, delimited(&mut left)?, deepest_group)?),
+            (_, 2) => Value::Text(delimited(&mut left)?.into()),
             _ => return None,
         };
         fields.push(Field { number, listed, value });

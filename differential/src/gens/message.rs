@@ -112,7 +112,7 @@ fn event(random: &mut Random) -> Vec<u8> {
 }
 
 /// The parts in any order, with unlisted fields between them now and then.
-fn mixed(random: &mut Random, mut parts: Vec<Vec<u8>>, unlisted_here: &[u64]) -> Vec<u8> {
+pub(super) fn mixed(random: &mut Random, mut parts: Vec<Vec<u8>>, unlisted_here: &[u64]) -> Vec<u8> {
     while random.once_in(5) {
         let field = if random.once_in(2) { UNLISTED } else { unlisted_here };
         if let Some(field) = (!field.is_empty()).then(|| random.pick(field)) {
@@ -161,7 +161,7 @@ fn any_number(random: &mut Random, value: u64) -> Vec<u8> {
     number(value)
 }
 
-fn varint(random: &mut Random, field: u64, value: u64) -> Vec<u8> {
+pub(super) fn varint(random: &mut Random, field: u64, value: u64) -> Vec<u8> {
     [any_number(random, field << 3), any_number(random, value)].concat()
 }
 
@@ -170,7 +170,7 @@ fn signed(random: &mut Random, field: u64, value: impl FnOnce(&mut Random) -> i6
     varint(random, field, value)
 }
 
-fn delimited(random: &mut Random, field: u64, bytes: &[u8]) -> Vec<u8> {
+pub(super) fn delimited(random: &mut Random, field: u64, bytes: &[u8]) -> Vec<u8> {
     [any_number(random, field << 3 | 2), any_number(random, bytes.len() as u64), bytes.into()].concat()
 }
 

@@ -1,5 +1,6 @@
 //! Random inputs from a seed: ids come from small stocks and times lie near each other, so that
 //! look-ups hit, keys collide and alerts apply; some values lie at a bound or past it.
+mod alert_message;
 mod alert_text;
 mod call;
 mod gained;
@@ -7,9 +8,10 @@ mod message;
 mod of_a_trip;
 mod paper;
 
+pub use alert_message::{alert_message, common_alert_message, many_alerts};
 pub use alert_text::alert_text;
 pub use call::{any_call, any_card, history};
-pub use gained::gained;
+pub use gained::{gained, gained_alerts};
 pub use message::message;
 pub use of_a_trip::{full_card, of_a_trip};
 pub use paper::{alert, card, transit};

@@ -37,7 +37,7 @@ pub fn index() -> bool {
 }
 
 /// As many as go into 1 MiB, 32 bytes left for what stands around them.
-fn filled(part: &[u8]) -> Vec<u8> {
+pub fn filled(part: &[u8]) -> Vec<u8> {
     part.repeat((MIB - 32) / part.len())
 }
 

@@ -3,6 +3,7 @@
 //! decoders, and the tables that are asked for.
 mod calls;
 mod clock;
+mod feed_alerts;
 mod index;
 mod inputs;
 mod memory;
@@ -17,9 +18,10 @@ type Section = (&'static str, fn() -> bool);
 
 /// What each measures, and whether it is within its bounds. Memory first: what was given back is not given anew as
 /// zeros.
-const SECTIONS: [Section; 6] = [
+const SECTIONS: [Section; 7] = [
     ("Memory and zeros", memory::memory),
     ("Calls beside the original", calls::calls),
+    ("Alerts straight from the feed", feed_alerts::alerts),
     ("Alert texts", || texts::texts(TEXTS)),
     ("Growth", || calls::growth() & index::largest_in_time()),
     ("The worst legal inputs", worst::worst),

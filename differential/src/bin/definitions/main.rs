@@ -5,6 +5,7 @@ mod alerts;
 mod branches;
 mod buffers;
 mod decode;
+mod feed_alerts;
 mod formats;
 mod journey;
 mod opened;
@@ -75,6 +76,7 @@ fn main() {
         rows::DEFINITIONS,
         branches::DEFINITIONS,
         decode::DEFINITIONS,
+        feed_alerts::DEFINITIONS,
         overlay::DEFINITIONS,
         buffers::DEFINITIONS,
         journey::DEFINITIONS,

@@ -1,8 +1,10 @@
-//! Random damage, guided by structure, through the port's compiled calls, on memory with pages next to each slice that
-//! no one may touch. usage: fuzz SIDE SEED CALLS, where SIDE is `behind`, `before`, `heap`, `exported` for the panel's
-//! own calls at the published length, or `faults`: whether faults put around the calls are found.
+//! Random damage, guided by structure, through the port's compiled calls, on memory with pages next to each slice
+//! that no one may touch. usage: fuzz SIDE SEED CALLS, where SIDE is `behind`, `before`, `heap`, `exported` for the
+//! panel's own calls at the published length, `alerts` for the alerts of messages, on both sides, or `faults`:
+//! whether faults put around the calls are found.
 mod damage;
 mod faults;
+mod feed_alerts;
 mod judge;
 mod memory;
 mod shape;
@@ -109,11 +111,12 @@ fn faults_found(seed: u64, calls: u64) -> bool {
         run(&mut judge, seed, calls);
         judge.differ == 0
     });
-    let missed: Vec<_> = missed.map(|(name, _)| name).collect();
+    let missed: Vec<_> = missed.map(|(name, _)| *name).chain(feed_alerts::missed(seed, calls / 4)).collect();
     let this = std::env::current_exe().expect("this program");
     let told = Command::new(this).args(["past-the-end", "1", "1"]).output().expect("a run");
     let stopped = told.status.code() == Some(1) && told.stderr.starts_with(b"fuzz: signal 11");
-    println!("fuzz: {} faults, not found: {missed:?}; a byte past an end: found {stopped}", FAULTS.len());
+    let faults = FAULTS.len() + feed_alerts::FAULTY;
+    println!("fuzz: {faults} faults, not found: {missed:?}; a byte past an end: found {stopped}");
     missed.is_empty() && stopped
 }
 
@@ -128,6 +131,7 @@ fn main() {
         "before" => (for_tests, Memory::of(Side::Before, LENGTHS[0])),
         "heap" => (for_tests, Memory::of(Side::Heap, LENGTHS[0])),
         "past-the-end" => (past_the_end, Memory::of(Side::Behind, LENGTHS[0])),
+        "alerts" => std::process::exit(i32::from(!feed_alerts::run(seed, most))),
         "faults" => std::process::exit(i32::from(!faults_found(seed, most))),
         _ => panic!("another side"),
     };

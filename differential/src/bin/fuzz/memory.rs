@@ -16,14 +16,14 @@ pub enum Side {
 }
 
 /// Room for one slice.
-struct Region {
+pub struct Region {
     side: Side,
     start: *mut u8,
     room: usize,
 }
 
 impl Region {
-    fn of(side: Side, most: usize) -> Self {
+    pub fn of(side: Side, most: usize) -> Self {
         if side == Side::Heap {
             return Region { side, start: std::ptr::null_mut(), room: 0 };
         }
@@ -32,7 +32,7 @@ impl Region {
     }
 
     /// So many elements of so many bytes.
-    fn lend(&mut self, width: usize, length: usize) -> Slice {
+    pub fn lend(&mut self, width: usize, length: usize) -> Slice {
         let bytes = width * length;
         let start = match self.side {
             Side::Behind => unsafe { self.start.add(self.room - bytes) },
@@ -68,7 +68,7 @@ pub struct Memory {
 }
 
 /// How long feed ids and inputs are at most.
-const INPUT: usize = LONGEST_INPUT + 1;
+pub const INPUT: usize = LONGEST_INPUT + 1;
 
 impl Memory {
     /// For overlays of at most so many bytes.

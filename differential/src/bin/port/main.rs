@@ -3,7 +3,9 @@
 mod alerts;
 mod big;
 mod damaged;
+mod ends;
 mod faults;
+mod feed_alerts;
 mod fields;
 mod guards;
 mod lists;
@@ -29,7 +31,9 @@ fn main() {
     let lists = words.next().map_or(LISTS, |lists| lists as usize);
     let pairs = words.next().map_or(PAIRS, |pairs| pairs as usize);
     let calls = words.next().map_or(CALLS, |calls| calls as usize);
-    let inputs = fields::run(seed) + guards::run() + trips::run(seed) + alerts::run(seed, pairs);
+    let forms = fields::run(seed) + ends::run(seed);
+    let messages = trips::run(seed) + feed_alerts::run(seed);
+    let inputs = forms + guards::run() + messages + alerts::run(seed, pairs);
     let differ = inputs + damaged::run(seed, overlays) + lists::run(seed, lists, calls);
     std::process::exit(i32::from(differ > 0));
 }

@@ -1,7 +1,8 @@
 //! The comparison's own test: what the original gives in small cases beside what document 01 says, each
-//! question at its bound and one past it, the forms read and written back, the largest overlay, and random
-//! messages and lists of calls.
+//! question at its bound and one past it, the forms read and written back, the largest overlay, alerts straight from
+//! messages, and random messages and lists of calls.
 mod at_random;
+mod feed_alerts;
 mod largest;
 mod questions;
 mod round_trips;
@@ -34,6 +35,7 @@ fn main() {
     questions::run(&mut tally);
     round_trips::run(&mut tally);
     largest::run(&mut tally);
+    feed_alerts::run(&mut tally);
     at_random::run(&mut tally);
     println!("differential: {} cases agree, {} differ", tally.agree, tally.differ);
     std::process::exit(i32::from(tally.differ > 0));
