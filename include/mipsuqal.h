@@ -1,6 +1,6 @@
 /* Mipsuqal: the live journey card. The calls of the proved library, for C11 and C++17.
  *
- * Each of the panel's six calls returns 0 (accepted) or the number of the first question that is answered by no (enum
+ * Each of the panel's seven calls returns 0 (accepted) or the number of the first question that is answered by no (enum
  * mipsuqal_refusal). A refused one leaves zeros in its output. Each leaves the old overlay as it was, and zeros in its
  * working buffers. A slice is two arguments: where it begins and how many elements it has. What is asked of memory:
  * each slice is valid for its length, one that is written overlaps no other, and words are aligned. Nothing else is
@@ -22,6 +22,7 @@ extern "C" {
 #define MIPSUQAL_OVERLAY 111398044   /* bytes: an overlay, old or new */
 #define MIPSUQAL_CARD 65536          /* bytes: a finished card; also the longest that may arrive */
 #define MIPSUQAL_REPORT 25           /* bytes: a report */
+#define MIPSUQAL_SHEET 1048576       /* bytes: the alert sheet of a message */
 #define MIPSUQAL_LONGEST_INPUT 1048576 /* bytes: the longest message or sheet */
 
 #define MIPSUQAL_KEYS 280713         /* bytes */
@@ -43,7 +44,7 @@ enum mipsuqal_refusal {
     MIPSUQAL_TEXT_LIMIT = 5,    /* a feed id, an id or a text is beyond its limits */
     MIPSUQAL_OUT_OF_RANGE = 6,  /* a time, the clock or a number is out of its range */
     MIPSUQAL_TOO_MANY = 7,      /* there would be too many feeds, trips, updates, vehicles, alerts, ids, legs .. */
-    MIPSUQAL_CARD_TOO_LONG = 8  /* the finished card would pass 65,536 bytes */
+    MIPSUQAL_CARD_TOO_LONG = 8  /* finished card or sheet too long: above 65,536 bytes, or 1,048,576 */
 };
 
 /* A card's status: the number behind departure, arrival and duration. */
@@ -54,6 +55,11 @@ enum mipsuqal_status {
     MIPSUQAL_DELAYED = 3,
     MIPSUQAL_CANCELLED = 4
 };
+
+/* A kind of form: what mipsuqal_end is asked about. */
+#define MIPSUQAL_KIND_CARD 0
+#define MIPSUQAL_KIND_ALERT_SHEET 1
+#define MIPSUQAL_KIND_VEHICLE_SHEET 2
 
 /* ---- the calls ---- */
 
@@ -84,9 +90,20 @@ uint32_t mipsuqal_card(const uint8_t *old_overlay, size_t old_length, const uint
 uint32_t mipsuqal_report(const uint8_t *old_overlay, size_t old_length, const uint8_t *feed, size_t feed_length,
                          uint8_t *out, size_t out_length);
 
+/* The alerts of a supplier's GTFS Realtime message, as an alert sheet of the feed in `out`, then zeros. No overlay is
+ * read or written: cut the sheet by mipsuqal_end, and mipsuqal_alert_sheet takes it. The first translation of a text
+ * counts; cause and periods are not read, and DIFFERENTIAL makes no difference. */
+uint32_t mipsuqal_feed_alerts(const uint8_t *feed, size_t feed_length, const uint8_t *message, size_t message_length,
+                              uint8_t *out, size_t out_length);
+
 /* The published lengths by number, in the order in which they stand above from 0 on, the longest input left out:
- * 0 overlay, 1 card, 2 report, 3 keys .. 9 known; 0 for any other number. */
+ * 0 overlay, 1 card, 2 report, 3 keys .. 9 known, 10 sheet; 0 for any other number. */
 size_t mipsuqal_length(uint32_t number);
+
+/* How many bytes the form has that stands in front of `bytes`, whatever follows: where to cut a card or a sheet before
+ * it is sent in again. 0 where none stands there, or the kind is another. Don't trim zeros in its place: a form may end
+ * with zeros of its own, as the alert sheet 01 00 does. */
+size_t mipsuqal_end(uint32_t kind, const uint8_t *bytes, size_t length);
 
 /* ---- one thing to declare: the working buffers ---- */
 
@@ -115,6 +132,18 @@ static inline uint32_t mipsuqal_take_alerts(const uint8_t *old_overlay, const ui
                                             const uint8_t *sheet, size_t sheet_length, uint8_t *new_overlay) {
     return mipsuqal_alert_sheet(old_overlay, MIPSUQAL_OVERLAY, feed, feed_length, sheet, sheet_length, new_overlay,
                                 MIPSUQAL_OVERLAY);
+}
+
+/* A message's alerts replace the feed's. `sheet` is lent, MIPSUQAL_SHEET bytes, and holds the sheet after a 0. Where
+ * the message itself is refused the new overlay isn't written. */
+static inline uint32_t mipsuqal_take_alert_message(const uint8_t *old_overlay, const uint8_t *feed, size_t feed_length,
+                                                   const uint8_t *message, size_t message_length,
+                                                   uint8_t *new_overlay, uint8_t *sheet) {
+    uint32_t refused = mipsuqal_feed_alerts(feed, feed_length, message, message_length, sheet, MIPSUQAL_SHEET);
+    if (refused != MIPSUQAL_ACCEPTED)
+        return refused;
+    return mipsuqal_take_alerts(old_overlay, feed, feed_length, sheet,
+                                mipsuqal_end(MIPSUQAL_KIND_ALERT_SHEET, sheet, MIPSUQAL_SHEET), new_overlay);
 }
 
 static inline uint32_t mipsuqal_take_vehicles(const uint8_t *old_overlay, const uint8_t *feed, size_t feed_length,

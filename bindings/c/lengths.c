@@ -11,6 +11,7 @@ int main(void) {
         MIPSUQAL_OVERLAY, MIPSUQAL_CARD, MIPSUQAL_REPORT,
         ELEMENTS(work.keys), ELEMENTS(work.marks), ELEMENTS(work.order),
         ELEMENTS(work.candidates), ELEMENTS(work.met), ELEMENTS(work.noted), ELEMENTS(work.known),
+        MIPSUQAL_SHEET,
         0,
     };
     int wrong = 0;

@@ -1,6 +1,8 @@
-/* A journey's card by a supplier's message: reads both from files and prints the card's head.
+/* A journey's card by a supplier's message, and by the alerts of another one: reads them from files and prints the
+ * card's head.
  *
- *   cc card.c $(pkg-config --cflags --libs mipsuqal) -o card && ./card north north-2.pb journey.card */
+ *   cc card.c $(pkg-config --cflags --libs mipsuqal) -o card && ./card north north-2.pb journey.card
+ *   ./card city city-1.pb journey.card city.alerts.pb */
 #include <mipsuqal.h>
 #include <stdio.h>
 #include <stdlib.h>
@@ -59,24 +61,32 @@ static void accept(const char *call, uint32_t refused) {
 
 int main(int count, char **words) {
     /* calloc: pages that no call writes cost no memory. */
-    uint8_t *old_overlay = calloc(MIPSUQAL_OVERLAY, 1), *new_overlay = calloc(MIPSUQAL_OVERLAY, 1);
-    static uint8_t input[MIPSUQAL_LONGEST_INPUT + 1], card[MIPSUQAL_CARD];
+    uint8_t *overlay[] = {calloc(MIPSUQAL_OVERLAY, 1), calloc(MIPSUQAL_OVERLAY, 1)};
+    static uint8_t input[MIPSUQAL_LONGEST_INPUT + 1], sheet[MIPSUQAL_SHEET], card[MIPSUQAL_CARD];
     static struct mipsuqal_work work;
+    const uint8_t *feed = (const uint8_t *)words[1];
     size_t length;
-    if (count != 4 || old_overlay == NULL || new_overlay == NULL) {
-        fprintf(stderr, "usage: card FEED MESSAGE CARD\n");
+    int counts = 0; /* which of the two overlays does */
+    if (count < 4 || count > 5 || overlay[0] == NULL || overlay[1] == NULL) {
+        fprintf(stderr, "usage: card FEED MESSAGE CARD [ALERTS]\n");
         return 64;
     }
-    accept("fresh", mipsuqal_fresh(old_overlay, MIPSUQAL_OVERLAY));
+    accept("fresh", mipsuqal_fresh(overlay[counts], MIPSUQAL_OVERLAY));
 
     length = bytes_of(words[2], input, sizeof input);
-    accept("message", mipsuqal_take_message(old_overlay, (const uint8_t *)words[1], strlen(words[1]), input, length,
-                                            new_overlay, &work));
-    /* Accepted: from here on the new overlay counts, and the next message would go into the old one. */
+    accept("message", mipsuqal_take_message(overlay[counts], feed, strlen(words[1]), input, length,
+                                            overlay[1 - counts], &work));
+    counts = 1 - counts; /* accepted: from here on the other one counts */
+    if (count == 5) {
+        length = bytes_of(words[4], input, sizeof input);
+        accept("alerts", mipsuqal_take_alert_message(overlay[counts], feed, strlen(words[1]), input, length,
+                                                     overlay[1 - counts], sheet));
+        counts = 1 - counts;
+    }
     length = bytes_of(words[3], input, sizeof input);
-    accept("card", mipsuqal_finish_card(new_overlay, input, length, card, &work));
+    accept("card", mipsuqal_finish_card(overlay[counts], input, length, card, &work));
     print_card(card);
-    free(old_overlay);
-    free(new_overlay);
+    free(overlay[0]);
+    free(overlay[1]);
     return 0;
 }

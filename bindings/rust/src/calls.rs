@@ -7,6 +7,8 @@ use crate::refusal::Refusal;
 pub const CARD: usize = 65_536;
 /// How long a report is.
 pub const REPORT: usize = 25;
+/// How long the buffer is that a message's alerts are written into as a sheet.
+pub const SHEET: usize = 1_048_576;
 
 /// The working buffers. Their contents don't matter before a call; every call leaves zeros.
 pub(crate) struct Work {
@@ -133,9 +135,59 @@ pub(crate) fn report(old: &Overlay, feed: &str, out: &mut [u8; REPORT]) -> Resul
     })
 }
 
+/// The alerts of a supplier's GTFS Realtime message, as an alert sheet of the feed in document 01's bytes. No overlay
+/// is read or written: [`crate::Panel::alert_sheet_bytes`] takes the sheet, and [`crate::Panel::alert_message`] does
+/// both.
+///
+/// ```
+/// use mipsuqal::{feed_alerts, AlertSheet, Form};
+/// # let data = concat!(env!("CARGO_MANIFEST_DIR"), "/../../crates/ride/data");
+/// # let message = std::fs::read(format!("{data}/city.alerts.pb")).unwrap();
+/// let sheet = AlertSheet::decode(&feed_alerts("city", &message)?)?;
+/// assert_eq!(sheet.alerts[0].header.as_deref(), Some("Line B: slow through Chatelet"));
+/// assert_eq!(sheet.alerts[0].routes, ["city:B"]);
+/// assert_eq!(feed_alerts("city", &[])?, [1, 0]); // no alerts; the zero is the sheet's own
+/// # Ok::<(), Box<dyn std::error::Error>>(())
+/// ```
+pub fn feed_alerts(feed: &str, message: &[u8]) -> Result<Vec<u8>, Refusal> {
+    let mut out = vec![0; SHEET];
+    answer(unsafe {
+        raw::mipsuqal_feed_alerts(
+            feed.as_ptr(),
+            feed.len(),
+            message.as_ptr(),
+            message.len(),
+            out.as_mut_ptr(),
+            out.len(),
+        )
+    })?;
+    out.truncate(end(Kind::AlertSheet, &out));
+    Ok(out)
+}
+
 /// The lengths that the library publishes, in the order of their numbers, up to the first number without one.
 pub fn published_lengths() -> Vec<usize> {
     (0..).map(|number| unsafe { raw::mipsuqal_length(number) }).take_while(|length| *length > 0).collect()
+}
+
+/// A kind of form that a caller cuts: see [`end`].
+#[derive(Clone, Copy, Debug, PartialEq, Eq)]
+pub enum Kind {
+    Card = 0,
+    AlertSheet = 1,
+    VehicleSheet = 2,
+}
+
+/// How many bytes the form has that stands in front, whatever follows; 0 where none stands there.
+///
+/// ```
+/// use mipsuqal::{end, Kind};
+/// let sheet = [1, 0, 0, 0]; // no alerts, and zeros behind: the first zero is the sheet's own
+/// assert_eq!(sheet[..end(Kind::AlertSheet, &sheet)], [1, 0]);
+/// assert_eq!(end(Kind::AlertSheet, &[1]), 0);
+/// ```
+pub fn end(kind: Kind, bytes: &[u8]) -> usize {
+    unsafe { raw::mipsuqal_end(kind as u32, bytes.as_ptr(), bytes.len()) }
 }
 
 #[cfg(test)]
@@ -150,7 +202,7 @@ mod tests {
     #[test]
     fn buffers_are_as_long_as_the_library_publishes() {
         let work = crate::overlay::zeroed::<Work>();
-        let ours = [[Overlay::LENGTH, CARD, REPORT].as_slice(), &lengths(&work)].concat();
+        let ours = [[Overlay::LENGTH, CARD, REPORT].as_slice(), &lengths(&work), &[SHEET]].concat();
         assert_eq!(published_lengths(), ours);
     }
 }

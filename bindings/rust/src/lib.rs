@@ -18,7 +18,7 @@ mod state;
 mod tree;
 mod words;
 
-pub use calls::{published_lengths, CARD, REPORT};
+pub use calls::{end, feed_alerts, published_lengths, Kind, CARD, REPORT, SHEET};
 pub use card::{Card, Leg, MiddleStop, Status, Transit, Walk};
 pub use form::{Form, FormError, Reader};
 pub use overlay::{InMemory, Overlay, Overlays};

@@ -1,5 +1,5 @@
 //! A panel: two overlays that take turns, and the calls on them.
-use crate::calls::{self, Work, REPORT};
+use crate::calls::{self, Kind, Work, REPORT};
 use crate::card::Card;
 use crate::form::{Form, FormError};
 use crate::overlay::{zeroed, InMemory, Overlays};
@@ -106,6 +106,23 @@ impl<O: Overlays> Panel<O> {
         Ok(())
     }
 
+    /// The alerts of a supplier's GTFS Realtime message replace the feed's: [`crate::feed_alerts`], and its sheet
+    /// sent in.
+    ///
+    /// ```
+    /// use mipsuqal::{Card, Form, Panel, Status};
+    /// # let data = concat!(env!("CARGO_MANIFEST_DIR"), "/../../crates/ride/data");
+    /// # let file = |name: &str| std::fs::read(format!("{data}/{name}")).unwrap();
+    /// let mut panel = Panel::new();
+    /// panel.alert_message("city", &file("city.alerts.pb"))?;
+    /// let card = panel.card(&Card::decode(&file("journey.card"))?)?;
+    /// assert_eq!((card.status, card.headers[0].as_str()), (Status::Disrupted, "Line B: slow through Chatelet"));
+    /// # Ok::<(), Box<dyn std::error::Error>>(())
+    /// ```
+    pub fn alert_message(&mut self, feed: &str, message: &[u8]) -> Result<(), Refusal> {
+        self.alert_sheet_bytes(feed, &calls::feed_alerts(feed, message)?)
+    }
+
     /// A vehicle sheet goes over the feed's vehicles; those updated before `clock` - 900 go. The clock is in seconds
     /// since 1970 UTC.
     pub fn vehicle_sheet(&mut self, feed: &str, sheet: &VehicleSheet, clock: i64) -> Result<(), Refusal> {
@@ -122,19 +139,20 @@ impl<O: Overlays> Panel<O> {
 
     /// The card finished by what the suppliers said.
     pub fn card(&mut self, card: &Card) -> Result<Card, Refusal> {
-        Ok(self.finished(&card.encode())?.0)
+        let finished = self.finished(&card.encode())?;
+        Ok(Card::decode(finished).expect("a finished card has its form"))
     }
 
     /// The same in document 01's bytes, without the zeros behind.
     pub fn card_bytes(&mut self, card: &[u8]) -> Result<Vec<u8>, Refusal> {
-        let length = self.finished(card)?.1;
-        Ok(self.work.card[..length].to_vec())
+        self.finished(card).map(<[u8]>::to_vec)
     }
 
-    /// The finished card, and its length.
-    fn finished(&mut self, card: &[u8]) -> Result<(Card, usize), Refusal> {
+    /// The finished card's bytes, cut at its end.
+    fn finished(&mut self, card: &[u8]) -> Result<&[u8], Refusal> {
         calls::card(self.overlays.current(), card, &mut self.work)?;
-        Ok(Card::decode_front(&self.work.card).expect("a finished card has its form"))
+        let end = calls::end(Kind::Card, &self.work.card);
+        Ok(&self.work.card[..end])
     }
 
     /// What there is of a feed.

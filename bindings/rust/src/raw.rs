@@ -62,5 +62,14 @@ extern "C" {
         out: *mut u8,
         out_length: usize,
     ) -> u32;
+    pub fn mipsuqal_feed_alerts(
+        feed: *const u8,
+        feed_length: usize,
+        message: *const u8,
+        message_length: usize,
+        out: *mut u8,
+        out_length: usize,
+    ) -> u32;
     pub fn mipsuqal_length(number: u32) -> usize;
+    pub fn mipsuqal_end(kind: u32, bytes: *const u8, length: usize) -> usize;
 }

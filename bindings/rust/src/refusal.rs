@@ -47,7 +47,9 @@ impl Refusal {
             TooMany => {
                 "there would be too many of something: feeds, trips, updates, vehicles, alerts, ids, legs"
             }
-            CardTooLong => "the finished card would pass 65,536 bytes",
+            CardTooLong => {
+                "the finished card or sheet is too long: a card may have 65,536 bytes, a sheet 1,048,576"
+            }
         }
     }
 
@@ -61,7 +63,9 @@ impl Refusal {
             TextLimit => "check the feed id (1 to 16 bytes of 33 to 126, no ':'); else tell the supplier",
             OutOfRange => "check the clock; else tell the supplier: a time is not in seconds since 1970",
             TooMany => "give each supplier one feed id, at most four; else ask it for a smaller region",
-            CardTooLong => "have the planner send shorter payloads or fewer legs",
+            CardTooLong => {
+                "have the planner send shorter payloads or fewer legs; of a sheet, the supplier fewer alerts"
+            }
         }
     }
 }

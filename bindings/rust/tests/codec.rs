@@ -1,7 +1,7 @@
 //! The forms: what is written reads back, in bytes and as a tree; damaged bytes are never read as something else.
 use mipsuqal::{
-    Alert, AlertSheet, Card, Form, FormError, Leg, MiddleStop, Report, Status, Transit, Tree, Vehicle,
-    VehicleSheet, Walk,
+    end, Alert, AlertSheet, Card, Form, FormError, Kind, Leg, MiddleStop, Report, Status, Transit, Tree,
+    Vehicle, VehicleSheet, Walk,
 };
 use std::fmt::Debug;
 
@@ -123,12 +123,17 @@ fn vehicle_sheet(c: &mut Chance) -> VehicleSheet {
     VehicleSheet { vehicles: c.list(vehicle) }
 }
 
-/// Whole bytes read back to the value; cut ones are not read; and the one value has the one writing.
-fn round_trip<T: Form + Debug + PartialEq>(value: &T, c: &mut Chance) {
+/// Whole bytes read back to the value, and end where the library says, whatever is behind; cut ones are not read; and
+/// the one value has the one writing.
+fn round_trip<T: Form + Debug + PartialEq>(kind: Kind, value: &T, c: &mut Chance) {
     let bytes = value.encode();
     assert_eq!(T::decode(&bytes).as_ref(), Ok(value));
     assert_eq!(T::of_tree(&value.tree()).as_ref(), Ok(value));
-    assert!(T::decode(&bytes[..c.below(bytes.len() as u64) as usize]).is_err(), "cut off");
+    assert_eq!(end(kind, &[bytes.as_slice(), &[0; 7]].concat()), bytes.len());
+    assert_eq!(end(kind, &[bytes.as_slice(), &c.bytes()].concat()), bytes.len());
+    let cut = &bytes[..c.below(bytes.len() as u64) as usize];
+    assert!(T::decode(cut).is_err(), "cut off");
+    assert_eq!(end(kind, cut), 0);
     let mut damaged = bytes.clone();
     damaged[c.below(bytes.len() as u64) as usize] ^= 1 << c.below(8);
     if let Ok(read) = T::decode(&damaged) {
@@ -140,9 +145,9 @@ fn round_trip<T: Form + Debug + PartialEq>(value: &T, c: &mut Chance) {
 fn what_is_written_reads_back() {
     let mut c = Chance(1);
     for _ in 0..2_000 {
-        round_trip(&card(&mut c), &mut c);
-        round_trip(&alert_sheet(&mut c), &mut c);
-        round_trip(&vehicle_sheet(&mut c), &mut c);
+        round_trip(Kind::Card, &card(&mut c), &mut c);
+        round_trip(Kind::AlertSheet, &alert_sheet(&mut c), &mut c);
+        round_trip(Kind::VehicleSheet, &vehicle_sheet(&mut c), &mut c);
     }
 }
 

@@ -1,6 +1,9 @@
 //! The ride's morning played on the wrapper: every card and every raw record in the words that the proved program
 //! `ride` prints (crates/ride/stdout).
-use mipsuqal::{AlertSheet, Card, Form, Overlay, Overlays, Panel, Refusal, Status, Transit, VehicleSheet};
+use mipsuqal::{
+    feed_alerts, Alert, AlertSheet, Card, Form, Overlay, Overlays, Panel, Refusal, Status, Transit,
+    VehicleSheet,
+};
 use std::fmt::Write;
 use std::fs;
 
@@ -75,6 +78,44 @@ fn a_refused_call_changes_nothing() {
         panel.alert_sheet_bytes(feed, &[1, 0]).unwrap();
     }
     assert_eq!(panel.alert_sheet_bytes("d", &[1, 0]), Err(Refusal::TooMany));
+}
+
+/// The message has the sheet's alerts, but for the feed's prefix, which ids in a message get.
+#[test]
+fn alerts_straight_from_a_message() {
+    let message = file("city.alerts.pb");
+    let mut sheet = AlertSheet::decode(&file("city.alerts")).unwrap();
+    let routes = sheet.alerts.iter_mut().flat_map(|alert: &mut Alert| &mut alert.routes);
+    routes.for_each(|route| *route = format!("city:{route}"));
+    assert_eq!(feed_alerts("city", &message).unwrap(), sheet.encode());
+    assert_eq!(feed_alerts("city", &[]).unwrap(), [1, 0], "no alerts: the last zero is the sheet's own");
+    let mut panel = Panel::new();
+    panel.alert_message("city", &message).unwrap();
+    assert_eq!(panel.state().unwrap().feeds[0].alerts, sheet.alerts);
+    let journey = Card::decode(&file("journey.card")).unwrap();
+    let card = panel.card(&journey).unwrap();
+    assert_eq!(
+        (card.status, &card.headers[..]),
+        (Status::Disrupted, &[sheet.alerts[0].header.clone().unwrap()][..])
+    );
+    panel.message("city", &message).unwrap();
+    assert!(panel.state().unwrap().feeds[0].trips.is_empty(), "the trip call skips alerts");
+    panel.alert_message("city", &file("city-1.pb")).unwrap();
+    assert!(panel.state().unwrap().feeds[0].alerts.is_empty(), "trips are no alerts");
+}
+
+#[test]
+fn a_refused_message_changes_no_alert() {
+    let message = file("city.alerts.pb");
+    let mut panel = Panel::new();
+    panel.alert_message("city", &message).unwrap();
+    let before = panel.state().unwrap();
+    assert_eq!(panel.alert_message("city", &message[..message.len() - 1]), Err(Refusal::BrokenForm));
+    assert_eq!(panel.alert_message("a city", &message), Err(Refusal::TextLimit));
+    assert_eq!(panel.alert_message("city", &vec![0; 1_048_577]), Err(Refusal::TooLong));
+    assert_eq!(panel.alert_message("city", &[0x12, 2, 0x2a, 0].repeat(257)), Err(Refusal::TooMany));
+    assert_eq!(panel.state().unwrap(), before);
+    panel.alert_message("city", &[0x12, 2, 0x2a, 0].repeat(256)).unwrap();
 }
 
 #[test]

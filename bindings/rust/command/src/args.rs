@@ -9,6 +9,7 @@ usage: mipsuqal [--state DIRECTORY] [--json] COMMAND
 
   message FEED FILE              take a supplier's GTFS Realtime message
   alerts FEED FILE               take an alert sheet: it replaces the feed's alerts
+  alerts-message FEED FILE       the same with the alerts of a GTFS Realtime message
   vehicles FEED FILE --clock T   take vehicles' places; T in seconds since 1970 UTC
   card FILE [--bytes]            finish a journey's card by what was accepted
   report FEED                    version, number of trips, header timestamp
@@ -29,6 +30,7 @@ pub enum Call {
     Help,
     Message { feed: String, file: PathBuf },
     Alerts { feed: String, file: PathBuf },
+    AlertsMessage { feed: String, file: PathBuf },
     Vehicles { feed: String, file: PathBuf, clock: i64 },
     Card { file: PathBuf },
     Report { feed: String },
@@ -90,6 +92,7 @@ fn call(words: &[&str], clock: Option<i64>) -> Result<Call, Fault> {
         [] | ["help", ..] => Call::Help,
         ["message", id, file] => Call::Message { feed: feed(id), file: file.into() },
         ["alerts", id, file] => Call::Alerts { feed: feed(id), file: file.into() },
+        ["alerts-message", id, file] => Call::AlertsMessage { feed: feed(id), file: file.into() },
         ["vehicles", id, file] => {
             let Some(clock) = clock else { return usage("vehicles wants --clock T") };
             Call::Vehicles { feed: feed(id), file: file.into(), clock }

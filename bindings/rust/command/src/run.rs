@@ -18,6 +18,10 @@ pub fn run(asked: &Asked) -> Result<(), Fault> {
             let sheet = input::form::<AlertSheet>(file)?;
             take(asked, "alerts", feed, |panel| panel.alert_sheet_bytes(feed, &sheet))
         }
+        Call::AlertsMessage { feed, file } => {
+            let message = input::file(file)?;
+            take(asked, "alerts-message", feed, |panel| panel.alert_message(feed, &message))
+        }
         Call::Vehicles { feed, file, clock } => {
             let sheet = input::form::<VehicleSheet>(file)?;
             take(asked, "vehicles", feed, |panel| panel.vehicle_sheet_bytes(feed, &sheet, *clock))

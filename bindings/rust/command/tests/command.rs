@@ -45,6 +45,30 @@ fn a_morning() {
 }
 
 #[test]
+fn alerts_straight_from_a_message() {
+    let at = Scratch::new("alerts");
+    let message = morning("city.alerts.pb");
+    assert_eq!(at.said(&["alerts-message", "city", &message]), "accepted\n");
+    let words = at.said(&["card", &morning("journey.card")]);
+    assert!(words.starts_with("  [ DISRUPTED ]") && words.contains("! Line B: slow"), "{words}");
+    let cut = at.write("cut.pb", &fs::read(&message).unwrap()[1..]);
+    let many = at.write("many.pb", &[0x12, 2, 0x2a, 0].repeat(257));
+    for (number, feed, file) in [(4, "city", &cut), (5, "a:b", &message), (7, "city", &many)] {
+        let (status, said) = at.failed(&["alerts-message", feed, file]);
+        let told = format!("alerts-message {feed}: refused by question {number}");
+        assert!(status == number && said.contains(&told), "{said}");
+    }
+    assert_eq!(at.said(&["card", &morning("journey.card")]), words, "a refusal changes nothing");
+    assert_eq!(at.failed(&["alerts-message", "city", "nowhere.pb"]).0, 66);
+    assert!(at.said(&["explain", "8"]).contains("a sheet 1,048,576"));
+    at.said(&["alerts-message", "city", &morning("city-1.pb")]);
+    assert!(
+        at.said(&["card", &morning("journey.card")]).starts_with("  [ SCHEDULED ]"),
+        "no alerts any more"
+    );
+}
+
+#[test]
 fn cards_and_sheets_in_either_form() {
     let at = Scratch::new("forms");
     ride(&at);

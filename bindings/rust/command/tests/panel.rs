@@ -120,6 +120,19 @@ fn a_ride() {
 }
 
 #[test]
+fn notices_straight_from_a_message() {
+    let ride = Ride::start("notices");
+    ride.comes("journey.card", "journey.card");
+    ride.sees("[ SCHEDULED ]");
+    ride.comes("city.alerts.pb", "city.alerts.pb");
+    ride.sees("[ DISRUPTED ]");
+    ride.comes("north-3.pb", "city-2.alerts.pb");
+    ride.sees("OLD: city-2.alerts.pb refused by question 4");
+    ride.comes("city.alerts", "city-3.alerts");
+    assert!(!ride.sees("│   [ DISRUPTED ]").contains("OLD"), "a sheet is news of alerts as a message is");
+}
+
+#[test]
 fn a_refusal_makes_the_card_old() {
     let ride = Ride::start("old");
     ride.comes("journey.card", "journey.card");

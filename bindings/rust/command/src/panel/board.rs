@@ -30,7 +30,7 @@ impl Board {
     /// Takes what has come, and finishes the card anew.
     pub fn take(&mut self, arrivals: &[Arrival], clock: i64) -> Result<(), Fault> {
         for arrival in arrivals {
-            let key = (arrival.feed.clone(), arrival.kind);
+            let key = (arrival.feed.clone(), arrival.kind.news());
             match self.take_one(arrival, clock)? {
                 Ok(()) => self.untaken.remove(&key),
                 Err(why) => self.untaken.insert(key, why),
@@ -58,6 +58,7 @@ impl Board {
         let Arrival { kind, feed, path, .. } = arrival;
         Ok(match kind {
             Kind::Message => self.panel.message(feed, &input::file(path)?),
+            Kind::AlertMessage => self.panel.alert_message(feed, &input::file(path)?),
             Kind::Alerts => self.panel.alert_sheet_bytes(feed, &input::form::<AlertSheet>(path)?),
             Kind::Vehicles => {
                 self.panel.vehicle_sheet_bytes(feed, &input::form::<VehicleSheet>(path)?, clock)

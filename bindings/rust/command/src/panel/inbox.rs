@@ -1,6 +1,7 @@
-//! The directory that a panel is fed from: FEED-1.pb is a message, FEED.alerts and FEED.vehicles are sheets, and what
-//! ends in .card is the journey; sheets and cards may be JSON, with .json behind. A number behind '-' is not the
-//! feed's. Who writes files there writes them under another name and renames them.
+//! The directory that a panel is fed from: FEED-1.pb is a message, FEED.alerts.pb one whose alerts are wanted,
+//! FEED.alerts and FEED.vehicles are sheets, and what ends in .card is the journey; sheets and cards may be JSON,
+//! with .json behind. A number behind '-' is not the feed's. Who writes files there writes them under another name
+//! and renames them.
 use crate::fault::Fault;
 use std::collections::HashMap;
 use std::fs;
@@ -11,9 +12,20 @@ use std::time::SystemTime;
 #[derive(Clone, Copy, Debug, PartialEq, Eq, PartialOrd, Ord)]
 pub enum Kind {
     Message,
+    AlertMessage,
     Alerts,
     Vehicles,
     Journey,
+}
+
+impl Kind {
+    /// What it is news of: alerts come as a sheet or in a message, and the later one counts.
+    pub fn news(self) -> Kind {
+        match self {
+            Kind::AlertMessage => Kind::Alerts,
+            kind => kind,
+        }
+    }
 }
 
 #[derive(Clone, Debug, PartialEq)]
@@ -37,7 +49,11 @@ pub struct Inbox {
 fn arrival(path: &Path) -> Option<Arrival> {
     let name = path.file_name()?.to_str()?;
     let (stem, kind) = match name.strip_suffix(".json").unwrap_or(name).rsplit_once('.')? {
-        (stem, "pb") if !name.ends_with(".json") => (stem, Kind::Message),
+        (_, "pb") if name.ends_with(".json") => return None,
+        (stem, "pb") => match stem.strip_suffix(".alerts") {
+            Some(stem) => (stem, Kind::AlertMessage),
+            None => (stem, Kind::Message),
+        },
         (stem, "alerts") => (stem, Kind::Alerts),
         (stem, "vehicles") => (stem, Kind::Vehicles),
         (stem, "card") => (stem, Kind::Journey),
@@ -88,9 +104,13 @@ mod tests {
         assert_eq!(named("in/north-1.pb"), Some((Kind::Message, "north".into())));
         assert_eq!(named("west-coast-12.pb"), Some((Kind::Message, "west-coast".into())));
         assert_eq!(named("west-coast.alerts"), Some((Kind::Alerts, "west-coast".into())));
+        assert_eq!(named("city.alerts.pb"), Some((Kind::AlertMessage, "city".into())));
+        assert_eq!(named("west-coast-2.alerts.pb"), Some((Kind::AlertMessage, "west-coast".into())));
         assert_eq!(named("city.vehicles.json"), Some((Kind::Vehicles, "city".into())));
         assert_eq!(named("journey.card"), Some((Kind::Journey, "journey".into())));
-        for name in ["north-1.pb.part", "north-1.pb.json", ".hidden.pb", "notes.txt", "pb"] {
+        let none =
+            ["north-1.pb.part", "north-1.pb.json", "a.alerts.pb.json", ".hidden.pb", "notes.txt", "pb"];
+        for name in none {
             assert_eq!(named(name), None, "{name}");
         }
     }
