@@ -28,7 +28,7 @@ use Rattle.panel.specs.Questions.{Lengths, noWork}
 use Rattle.panel.specs.Calls.{Call, fresh, message, alertSheet, vehicleSheet, card, report, Gave, gives, run}
 
 abbrev lengths : ℕ → ℕ → Lengths
-lengths n m = record { overlay = n; card = m; work = noWork }
+lengths n m = record { overlay = n; card = m; sheet = 0; work = noWork }
 
 abbrev givenOn : List ℕ → ℕ → ℕ → List Call → List (ℕ × List ℕ)
 givenOn old n m calls = map (λ (g : Gave). (g .number, g .out)) (run (lengths n m) old calls)

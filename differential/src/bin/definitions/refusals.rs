@@ -29,6 +29,7 @@ abbrev lengths : ℕ → ℕ → Lengths
 lengths n m = record {
   overlay = n;
   card = m;
+  sheet = 0;
   work = record {
     message = 4 ∷ 2 ∷ [];
     alertSheet = 3 ∷ [];
