@@ -13,6 +13,7 @@ use lib.Seq.{drop-cons}
 use lib.Dec.{eqb}
 use borrow.Author.Tests.{le-leb, lt-leb, eqb-true, ne-eqb}
 use Rattle.formats.specs.Class.{Range, utf8Rows, due, next, goesOn, sequences}
+use Rattle.basics.specs.laws.Booleans.{and-true}
 use Rattle.formats_text.specs.promises.Due.{ranges, dueOf}
 use Rattle.formats_text.specs.declared.Due.{Due}
 use Rattle.formats_text.specs.declared.Due.the-variants.{Bytes, Wrong}
@@ -30,17 +31,13 @@ same none (some t) = false
 same (some s) none = false
 same (some s) (some t) = alike s t
 
-parts : (x y : Bool) → (x && y) ≡ true → (x ≡ true) × (y ≡ true)
-parts true y e = (refl, e)
-parts false y e = absurd (let z : _≡_ {A = ℕ} 0 1 = cc in omega arith)
-
 alike-is : (s t : List Range) → alike s t ≡ true → s ≡ t
 alike-is [] [] e = refl
 alike-is [] (q ∷ t) e = cc
 alike-is (p ∷ s) [] e = cc
 alike-is (p ∷ s) (q ∷ t) e =
-    let (a, f) = parts (eqb (p .0) (q .0)) _ e in
-    let (b, g) = parts (eqb (p .1) (q .1)) _ f in
+    let (a, f) = and-true {x = eqb (p .0) (q .0)} e in
+    let (b, g) = and-true {x = eqb (p .1) (q .1)} f in
     ap {B = List Range} (λ r. r ∷ s)
     (ap {B = Range} (λ n. (n, p .1)) (eqb-true (p .0) (q .0) a)
     ∙ ap {B = Range} (λ n. (q .0, n)) (eqb-true (p .1) (q .1) b))
@@ -60,7 +57,7 @@ each x lo (suc n) = same x (due utf8Rows (lo + n)) && each x lo n
 each-is : (x : Option (List Range)) (lo n b : ℕ) → each x lo n ≡ true → lo ≤ b → b < lo + n → x ≡ due utf8Rows b
 each-is x lo zero b e l h = absurd (omega arith)
 each-is x lo (suc n) b e l h =
-    let (f, g) = parts (same x (due utf8Rows (lo + n))) _ e in
+    let (f, g) = and-true {x = same x (due utf8Rows (lo + n))} e in
     let m : b ≤ lo + n = omega arith in
     ⊎-elim (λ i. rw i (same-is x (due utf8Rows (lo + n)) f)) (λ j. each-is x lo n b g l j) (eq-or-lt-of-le m)
 

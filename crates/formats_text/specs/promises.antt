@@ -1,2 +1,2 @@
 pub mod Due
-pub mod Printable
+pub mod Span

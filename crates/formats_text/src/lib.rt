@@ -7,7 +7,7 @@ ghost use Rattle.formats.specs.Class.{printable, token, allowed, due, utf8Rows,
 ghost use Rattle.basics.specs.Lists.{all};
 ghost use Rattle.formats.specs.promises.Outcome.{classOf};
 ghost use Rattle.formats_text.specs.promises.Due.{ranges, dueOf};
-ghost use Rattle.formats_text.specs.promises.Printable.{span};
+ghost use Rattle.formats_text.specs.promises.Span.{span, ascii, plain};
 
 // What is due in a text of UTF-8: so many bytes, the first of them from one to another; or what came is wrong.
 pub enum Due {
@@ -68,6 +68,37 @@ fn step(more: u64, lo: u8, hi: u8, b: u8) -> Due
     Due::Bytes(more - 1, 0x80, 0xBF)
 }
 
+// Whether each of the eight bytes from `i` on is a character by itself. `&`, and no `&&`, so that the compiler makes
+// one comparison of them.
+fn are_ascii(v: &[u8], i: usize) -> bool
+    requires { ⌜ i + 8 ≤ length (now v) ⌝ }
+    ensures { λ r. ⌜ r ≡ span ascii 8 (now (v .entry)) i ⌝ }
+{
+    (v[i] < 128)
+        & (v[i + 1] < 128)
+        & (v[i + 2] < 128)
+        & (v[i + 3] < 128)
+        & (v[i + 4] < 128)
+        & (v[i + 5] < 128)
+        & (v[i + 6] < 128)
+        & (v[i + 7] < 128)
+}
+
+// Whether the next eight bytes can be passed at once, where `more` bytes are due.
+fn is_plain(v: &[u8], i: usize, more: u64) -> bool
+    requires { ⌜ i ≤ length (now v) ⌝ }
+    ensures { λ r. ⌜ r ≡ plain (now (v .entry)) i more ⌝ }
+{
+    if more != 0 {
+        return false;
+    }
+    if v.len() - i < 8 {
+        return false;
+    }
+    are_ascii(v, i)
+}
+
+// Most texts are plain for long stretches: those are passed eight bytes at a time.
 fn utf8(v: &[u8]) -> bool
     ensures { λ r. ⌜ r ≡ sequences (now (v .entry)) [] ⌝ }
 {
@@ -76,21 +107,25 @@ fn utf8(v: &[u8]) -> bool
     let mut hi = 0xBF;
     let mut i = 0;
     while i < v.len() {
-        let Due::Bytes(k, l, h) = step(more, lo, hi, v[i]) else {
-            return false;
-        };
-        more = k;
-        lo = l;
-        hi = h;
-        i += 1;
+        if is_plain(v, i, more) {
+            i += 8;
+        } else {
+            let Due::Bytes(k, l, h) = step(more, lo, hi, v[i]) else {
+                return false;
+            };
+            more = k;
+            lo = l;
+            hi = h;
+            i += 1;
+        }
     }
     more == 0
 }
 
-// Eight bytes at a time: `&`, and no `&&`, so that the compiler makes one comparison of them.
+// Whether the eight bytes from `i` on are printable, with `&` as in `are_ascii`.
 fn eight(v: &[u8], i: usize) -> bool
     requires { ⌜ i + 8 ≤ length (now v) ⌝ }
-    ensures { λ r. ⌜ r ≡ span 8 (now (v .entry)) i ⌝ }
+    ensures { λ r. ⌜ r ≡ span (allowed printable) 8 (now (v .entry)) i ⌝ }
 {
     ((32 <= v[i]) & (v[i] <= 126))
         & ((32 <= v[i + 1]) & (v[i + 1] <= 126))

@@ -8,6 +8,7 @@ use borrow.Author.Needs.{needs}
 use Rattle.formats.specs.Class.{sequences}
 use Rattle.formats_text.specs.promises.Due.{ranges}
 use Rattle.formats_text.proofs.Leads.{walk-end, walk-wrong, walk-on}
+use Rattle.formats_text.proofs.Spans.{plain-inside, plain-on}
 use Rattle.formats_text.proofs.utf8.Statement.{statement}
 use Rattle.formats_text.proofs.utf8.Tie as tie
 
@@ -24,6 +25,10 @@ utf8-spec =
     Inv-loop
     μ-loop
     (λ c. (omega arith, refl))
+    (λ c κs. search needs)
+    (λ c. omega arith)
+    (λ c. omega arith)
+    (λ c. (search plain-inside, search plain-on))
     (λ c. search needs)
     (λ c κs. search needs)
     (λ c. search needs)
