@@ -91,6 +91,12 @@ module _ {σ : Schema} {t : ℕ} {s : List ℕ} {from : ℕ} where
         typed = tt;
       }
 
+-- behind a key of wire type 0 a varint is the value
+pub number-value : (s : List ℕ) (number w next m after : ℕ) → w ≡ 0 → ReadAt varint s next m after
+    → ReadAt (value 16 (record { number = number; wire = w })) s next (VARINT m) after
+number-value s number w next m after e N =
+    record { same = rw (e, value-0 16 number (drop next s), N .same); inside = N .inside }
+
 -- the loop stands at `at`, where a key was read
 pub record Here (σ : Schema) (t : ℕ) (s : List ℕ) (from n w next : ℕ) : Type 0 where
   pub at : ℕ
@@ -112,7 +118,7 @@ module _ {σ : Schema} {t : ℕ} {s : List ℕ} {from n w next : ℕ} (H : Here 
         typed = tt;
       }
 
-  turn : (v : Value) (after : ℕ) → ReadAt (value 16 k) s next v after
+  pub turn : (v : Value) (after : ℕ) → ReadAt (value 16 (record { number = n; wire = w })) s next v after
       → tree σ t (drop from s) ≡ addField (tree σ) (σ t n) (record { number = n; value = v }) (tree σ t (drop after s))
   turn v after Q =
       H .inv ∙ tree-step σ t (drop (H .at) s) _ (drop after s) (field-read s (H .at) 16 k next v after (H .keyed) Q)
@@ -121,7 +127,7 @@ module _ {σ : Schema} {t : ℕ} {s : List ℕ} {from n w next : ℕ} (H : Here 
       → length s - after < length s - H .at
   less v after Q = field-less s (H .at) 16 k next v after (H .keyed) Q
 
-  ahead : (v : Value) (after : ℕ) → ReadAt (value 16 k) s next v after → from < after
+  pub ahead : (v : Value) (after : ℕ) → ReadAt (value 16 (record { number = n; wire = w })) s next v after → from < after
   ahead v after Q = omega (arith, less v after Q, Q .inside, H .fwd)
 
   pub pass : (v : Value) (after : ℕ) → ReadAt (value 16 (record { number = n; wire = w })) s next v after → σ t n ≡ none
@@ -160,17 +166,16 @@ module _ {σ : Schema} {t : ℕ} {s : List ℕ} {from n w next : ℕ} (H : Here 
   wrong-message : (u : ℕ) → σ t n ≡ some (aMessage u) → (w ≡ 2 → ⊥) → Stepped σ t s from Step.Broken
   wrong-message u e h = wrong (aMessage u) e (λ v o p. not-message (tree σ u) n u v o (λ z. h (sym p ∙ z)))
 
-  bad-number : w ≡ 0 → varint (drop next s) ≡ broken → Stepped σ t s from Step.Broken
+  pub bad-number : w ≡ 0 → varint (drop next s) ≡ broken → Stepped σ t s from Step.Broken
   bad-number e h = value-bad (rw (e, value-0 16 n (drop next s), h))
 
-  bad-text : w ≡ 2 → lengthDelimited (drop next s) ≡ broken → Stepped σ t s from Step.Broken
+  pub bad-text : w ≡ 2 → lengthDelimited (drop next s) ≡ broken → Stepped σ t s from Step.Broken
   bad-text e h = value-bad (text-value-broken s n w 16 next e h)
 
   a-number : σ t n ≡ some aNumber → w ≡ 0 → (m after : ℕ) → ReadAt varint s next m after
       → Stepped σ t s from (Step.Number n m after)
   a-number e h m after N =
-      let Q : ReadAt (value 16 k) s next (VARINT m) after =
-      record { same = rw (h, value-0 16 n (drop next s), N .same); inside = N .inside } in
+      let Q = number-value s n w next m after h N in
       record {
         same = turn (VARINT m) after Q
             ∙ ap (λ j. addField (tree σ) j (record { number = n; value = VARINT m }) (tree σ t (drop after s))) e;
