@@ -127,7 +127,8 @@ module _ {σ : Schema} {t : ℕ} {s : List ℕ} {from n w next : ℕ} (H : Here 
       → length s - after < length s - H .at
   less v after Q = field-less s (H .at) 16 k next v after (H .keyed) Q
 
-  pub ahead : (v : Value) (after : ℕ) → ReadAt (value 16 (record { number = n; wire = w })) s next v after → from < after
+  pub ahead : (v : Value) (after : ℕ) → ReadAt (value 16 (record { number = n; wire = w })) s next v after
+      → from < after
   ahead v after Q = omega (arith, less v after Q, Q .inside, H .fwd)
 
   pub pass : (v : Value) (after : ℕ) → ReadAt (value 16 (record { number = n; wire = w })) s next v after → σ t n ≡ none

@@ -1,18 +1,8 @@
 // The messages of GTFS Realtime, read by what a list says of each field.
 pub mod fields; // the numbers of the listed fields
 
-use fields::alert;
-use fields::alert_entity;
-use fields::entity_selector;
-use fields::feed_entity;
-use fields::feed_header;
-use fields::feed_message;
 use fields::stop_time_event;
-use fields::stop_time_update;
-use fields::translated_string;
-use fields::translation;
 use fields::trip_descriptor;
-use fields::trip_update;
 use realtime::Verdict;
 use wire::Cursor;
 use wire::GotKey;
@@ -20,17 +10,15 @@ use wire::GotNumber;
 use wire::GotText;
 use wire::Skipped;
 ghost use mathlib.Core.Path.{_≡_};
-ghost use Prim.Native.Nat.{_+_, _≤_};
-ghost use lib.ListN.{length, take, drop};
 ghost use Rattle.wire.specs.promises.Places.{skippedAt};
-ghost use Rattle.formats.specs.Class.{printable, inClass};
+ghost use Rattle.formats.specs.Class.{inClass};
 ghost use Rattle.realtime_read.specs.promises.Steps.{Stepped, numberBehind, textBehind};
 ghost use Rattle.realtime.specs.Tree.{tree};
 ghost use Rattle.realtime.specs.Judge.{asked, rulesBy, limitBy, classBy, textRule, numberRule};
-ghost use Rattle.realtime_read.specs.promises.Judge.{sign, fine, askedFirst};
+ghost use Rattle.realtime_read.specs.promises.Judge.{fine, askedFirst};
 ghost use mathlib.Core.Bool.{cond};
-ghost use Rattle.realtime.specs.Schema.{feed, stopTimeUpdate, tripDescriptor};
-ghost use Rattle.realtime_read.specs.promises.Schema.{holds};
+ghost use Rattle.realtime.specs.Schema.{feed};
+ghost use Rattle.realtime_read.specs.promises.Schema.{holds, row};
 
 // What a field holds.
 pub enum Holds {
@@ -74,6 +62,18 @@ pub const DESCRIPTION_TEXT: u64 = 14;
 
 pub const DESCRIPTION_TRANSLATION: u64 = 15;
 
+// What a field holds, in five bits: one of these, or MESSAGE and its type.
+const UNLISTED: u64 = 0;
+
+const NUMBER: u64 = 1;
+
+const TEXT: u64 = 2;
+
+const MESSAGE: u64 = 3;
+
+// Every listed field has a number below this.
+const FIELDS: u64 = 12;
+
 // Groups nest at most this deep.
 const GROUPS_DEEP: usize = 16;
 
@@ -87,137 +87,58 @@ const HEADER_LIMIT: usize = 512;
 
 const DESCRIPTION_LIMIT: usize = 2048;
 
-// The class of words that are UTF-8.
+// The classes of texts: ids are printable, words are UTF-8.
+const PRINTABLE: u64 = 1;
+
 const UTF8: u64 = 3;
 
 // The latest time of a stop, in seconds since 1970 UTC.
 const LATEST: u64 = 4102444800;
 
-// The listed fields of a TripDescriptor.
-fn in_descriptor(field: u64) -> Holds
-    ensures { λ r. ⌜ r ≡ holds (feed tripDescriptor field) ⌝ }
-{
-    match field {
-        trip_descriptor::TRIP_ID => Holds::Text,
-        trip_descriptor::START_TIME => Holds::Text,
-        trip_descriptor::START_DATE => Holds::Text,
-        trip_descriptor::SCHEDULE_RELATIONSHIP => Holds::Number,
-        trip_descriptor::ROUTE_ID => Holds::Text,
-        trip_descriptor::DIRECTION_ID => Holds::Number,
-        _ => Holds::Unlisted,
-    }
-}
-
-// Those of a StopTimeUpdate.
-fn in_stop(field: u64) -> Holds
-    ensures { λ r. ⌜ r ≡ holds (feed stopTimeUpdate field) ⌝ }
-{
-    match field {
-        stop_time_update::STOP_SEQUENCE => Holds::Number,
-        stop_time_update::ARRIVAL => Holds::Message(STOP_TIME_EVENT),
-        stop_time_update::DEPARTURE => Holds::Message(STOP_TIME_EVENT),
-        stop_time_update::STOP_ID => Holds::Text,
-        stop_time_update::SCHEDULE_RELATIONSHIP => Holds::Number,
-        _ => Holds::Unlisted,
-    }
-}
-
-// Those of what stands in an alert: a selector's trip, and words.
-fn in_texts(message: u64, field: u64) -> Holds
-    requires { ⌜ 11 ≤ message ⌝ }
-    ensures { λ r. ⌜ r ≡ holds (feed message field) ⌝ }
+// What the fields of a message hold, five bits each, that of field 0 last: nothing that is listed, NUMBER, TEXT, or
+// MESSAGE and a type. Shifts by it are faster than jumps by a table of arms.
+fn row_of(message: u64) -> u64
+    ensures { λ r. ⌜ r ≡ row message ⌝ }
 {
     match message {
-        SELECTED_TRIP => match field {
-            trip_descriptor::TRIP_ID => Holds::Text,
-            _ => Holds::Unlisted,
-        },
-        HEADER_TEXT => match field {
-            translated_string::TRANSLATION => Holds::Message(HEADER_TRANSLATION),
-            _ => Holds::Unlisted,
-        },
-        HEADER_TRANSLATION => match field {
-            translation::TEXT => Holds::Text,
-            _ => Holds::Unlisted,
-        },
-        DESCRIPTION_TEXT => match field {
-            translated_string::TRANSLATION => Holds::Message(DESCRIPTION_TRANSLATION),
-            _ => Holds::Unlisted,
-        },
-        DESCRIPTION_TRANSLATION => match field {
-            translation::TEXT => Holds::Text,
-            _ => Holds::Unlisted,
-        },
-        _ => Holds::Unlisted,
+        FEED_MESSAGE => 0b00101_00100_00000,
+        FEED_HEADER => 0b00001_00001_00000_00000,
+        FEED_ENTITY => 0b00110_00001_00000_00000,
+        TRIP_UPDATE => 0b00001_00000_00000_01000_00111_00000,
+        TRIP_DESCRIPTOR => 0b00001_00010_00001_00010_00010_00010_00000,
+        STOP_TIME_UPDATE => 0b00001_00010_01001_01001_00001_00000,
+        STOP_TIME_EVENT => 0b00001_00001_00000,
+        ALERT_MESSAGE => 0b01011_00000_00000,
+        ALERT_ENTITY => 0b01100_00000_00000_00001_00000_00000,
+        ALERT => 0b10001_01111_00000_00000_00000_00000_01101_00000_00000_00000_00000_00000,
+        ENTITY_SELECTOR => 0b00010_01110_00000_00010_00000_00000,
+        SELECTED_TRIP => 0b00010_00000,
+        HEADER_TEXT => 0b10000_00000,
+        HEADER_TRANSLATION => 0b00010_00000,
+        DESCRIPTION_TEXT => 0b10010_00000,
+        DESCRIPTION_TRANSLATION => 0b00010_00000,
+        _ => 0,
     }
 }
 
-// Those of a message of alerts and of what stands in it.
-fn in_alerts(message: u64, field: u64) -> Holds
-    requires { ⌜ 7 ≤ message ⌝ }
-    ensures { λ r. ⌜ r ≡ holds (feed message field) ⌝ }
-{
-    match message {
-        ALERT_MESSAGE => match field {
-            feed_message::ENTITY => Holds::Message(ALERT_ENTITY),
-            _ => Holds::Unlisted,
-        },
-        ALERT_ENTITY => match field {
-            feed_entity::IS_DELETED => Holds::Number,
-            alert_entity::ALERT => Holds::Message(ALERT),
-            _ => Holds::Unlisted,
-        },
-        ALERT => match field {
-            alert::INFORMED_ENTITY => Holds::Message(ENTITY_SELECTOR),
-            alert::HEADER_TEXT => Holds::Message(HEADER_TEXT),
-            alert::DESCRIPTION_TEXT => Holds::Message(DESCRIPTION_TEXT),
-            _ => Holds::Unlisted,
-        },
-        ENTITY_SELECTOR => match field {
-            entity_selector::ROUTE_ID => Holds::Text,
-            entity_selector::TRIP => Holds::Message(SELECTED_TRIP),
-            entity_selector::STOP_ID => Holds::Text,
-            _ => Holds::Unlisted,
-        },
-        _ => in_texts(message, field),
-    }
-}
-
-// The listed fields. An arm for each: the compiler makes jumps by a table of them, and of `a | b` comparisons.
+// What a field of a message holds.
 pub fn kind_of(message: u64, field: u64) -> Holds
     ensures { λ r. ⌜ r ≡ holds (feed message field) ⌝ }
 {
-    match message {
-        FEED_MESSAGE => match field {
-            feed_message::HEADER => Holds::Message(FEED_HEADER),
-            feed_message::ENTITY => Holds::Message(FEED_ENTITY),
-            _ => Holds::Unlisted,
-        },
-        FEED_HEADER => match field {
-            feed_header::INCREMENTALITY => Holds::Number,
-            feed_header::TIMESTAMP => Holds::Number,
-            _ => Holds::Unlisted,
-        },
-        FEED_ENTITY => match field {
-            feed_entity::IS_DELETED => Holds::Number,
-            feed_entity::TRIP_UPDATE => Holds::Message(TRIP_UPDATE),
-            _ => Holds::Unlisted,
-        },
-        TRIP_UPDATE => match field {
-            trip_update::TRIP => Holds::Message(TRIP_DESCRIPTOR),
-            trip_update::STOP_TIME_UPDATE => Holds::Message(STOP_TIME_UPDATE),
-            trip_update::DELAY => Holds::Number,
-            _ => Holds::Unlisted,
-        },
-        TRIP_DESCRIPTOR => in_descriptor(field),
-        STOP_TIME_UPDATE => in_stop(field),
-        STOP_TIME_EVENT => match field {
-            stop_time_event::DELAY => Holds::Number,
-            stop_time_event::TIME => Holds::Number,
-            _ => Holds::Unlisted,
-        },
-        _ => in_alerts(message, field),
+    if field >= FIELDS {
+        return Holds::Unlisted;
     }
+    let k = (row_of(message) >> (field * 5)) % 32;
+    if k == UNLISTED {
+        return Holds::Unlisted;
+    }
+    if k == NUMBER {
+        return Holds::Number;
+    }
+    if k == TEXT {
+        return Holds::Text;
+    }
+    Holds::Message(k - MESSAGE)
 }
 
 // The next listed field of a message, from a boundary between two fields on.
@@ -234,7 +155,7 @@ pub enum Step {
 
 // Past the field behind a key. The slice goes as a part of its own: one that is handed to a function that calls
 // itself would lie in memory, in the callers too.
-fn past(s: &[u8], from: Cursor, field: u64, wire: u64) -> Skipped
+pub fn past(s: &[u8], from: Cursor, field: u64, wire: u64) -> Skipped
     ensures { λ r. ⌜ r ≡ skippedAt (now (s .entry)) (from .at) field wire 16 ⌝ }
 {
     from.skip(slices::part(s, 0, s.len()), field, wire, GROUPS_DEEP)
@@ -354,46 +275,6 @@ fn text_limit(message: u64, field: u64, ids: usize) -> usize
     ids
 }
 
-fn is_sign(b: u8) -> bool
-    ensures { λ r. ⌜ r ≡ sign b ⌝ }
-{
-    if b < 32 {
-        return false;
-    }
-    b <= 126
-}
-
-// Of the eight bytes from `i` on, with no jump for each: the compiler takes them together.
-fn are_signs(s: &[u8], i: usize) -> bool
-    requires { ⌜ i + 8 ≤ length (now s) ⌝ }
-    ensures { λ r. ⌜ r ≡ inClass printable (take 8 (drop i (now (s .entry)))) ⌝ }
-{
-    let a = is_sign(s[i]) & is_sign(s[i + 1]) & is_sign(s[i + 2]) & is_sign(s[i + 3]);
-    let b = is_sign(s[i + 4]) & is_sign(s[i + 5]) & is_sign(s[i + 6]) & is_sign(s[i + 7]);
-    a & b
-}
-
-fn is_printable(s: &[u8]) -> bool
-    ensures { λ r. ⌜ r ≡ inClass printable (now (s .entry)) ⌝ }
-{
-    let mut i = 0;
-    while s.len() - i >= 8 {
-        if are_signs(s, i) {
-            i += 8;
-        } else {
-            return false;
-        }
-    }
-    while i < s.len() {
-        if is_sign(s[i]) {
-            i += 1;
-        } else {
-            return false;
-        }
-    }
-    true
-}
-
 // Whether a text is of its class: words are UTF-8, ids are printable.
 fn is_fit(s: &[u8], message: u64) -> bool
     ensures { λ r. ⌜ r ≡ inClass (classBy message) (now (s .entry)) ⌝ }
@@ -404,7 +285,7 @@ fn is_fit(s: &[u8], message: u64) -> bool
     if message == DESCRIPTION_TRANSLATION {
         return formats_text::in_class(UTF8, s);
     }
-    is_printable(s)
+    formats_text::in_class(PRINTABLE, s)
 }
 
 fn judge_text(s: &[u8], message: u64, field: u64, ids: usize) -> Verdict

@@ -1,5 +1,4 @@
 -- `realtime_read::is_fit` meets its contract, test by test. Assumes nothing.
-use mathlib.Core.Path.{_∙_}
 use borrow.Author.Tests.{eq-eqb, ne-eqb}
 use borrow.Author.Needs.{needs}
 use Rattle.realtime_read.proofs.is_fit.Statement.{statement}
@@ -15,4 +14,4 @@ is-fit-spec =
     (λ c. simp (ne-eqb _ _ (c .before .before .if1 .left), eq-eqb _ _ (c .before .if2 .taken)) (c .in-class2 .ensures))
     (λ c κs. search needs)
     (λ c. simp (ne-eqb _ _ (c .before .before .if1 .left), ne-eqb _ _ (c .before .if2 .left))
-    (c .is-printable .ensures)))
+    (c .in-class3 .ensures)))

@@ -1,12 +1,6 @@
 -- Promise. Judgements of parts, put together.
-use Prim.Native.Nat.{ℕ}
 use mathlib.Core.Bool.{Bool, true, false}
-use Rattle.formats.specs.Class.{printable, allowed}
 use Rattle.realtime.specs.declared.Verdict.{Verdict}
-
--- a byte of a printable text
-abbrev pub sign : ℕ → Bool
-sign b = allowed printable b
 
 abbrev pub fine : Verdict → Bool
 fine Verdict.Broken = false
