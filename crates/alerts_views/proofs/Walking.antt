@@ -1,41 +1,34 @@
 -- The walks over the entities of a message and over the selectors of an entity. Assumes nothing.
 use Prim.Native.Nat.{ℕ, _+_, _≤_}
-use mathlib.Core.Path.{_≡_, ap, _∙_}
+use mathlib.Core.Path.{_≡_, refl, ap, _∙_}
 use mathlib.Core.List.{List}
 use native.Mathlib.Omega.{arith}
 use lib.ListN.{length, take}
-use Rattle.basics.specs.laws.Options.{none-some}
 use Rattle.realtime.specs.Tree.{Tree}
-use Rattle.realtime.specs.Schema.{fieldRows, feed, alertMessage, alertEntity, alert}
+use Rattle.realtime.specs.Schema.{fieldRows, feed, alertMessage, alertEntity, alert, entitySelector}
 use Rattle.realtime_views.specs.declared.Walk.{Walk}
 use Rattle.realtime_views.specs.declared.Item.{Item}
 use Rattle.realtime_views.specs.promises.Starts.{atMerged}
-use Rattle.realtime_views.specs.promises.Walks.{SoundWalk, Walks, Yields, left, typeOf}
+use Rattle.realtime_views.specs.promises.Walks.{NextItem, left}
 use Rattle.realtime_views.specs.laws.Turns as turns
 use Rattle.realtime_views.specs.laws.Starts.{merged-sound, left-merged}
 use Rattle.alerts_views.specs.promises.Views.{selectors}
 use Rattle.alerts_views.specs.promises.Walks as walks
 
--- what the wrappers ask, and the types of their items
-pub entity-walks : {s : List ℕ} {w : Walk} → SoundWalk s (w .outer) (w .end) (w .at)
-    → Walks feed alertMessage 0 alertMessage s w
+-- the types of the wrappers' items
+pub next-entity : {s : List ℕ} {w : Walk} {r : Item} → NextItem 0 2 s w r → walks.NextEntity s w r
 unfolding feed fieldRows
-entity-walks S = record { sound = S; opened = λ v e. none-some e }
+next-entity N = record {
+  of = N .of alertMessage alertMessage alertEntity (λ z. absurd (z refl)) (λ z. refl);
+  lying = N .lying;
+}
 
-pub next-entity : {s : List ℕ} {w : Walk} {r : Item}
-    → Yields feed alertMessage 0 alertMessage 2 (typeOf (feed alertMessage 2)) s w r → walks.NextEntity s w r
+pub next-selector : {s : List ℕ} {w : Walk} {r : Item} → NextItem 5 5 s w r → walks.NextSelector s w r
 unfolding feed fieldRows
-next-entity Y = Y
-
-pub selector-walks : {s : List ℕ} {w : Walk} → SoundWalk s (w .outer) (w .end) (w .at)
-    → Walks feed alertEntity 5 alert s w
-unfolding feed fieldRows
-selector-walks S = record { sound = S; opened = λ v e. cc }
-
-pub next-selector : {s : List ℕ} {w : Walk} {r : Item}
-    → Yields feed alertEntity 5 alert 5 (typeOf (feed alert 5)) s w r → walks.NextSelector s w r
-unfolding feed fieldRows
-next-selector Y = Y
+next-selector N = record {
+  of = N .of alertEntity alert entitySelector (λ z. refl) (λ z. refl);
+  lying = N .lying;
+}
 
 -- over the selectors of the entity e in `len` bytes at `start`: P e holds of what is left
 abbrev pub Walked : List ℕ → ℕ → ℕ → (Tree → List Tree → Type 0) → Walk → Type 0

@@ -1,12 +1,6 @@
 // The alerts of a message, read after the validator: a broken message is answered with anything.
 use formats::OptionalText;
 use formats::Span;
-use realtime_read::ALERT;
-use realtime_read::ALERT_ENTITY;
-use realtime_read::ALERT_MESSAGE;
-use realtime_read::DESCRIPTION_TEXT;
-use realtime_read::ENTITY_SELECTOR;
-use realtime_read::HEADER_TEXT;
 use realtime_read::fields::alert;
 use realtime_read::fields::alert_entity;
 use realtime_read::fields::entity_selector;
@@ -34,20 +28,13 @@ const MOST_IDS: usize = 32;
 const MOST_ALERTS: usize = 256;
 
 // Of a message in `len` bytes at `start`: the first message at field `k`.
-fn first_item(message: &[u8], start: usize, len: usize, outer: u64, k: u64) -> Item
+fn first_item(message: &[u8], start: usize, len: usize, k: u64) -> Item
     requires { ⌜ start + len ≤ length (now message) ⌝ }
-    ensures { λ r. ⌜ FirstRead outer k (now (message .entry)) start len r ⌝ }
+    ensures { λ r. ⌜ FirstRead k (now (message .entry)) start len r ⌝ }
 {
     let end = start + len;
     let walk = realtime_views::items(start, end);
-    realtime_views::next_item(
-        slices::part(message, 0, end),
-        outer,
-        NO_FIELD,
-        outer,
-        k,
-        walk,
-    )
+    realtime_views::next_item(slices::part(message, 0, end), NO_FIELD, k, walk)
 }
 
 // Whether an entity is deleted: any bit of the number.
@@ -55,7 +42,7 @@ fn is_deleted(message: &[u8], start: usize, len: usize) -> bool
     requires { ⌜ start + len ≤ length (now message) ⌝ }
     ensures { λ r. ⌜ DeletedRead (now (message .entry)) start len r ⌝ }
 {
-    match realtime_views::scalar_at(message, start, len, ALERT_ENTITY, feed_entity::IS_DELETED) {
+    match realtime_views::scalar_at(message, start, len, feed_entity::IS_DELETED) {
         Scalar::Number(n) => n != 0,
         Scalar::Text { start: _, len: _ } => false,
         Scalar::Nothing => false,
@@ -70,7 +57,7 @@ pub fn is_left(message: &[u8], start: usize, len: usize) -> bool
     if is_deleted(message, start, len) {
         return false;
     }
-    match first_item(message, start, len, ALERT_ENTITY, alert_entity::ALERT) {
+    match first_item(message, start, len, alert_entity::ALERT) {
         Item::At {
             start: _,
             len: _,
@@ -80,12 +67,12 @@ pub fn is_left(message: &[u8], start: usize, len: usize) -> bool
     }
 }
 
-// The text of a translation of type `outer`. A text may be given and empty.
-fn text_of(message: &[u8], start: usize, len: usize, outer: u64) -> OptionalText
+// The text of a translation. A text may be given and empty.
+fn text_of(message: &[u8], start: usize, len: usize) -> OptionalText
     requires { ⌜ start + len ≤ length (now message) ⌝ }
-    ensures { λ r. ⌜ TextRead outer (now (message .entry)) start len r ⌝ }
+    ensures { λ r. ⌜ TextRead (now (message .entry)) start len r ⌝ }
 {
-    match realtime_views::scalar_at(message, start, len, outer, translation::TEXT) {
+    match realtime_views::scalar_at(message, start, len, translation::TEXT) {
         Scalar::Text { start, len } => OptionalText::Present(Span {
             from: start,
             to: start + len,
@@ -95,11 +82,11 @@ fn text_of(message: &[u8], start: usize, len: usize, outer: u64) -> OptionalText
     }
 }
 
-// The text of the first translation, of all the strings of type `text` at field `k` of all the alerts of an entity,
-// merged: the first string that has a translation decides.
-fn words(message: &[u8], start: usize, len: usize, k: u64, text: u64) -> OptionalText
+// The text of the first translation, of all the strings at field `k` of all the alerts of an entity, merged: the first
+// string that has a translation decides.
+fn words(message: &[u8], start: usize, len: usize, k: u64) -> OptionalText
     requires { ⌜ start + len ≤ length (now message) ⌝ }
-    requires { ⌜ Worded k text ⌝ }
+    requires { ⌜ Worded k ⌝ }
     ensures { λ r. ⌜ WordsRead (now (message .entry)) start len k r ⌝ }
 {
     let end = start + len;
@@ -107,9 +94,7 @@ fn words(message: &[u8], start: usize, len: usize, k: u64, text: u64) -> Optiona
     loop {
         let found = realtime_views::next_item(
             slices::part(message, 0, end),
-            ALERT_ENTITY,
             alert_entity::ALERT,
-            ALERT,
             k,
             walk,
         );
@@ -121,12 +106,12 @@ fn words(message: &[u8], start: usize, len: usize, k: u64, text: u64) -> Optiona
         else {
             return OptionalText::Absent;
         };
-        match first_item(message, i, l, text, translated_string::TRANSLATION) {
+        match first_item(message, i, l, translated_string::TRANSLATION) {
             Item::At {
                 start: j,
                 len: m,
                 walk: _,
-            } => return text_of(message, j, m, text + 1),
+            } => return text_of(message, j, m),
             Item::Done => {
                 walk = rest;
             }
@@ -139,7 +124,7 @@ pub fn header_of(message: &[u8], start: usize, len: usize) -> OptionalText
     requires { ⌜ start + len ≤ length (now message) ⌝ }
     ensures { λ r. ⌜ WordsRead (now (message .entry)) start len 10 r ⌝ }
 {
-    words(message, start, len, alert::HEADER_TEXT, HEADER_TEXT)
+    words(message, start, len, alert::HEADER_TEXT)
 }
 
 // And those of its description.
@@ -147,13 +132,7 @@ pub fn description_of(message: &[u8], start: usize, len: usize) -> OptionalText
     requires { ⌜ start + len ≤ length (now message) ⌝ }
     ensures { λ r. ⌜ WordsRead (now (message .entry)) start len 11 r ⌝ }
 {
-    words(
-        message,
-        start,
-        len,
-        alert::DESCRIPTION_TEXT,
-        DESCRIPTION_TEXT,
-    )
+    words(message, start, len, alert::DESCRIPTION_TEXT)
 }
 
 // The id of a selector in `len` bytes at `start`, by the number of its field: of its trip, its route or its stop.
@@ -166,29 +145,16 @@ pub fn id_of(message: &[u8], start: usize, len: usize, kind: u64) -> TextPart
             message,
             start,
             len,
-            ENTITY_SELECTOR,
             entity_selector::TRIP,
             trip_descriptor::TRIP_ID,
         );
         return realtime_views::span_of(id);
     }
     if kind == entity_selector::ROUTE_ID {
-        let id = realtime_views::scalar_at(
-            message,
-            start,
-            len,
-            ENTITY_SELECTOR,
-            entity_selector::ROUTE_ID,
-        );
+        let id = realtime_views::scalar_at(message, start, len, entity_selector::ROUTE_ID);
         return realtime_views::span_of(id);
     }
-    let id = realtime_views::scalar_at(
-        message,
-        start,
-        len,
-        ENTITY_SELECTOR,
-        entity_selector::STOP_ID,
-    );
+    let id = realtime_views::scalar_at(message, start, len, entity_selector::STOP_ID);
     realtime_views::span_of(id)
 }
 
@@ -197,14 +163,7 @@ pub fn next_selector(s: &[u8], walk: Walk) -> Item
     requires { ⌜ SoundWalk (now s) (walk .outer) (walk .end) (walk .at) ⌝ }
     ensures { λ r. ⌜ NextSelector (now (s .entry)) walk r ⌝ }
 {
-    realtime_views::next_item(
-        s,
-        ALERT_ENTITY,
-        alert_entity::ALERT,
-        ALERT,
-        alert::INFORMED_ENTITY,
-        walk,
-    )
+    realtime_views::next_item(s, alert_entity::ALERT, alert::INFORMED_ENTITY, walk)
 }
 
 // How many selectors an entity's alert has: counted up to the first above 32.
@@ -280,14 +239,7 @@ pub fn next_entity(s: &[u8], walk: Walk) -> Item
     requires { ⌜ SoundWalk (now s) (walk .outer) (walk .end) (walk .at) ⌝ }
     ensures { λ r. ⌜ NextEntity (now (s .entry)) walk r ⌝ }
 {
-    realtime_views::next_item(
-        s,
-        ALERT_MESSAGE,
-        NO_FIELD,
-        ALERT_MESSAGE,
-        feed_message::ENTITY,
-        walk,
-    )
+    realtime_views::next_item(s, NO_FIELD, feed_message::ENTITY, walk)
 }
 
 // With the alert of an entity, n are kept already: one more, or 257 where it has too many ids.

@@ -62,7 +62,7 @@ module _ (f : ℕ) (m : Tree) where
   in-field inner (some (aMessage u)) v q e = in-message (inner u) u v q e
 
 module _ {σ : Schema} {t : ℕ} {s : List ℕ} {at : ℕ} (h : at < length s) {f next : ℕ} where
-  here : {w : ℕ} → ReadAt key s at (record { number = f; wire = w }) next → Here σ t s at f w next
+  pub here : {w : ℕ} → ReadAt key s at (record { number = f; wire = w }) next → Here σ t s at f w next
   here K = record { at = at; fwd = omega arith; more = h; inv = refl; keyed = K }
 
   over : {w : ℕ} → ReadAt key s at (record { number = f; wire = w }) next → (v : Value) (after : ℕ)

@@ -185,7 +185,7 @@ module _ {σ : Schema} {t : ℕ} {s : List ℕ} {from n w next : ℕ} (H : Here 
       }
 
   -- a text lies behind its key
-  lies : (i l after : ℕ) → TextAt s next i l after → Lies s from i l after
+  pub lies : (i l after : ℕ) → TextAt s next i l after → Lies s from i l after
   lies i l after N = record {
     ahead = omega (
       arith,

@@ -1,6 +1,10 @@
 -- Lemmas on plain values.
 mod Reader
+mod Wires
+mod Seeking
 mod Stops
+mod Ones
+mod Finding
 mod Trips
 mod Signed
 mod Typing

@@ -8,7 +8,7 @@ use native.Mathlib.Omega.{arith}
 use native.Mathlib.Numerals.{add-one}
 use lib.Dec.{eqb}
 use lib.ListN.{length, take, drop, getD, length-drop, length-take}
-use lib.Seq.{drop-cons, getD-take}
+use lib.Seq.{drop-cons}
 use borrow.Author.Tests.{le-leb, lt-ltb, eqb-true, eq-eqb, ne-eqb}
 use Rattle.wire.specs.Wire.{read, digits, varint, key, lengthDelimited}
 use Rattle.wire.specs.laws.Wire.{stays, reader-varint, reader-text}
@@ -17,22 +17,17 @@ use Rattle.wire.specs.promises.Places.{numberAt, textAt}
 use Rattle.wire.specs.declared.Cursor.{Cursor}
 use Rattle.wire.specs.declared.GotNumber.{GotNumber}
 use Rattle.wire.specs.declared.GotText.{GotText}
-use Rattle.realtime.specs.Schema.{fieldRows, feed, tripUpdate, stopTimeUpdate, stopTimeEvent}
+use Rattle.realtime.specs.Schema.{fieldRows, feed, stopTimeUpdate, stopTimeEvent}
 use Rattle.realtime_read.specs.promises.Steps.{Stepped}
 use Rattle.realtime_read.specs.declared.Step.{Step}
-use Rattle.realtime_read.proofs.Turn as turn
 use Rattle.realtime_read.proofs.Turn.{Here, at-end, some-number, some-text, some-message}
 use Rattle.realtime_views.specs.promises.Last.{taking}
 use Rattle.realtime_views.specs.promises.Numbers.{plain, sequence, isPart, EventReads, NumberReads, StopReads}
 use Rattle.realtime_views.specs.promises.Numbers.{fromStop}
-use Rattle.realtime_views.specs.promises.Walks.{SoundWalk, NextUpdate}
-use Rattle.realtime_views.specs.declared.Walk.{Walk}
-use Rattle.realtime_views.specs.declared.Item.{Item}
 use Rattle.realtime_views.specs.declared.TextPart.{TextPart}
 use Rattle.realtime_views.specs.declared.EventNumbers.{EventNumbers}
 use Rattle.realtime_views.specs.declared.StopUpdate.{StopUpdate}
 use Rattle.realtime_views.proofs.Reader.{Reading, says}
-use Rattle.realtime_views.proofs.Walking.{leads, yields, in-breaks, next-update}
 use Rattle.realtime_views.proofs.Stops.{Stops, stops-end, stops-sequence, stops-relationship, stops-stop}
 use Rattle.realtime_views.proofs.Stops.{stops-arrival, stops-departure, mine-number, other-number, other-text}
 use Rattle.realtime_views.proofs.Stops.{no-message, sequence-number}
@@ -84,16 +79,6 @@ module _ {s : List ℕ} {at : ℕ} (h : at < length s) where
     stop-step : getD s at 0 ≡ 34 → Stepped feed stopTimeUpdate s at (Step.Text 4 i l (c .at))
     unfolding feed fieldRows here
     stop-step e = some-text (here 4 2 e (omega arith) (omega arith) (omega arith)) refl (sym g ∙ r)
-
-    -- a stop_time_update of a trip_update
-    update-step : getD s at 0 ≡ 18 → Stepped feed tripUpdate s at (Step.Message 2 stopTimeUpdate i l (c .at))
-    unfolding feed fieldRows here
-    update-step e = some-message (here 2 2 e (omega arith) (omega arith) (omega arith)) refl (sym g ∙ r)
-
-  update-none : {o : GotText} → o ≡ textAt s (at + 1) → o ≡ GotText.Broken → getD s at 0 ≡ 18
-      → Stepped feed tripUpdate s at Step.Broken
-  unfolding feed fieldRows here
-  update-none r g e = turn.no-message (here 2 2 e (omega arith) (omega arith) (omega arith)) refl (sym g ∙ r)
 
 -- the reading of its sequence
 abbrev pub Sequences : List ℕ → ℕ → ℕ → ℕ → Type 0
@@ -193,26 +178,3 @@ module _ {b : ℕ} where
 
   pub is-stop : (b ≡ 18 → ⊥) → (b ≡ 26 → ⊥) → eqb b 34 ≡ isPart b
   is-stop n m = rw (ne-eqb b 18 n, ne-eqb b 26 m)
-
--- the next stop_time_update of a walk, whose key stands at its place
-in-view : (s : List ℕ) (stop at : ℕ) {x : List ℕ} → x ≡ take stop s → at < stop → stop ≤ length s → at < length x
-in-view s stop at e h l = omega (arith, ap length e, length-take stop s)
-
-byte-in : (s : List ℕ) (stop at : ℕ) {x : List ℕ} → x ≡ take stop s → at < stop → getD x at 0 ≡ getD s at 0
-byte-in s stop at e h = rw (e, getD-take)
-
-module _ {s : List ℕ} {w : Walk} (S : SoundWalk s (w .outer) (w .end) (w .at)) (h : w .at < w .end)
-    (b : getD s (w .at) 0 ≡ 18) {x : List ℕ} (e : x ≡ take (w .end) s) {o : GotText}
-    (r : o ≡ textAt x (w .at + 1)) where
-  pub update-found : {i l : ℕ} {c : Cursor} → o ≡ GotText.Read i l c
-      → NextUpdate s w (Item.At i l (record { outer = w .outer; end = w .end; at = c .at }))
-  update-found g =
-      next-update (yields (leads w S) x e
-      (update-step (in-view s (w .end) (w .at) e h (omega (arith, S))) r g
-      (byte-in s (w .end) (w .at) e h ∙ b)) refl)
-
-  pub update-broken : o ≡ GotText.Broken → NextUpdate s w Item.Done
-  update-broken g =
-      next-update (in-breaks (leads w S) x e
-      (update-none (in-view s (w .end) (w .at) e h (omega (arith, S))) r g
-      (byte-in s (w .end) (w .at) e h ∙ b)))

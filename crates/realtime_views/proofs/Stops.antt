@@ -1,14 +1,20 @@
 -- A turn of the loops over a stop_time_update and over an event: each field a reading of its own. Assumes nothing.
 use mathlib.Core.Bool.{cond}
-use Prim.Native.Nat.{ℕ, _+_, _≤_}
+use Prim.Native.Nat.{ℕ, _+_, _≤_, _<_}
 use mathlib.Core.Path.{_≡_, refl, sym, ap, subst, _∙_}
 use mathlib.Core.List.{List}
-use mathlib.Core.Option.{some}
+use mathlib.Core.Option.{none, some}
 use native.Mathlib.Omega.{arith}
 use lib.ListN.{length, take, drop, length-take}
 use borrow.Author.Tests.{eq-eqb, ne-eqb}
-use Rattle.realtime.specs.Tree.{aNumber, aText, aMessage, Schema}
+use Rattle.wire.specs.promises.Places.{keyAt, numberAt, skippedAt}
+use Rattle.wire.specs.declared.Cursor.{Cursor}
+use Rattle.wire.specs.declared.GotKey.{GotKey}
+use Rattle.wire.specs.declared.GotNumber.{GotNumber}
+use Rattle.wire.specs.declared.Skipped.{Skipped}
+use Rattle.realtime.specs.Tree.{aNumber, aText, aMessage, Schema, tree}
 use Rattle.realtime.specs.Schema.{fieldRows, feed, stopTimeUpdate, stopTimeEvent}
+use Rattle.realtime_read.specs.laws.Passing.{Passed}
 use Rattle.realtime_read.specs.promises.Steps.{Lies, Stepped}
 use Rattle.realtime_read.specs.declared.Step.{Step}
 use Rattle.realtime_views.specs.promises.Fold.{inside}
@@ -22,7 +28,10 @@ use Rattle.realtime_views.specs.declared.Number.{Number}
 use Rattle.realtime_views.specs.declared.EventNumbers.{EventNumbers}
 use Rattle.realtime_views.specs.declared.StopUpdate.{StopUpdate}
 use Rattle.realtime_views.proofs.Reader.{Reading, begins, says, on-number, on-text, past-message, taken, passed}
+use Rattle.realtime_views.proofs.Reader.{taking-skips, passes-on, breaks-off, key-breaks, comes-to-end}
 use Rattle.realtime_views.proofs.Reader as reader
+use Rattle.realtime_views.proofs.Wires.{keyed, number-none, number-passed, number-step, other-none, other-passed}
+use Rattle.realtime_views.proofs.Wires.{past-number}
 
 -- of a field alone
 module _ {D B : Type 0} {L : Lens D B} (o : Single B) {σ : Schema} {t : ℕ} {s : List ℕ} {from : ℕ} {d₀ : D} {at : ℕ}
@@ -70,14 +79,6 @@ relationship-number : (f : ℕ) → feed stopTimeUpdate f ≡ some aText → f �
 unfolding feed fieldRows
 relationship-number f p e = clash stopTimeUpdate 5 f refl p (sym e)
 
-delay-number : (f : ℕ) → feed stopTimeEvent f ≡ some aText → f ≡ 1 → ⊥
-unfolding feed fieldRows
-delay-number f p e = clash stopTimeEvent 1 f refl p (sym e)
-
-time-number : (f : ℕ) → feed stopTimeEvent f ≡ some aText → f ≡ 2 → ⊥
-unfolding feed fieldRows
-time-number f p e = clash stopTimeEvent 2 f refl p (sym e)
-
 typed : (f u k v : ℕ) → feed stopTimeUpdate f ≡ some (aMessage u) → feed stopTimeUpdate k ≡ some (aMessage v) → f ≡ k
     → u ≡ v
 typed f u k v p q e = let r : some (aMessage u) ≡ some (aMessage v) = sym p ∙ ap (feed stopTimeUpdate) e ∙ q in cc
@@ -101,39 +102,66 @@ event-starts b h =
     record { delay = begins (record { inside = h; within = tt }); time = begins (record { inside = h; within = tt }) }
 
 module _ {s : List ℕ} {from : ℕ} {b : EventNumbers} {at : ℕ} {e i : Number} (R : Events s from b at e i) where
-  pub event-ends : Stepped feed stopTimeEvent s at Step.End → EventReads s from b (record { delay = e; time = i })
-  event-ends S = record { delay = says (R .delay) S; time = says (R .time) S }
+  pub event-ends : length s ≤ at → EventReads s from b (record { delay = e; time = i })
+  event-ends h = record { delay = comes-to-end (R .delay) h; time = comes-to-end (R .time) h }
 
-  pub event-breaks : Stepped feed stopTimeEvent s at Step.Broken → EventReads s from b (record { delay = e; time = i })
-  event-breaks S = record { delay = reader.stops (R .delay) S; time = reader.stops (R .time) S }
+  event-breaks : tree feed stopTimeEvent (drop at s) ≡ none → EventReads s from b (record { delay = e; time = i })
+  event-breaks h = record { delay = breaks-off (R .delay) h; time = breaks-off (R .time) h }
 
-  module _ {f m n : ℕ} (S : Stepped feed stopTimeEvent s at (Step.Number f m n)) where
-    pub event-delay : f ≡ 1 → Events s from b n (record { given = 1; value = m }) i
-    event-delay h =
-        record {
-          delay = mine-number delay (R .delay) S h refl tt;
-          time = other-number time (R .time) S (λ g. omega arith);
-        }
+  module _ (h : at < length s) {o : GotKey} (k : o ≡ keyAt s at) where
+    pub event-no-key : o ≡ GotKey.Broken → EventReads s from b (record { delay = e; time = i })
+    event-no-key g = record { delay = key-breaks (R .delay) h (sym g ∙ k); time = key-breaks (R .time) h (sym g ∙ k) }
 
-    pub event-time : f ≡ 2 → Events s from b n e (record { given = 1; value = m })
-    event-time h =
-        record {
-          delay = other-number delay (R .delay) S (λ g. omega arith);
-          time = mine-number time (R .time) S h refl tt;
-        }
+    module _ {f w : ℕ} {c : Cursor} (g : o ≡ GotKey.Read f w c) where
+      module _ (z : w ≡ 0) {p : GotNumber} (q : p ≡ numberAt s (c .at)) where
+        pub event-no-number : p ≡ GotNumber.Broken → EventReads s from b (record { delay = e; time = i })
+        event-no-number r = event-breaks (number-none s h k g z q feed stopTimeEvent r)
 
-    pub event-number : (f ≡ 1 → ⊥) → (f ≡ 2 → ⊥) → Events s from b n e i
-    event-number h h′ = record { delay = other-number delay (R .delay) S h; time = other-number time (R .time) S h′ }
+        module _ {m : ℕ} {a : Cursor} (r : p ≡ GotNumber.Read m a) where
+          step : feed stopTimeEvent f ≡ some aNumber → Stepped feed stopTimeEvent s at (Step.Number f m (a .at))
+          step = number-step s h k g z q r feed stopTimeEvent
 
-  pub event-text : {f j l n : ℕ} → Stepped feed stopTimeEvent s at (Step.Text f j l n) → Events s from b n e i
-  event-text {f} S =
-      record {
-        delay = other-text delay (R .delay) S (delay-number f (S .typed));
-        time = other-text time (R .time) S (time-number f (S .typed));
-      }
+          over : Passed feed stopTimeEvent s at f (a .at)
+          over = number-passed s h k g z q r feed stopTimeEvent
 
-  pub event-message : {f u j l n : ℕ} → Stepped feed stopTimeEvent s at (Step.Message f u j l n) → Events s from b n e i
-  event-message S = record { delay = no-message delay (R .delay) S; time = no-message time (R .time) S }
+          pub event-delay : f ≡ 1 → Events s from b (a .at) (record { given = 1; value = m }) i
+          unfolding feed fieldRows
+          event-delay v =
+              record {
+                delay = mine-number delay (R .delay) (step (ap (feed stopTimeEvent) v)) v refl tt;
+                time = passes-on (R .time) over (taking-skips time (λ j. omega arith));
+              }
+
+          pub event-time : (f ≡ 1 → ⊥) → f ≡ 2 → Events s from b (a .at) e (record { given = 1; value = m })
+          unfolding feed fieldRows
+          event-time u v =
+              record {
+                delay = passes-on (R .delay) over (taking-skips delay u);
+                time = mine-number time (R .time) (step (ap (feed stopTimeEvent) v)) v refl tt;
+              }
+
+          pub event-number : (f ≡ 1 → ⊥) → (f ≡ 2 → ⊥) → Events s from b (a .at) e i
+          event-number u v =
+              record {
+                delay = passes-on (R .delay) over (taking-skips delay u);
+                time = passes-on (R .time) over (taking-skips time v);
+              }
+
+      module _ (z : w ≡ 0 → ⊥) {p : Skipped} (q : p ≡ skippedAt s (c .at) f w 16) where
+        pub event-no-other : p ≡ Skipped.Broken → EventReads s from b (record { delay = e; time = i })
+        event-no-other r = event-breaks (other-none s h k g q feed stopTimeEvent r)
+
+        module _ {a : Cursor} (r : p ≡ Skipped.Past a) where
+          beyond : Passed feed stopTimeEvent s at f (a .at)
+          beyond = other-passed s h k g q r feed stopTimeEvent
+
+          pub event-other : Events s from b (a .at) e i
+          unfolding feed fieldRows
+          event-other =
+              record {
+                delay = past-number delay (R .delay) h (keyed s h k g) beyond refl z;
+                time = past-number time (R .time) h (keyed s h k g) beyond refl z;
+              }
 
 -- the events at field j of a stop_time_update
 pub record Within (j : ℕ) (s : List ℕ) (from at : ℕ) (e : EventNumbers) : Type 0 where

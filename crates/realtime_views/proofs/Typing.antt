@@ -8,8 +8,8 @@ use native.Mathlib.Omega.{arith}
 use lib.Dec.{eqb}
 use lib.ListN.{length, take, drop, length-take}
 use lib.Seq.{take-length}
-use Rattle.realtime.specs.Tree.{aNumber, Schema, Tree, Leaf, count, words, last, sub, tree}
-use Rattle.realtime.specs.Schema.{fieldRows, feed, feedMessage, feedEntity, stopTimeUpdate}
+use Rattle.realtime.specs.Tree.{aNumber, aMessage, Schema, Tree, Leaf, count, words, last, sub, tree}
+use Rattle.realtime.specs.Schema.{fieldRows, feed, feedMessage, feedHeader, feedEntity, stopTimeUpdate}
 use Rattle.realtime_views.specs.laws.Fold.{inside-sub}
 use Rattle.realtime_views.specs.promises.Fold.{Takes, folded, inside}
 use Rattle.realtime_views.specs.laws.Reading.{front-rest}
@@ -17,12 +17,13 @@ use Rattle.realtime_views.specs.promises.Reading.{Lens, Ready, Reads}
 use Rattle.realtime_views.specs.laws.Scalars.{leaf-is, Lasting}
 use Rattle.realtime_views.specs.laws.Spans.{span-says, span-inside}
 use Rattle.realtime_views.specs.promises.Scalars.{one, two, three, four, five, six, said, scalar}
-use Rattle.realtime_views.specs.promises.Scalars.{scalarAt, ScalarRead}
+use Rattle.realtime_views.specs.promises.Scalars.{isScalar, blank, FieldReads, ScalarRead}
+use Rattle.realtime_views.specs.promises.Scalars.{scalarAt, OneReads, OneReadsIn, OneRead, OneReadIn}
 use Rattle.realtime_views.specs.laws.Last.{leaf, taking-last}
 use Rattle.realtime_views.specs.promises.Last.{taking}
 use Rattle.realtime_views.specs.promises.Numbers.{orZeroAt, singleText, singleNumber, plain, spans, valueOf}
-use Rattle.realtime_views.specs.promises.Numbers.{noNumber, noSpan, fromEvent, EventsRead, NumberReady}
-use Rattle.realtime_views.specs.promises.Numbers.{NumberReads, StopReads}
+use Rattle.realtime_views.specs.promises.Numbers.{noNumber, noSpan, fromEvent, EventsRead, NumberReads}
+use Rattle.realtime_views.specs.promises.Numbers.{LastNumber, StopReads}
 use Rattle.realtime.specs.Typed.{uint32, int32, int64, bool, enum, numberIn, textIn, orZero}
 use Rattle.basics.specs.Options.{someAnd}
 use Rattle.realtime_views.specs.promises.Narrow.{toTimestamp, toDirection, toDelay, isValue, toHeader}
@@ -41,6 +42,7 @@ use Rattle.realtime_views.specs.declared.Time.{Time}
 use Rattle.realtime_views.specs.declared.Header.{Header}
 use Rattle.realtime_views.specs.declared.Trip.{Trip}
 use Rattle.realtime_views.specs.declared.StopUpdate.{StopUpdate}
+use Rattle.realtime_views.proofs.Reader.{lasting-whole}
 
 -- of one scalar
 module _ (s : List ℕ) where
@@ -65,19 +67,25 @@ module _ (s : List ℕ) where
   value-says v Scalar.Nothing = refl
 
 -- of a message
-pub header-read : {σ : Schema} {s : List ℕ} {h : Scalars} {r : Header}
-    → Lasting σ feedMessage s 0 (length s) (1 ∷ []) h → r ≡ toHeader h → HeaderRead σ s r
-header-read {σ} {s} {h} {r} L e = subst (HeaderRead σ s) (sym e) (record {
-  of = λ m q.
-      let p = L .of m (ap (tree σ feedMessage) (take-length s) ∙ q) in
-      λ j. record {
-        differential = (value-says s 1 (h .f2) ∙ ap (λ o. someAnd (λ n. eqb (enum n) 1) (numberIn o)) (p two)) j;
-        timestamp = (timestamp-says s (h .f3) ∙ ap numberIn (p three)) j;
-      };
-})
+header-listed : feed feedMessage 1 ≡ some (aMessage feedHeader)
+unfolding feed fieldRows
+header-listed = refl
 
-pub trip-read : {σ : Schema} {s : List ℕ} {i l : ℕ} {d u : Scalars} {r : Trip}
-    → Lasting σ feedEntity s i l (3 ∷ 1 ∷ []) d → Lasting σ feedEntity s i l (3 ∷ []) u
+pub header-read : {s : List ℕ} {d h : Scalars} {r : Header} → d ≡ blank → FieldReads 1 feedHeader s 0 d h
+    → r ≡ toHeader h → HeaderRead feed s r
+header-read {s} {d} {h} {r} b F e =
+    let L = lasting-whole s (1 ∷ []) b (record { made = F .of feedMessage header-listed; within = F .within }) in
+    subst (HeaderRead feed s) (sym e) (record {
+      of = λ m q.
+          let p = L .of m (ap (tree feed feedMessage) (take-length s) ∙ q) in
+          λ j. record {
+            differential = (value-says s 1 (h .f2) ∙ ap (λ o. someAnd (λ n. eqb (enum n) 1) (numberIn o)) (p two)) j;
+            timestamp = (timestamp-says s (h .f3) ∙ ap numberIn (p three)) j;
+          };
+    })
+
+pub trip-read : {σ : Schema} {s : List ℕ} {i l : ℕ} {d : Scalars} {u : Scalar} {r : Trip}
+    → Lasting σ feedEntity s i l (3 ∷ 1 ∷ []) d → ScalarRead σ feedEntity s i l (sub 3) 5 u
     → r ≡ toTrip d u → TripRead σ s i l r
 trip-read {σ} {s} {i} {l} {d} {u} {r} L U e = subst (TripRead σ s i l) (sym e) (record {
   of = λ m q.
@@ -89,7 +97,7 @@ trip-read {σ} {s} {i} {l} {d} {u} {r} L U e = subst (TripRead σ s i l) (sym e)
         route = (span-says s (d .f5) ∙ ap textIn (p five)) j;
         cancelled = (value-says s 3 (d .f4) ∙ ap (λ o. someAnd (λ n. eqb (enum n) 3) (numberIn o)) (p four)) j;
         direction = (direction-says s (d .f6) ∙ ap (λ o. Option·map uint32 (numberIn o)) (p six)) j;
-        delay = (delay-says s (u .f5) ∙ ap (λ o. Option·map int32 (numberIn o)) (U .of m q five)) j;
+        delay = (delay-says s u ∙ ap (λ o. Option·map int32 (numberIn o)) (U .of m q)) j;
       };
   id = span-inside (length s) (d .f1) (L .within one);
   time = span-inside (length s) (d .f2) (L .within two);
@@ -112,32 +120,56 @@ module _ {D B : Type 0} {L : Lens D B} {φ : Takes B} {t : ℕ} (s : List ℕ) {
       ∙ Q .made .of m (ap (tree feed t) (ap (drop i) e ∙ front-rest s (i + l) i l refl h) ∙ q)
 
 -- of one field, of the message itself or of those at a field merged
-pub scalar-read : {t k : ℕ} (s : List ℕ) {x : List ℕ} (i l : ℕ) {r : Scalar} → i + l ≤ length s → x ≡ take (i + l) s
-    → Reads scalar (taking (scalarAt k)) feed t x i Scalar.Nothing r → ScalarRead feed t s i l (λ m. m) k r
-scalar-read {t} {k} s i l h e Q = record {
-  of = λ m q. made-of s i l h e Q m q ∙ taking-last (scalarAt k) none m ∙ leaf-is k (last k m);
-  within = room-far s i l h e Q;
-}
+pub scalar-read : {k : ℕ} (s : List ℕ) {x : List ℕ} (i l : ℕ) {r : Scalar} → i + l ≤ length s → x ≡ take (i + l) s
+    → OneReads k x i Scalar.Nothing r → OneRead k s i l r
+scalar-read {k} s {x} i l {r} h e O t p =
+    let Q : Reads scalar (taking (scalarAt k)) feed t x i Scalar.Nothing r =
+    record { made = O .of t p; within = O .within } in
+    record {
+      of = λ m q. made-of s i l h e Q m q ∙ taking-last (scalarAt k) none m ∙ leaf-is k (last k m);
+      within = room-far s i l h e Q;
+    }
 
-pub scalar-read-in : {t a k : ℕ} (s : List ℕ) {x : List ℕ} (i l : ℕ) {r : Scalar} → i + l ≤ length s
+pub merged-read : {t a k : ℕ} (s : List ℕ) {x : List ℕ} (i l : ℕ) {r : Scalar} → i + l ≤ length s
     → x ≡ take (i + l) s → Reads scalar (inside a (taking (scalarAt k))) feed t x i Scalar.Nothing r
     → ScalarRead feed t s i l (sub a) k r
-scalar-read-in {t} {a} {k} s i l h e Q = record {
+merged-read {t} {a} {k} s i l h e Q = record {
   of = λ m q. made-of s i l h e Q m q ∙ inside-sub a (taking (scalarAt k)) none m
       ∙ taking-last (scalarAt k) none (sub a m) ∙ leaf-is k (last k (sub a m));
   within = room-far s i l h e Q;
 }
 
--- what their readers ask
+pub scalar-read-in : {a k : ℕ} (s : List ℕ) {x : List ℕ} (i l : ℕ) {r : Scalar} → i + l ≤ length s
+    → x ≡ take (i + l) s → OneReadsIn a k x i Scalar.Nothing r → OneReadIn a k s i l r
+scalar-read-in s i l h e O t u p v = merged-read s i l h e (record { made = O .of t u p v; within = O .within })
+
+-- what the readers of a message ask: it starts in the bytes up to its end
+pub starts-in : (s : List ℕ) {x : List ℕ} (i l : ℕ) → i + l ≤ length s → x ≡ take (i + l) s → i ≤ length x
+starts-in s i l h e = omega (arith, ap length e, length-take (i + l) s)
+
 pub scalar-ready : (s : List ℕ) {x : List ℕ} (i l : ℕ) → i + l ≤ length s → x ≡ take (i + l) s
     → Ready scalar x i Scalar.Nothing
-scalar-ready s i l h e = record { inside = omega (arith, ap length e, length-take (i + l) s); within = tt }
+scalar-ready s i l h e = record { inside = starts-in s i l h e; within = tt }
 
 -- of the numbers and the text of a stop_time_update
 leaf-zero : (k : ℕ) (o : Option Leaf) → leaf (orZeroAt k) 0 o ≡ orZero (numberIn o)
 leaf-zero k none = refl
 leaf-zero k (some (count n)) = refl
 leaf-zero k (some (words x)) = refl
+
+-- the number of the last scalar, 0 where it is none
+pub last-number : {k : ℕ} {s : List ℕ} {from : ℕ} {x y : Scalar} → OneReads k s from Scalar.Nothing x → x ≡ y
+    → LastNumber k s from (orZero (numberIn (said s y)))
+last-number {k} {s} {from} {x} {y} O e t p = record {
+  made = record {
+    of = λ m q.
+        ap (λ o. orZero (numberIn o))
+        (ap (said s) (sym e) ∙ O .of t (ap isScalar p) .of m q ∙ taking-last (scalarAt k) none m
+        ∙ leaf-is k (last k m))
+        ∙ sym (leaf-zero k (last k m)) ∙ sym (taking-last (orZeroAt k) 0 m);
+  };
+  within = tt;
+}
 
 leaf-text : (k : ℕ) (o : Option Leaf) → leaf (singleText k) [] o ≡ textIn o
 leaf-text k none = refl
@@ -203,6 +235,10 @@ stop-read s i l h e R = subst (StopRead feed s i l) (sym (R .is)) (record {
   stop = room-far s i l h e (R .stop);
 })
 
+pub sequence-listed : feed stopTimeUpdate 1 ≡ some aNumber
+unfolding feed fieldRows
+sequence-listed = refl
+
 pub sequence-read : (s : List ℕ) {x : List ℕ} (i l : ℕ) {n r : ℕ} → i + l ≤ length s → x ≡ take (i + l) s
     → NumberReads x i stopTimeUpdate 1 n → r ≡ uint32 n → SequenceRead feed s i l r
 sequence-read s i l h e Q g = record { of = λ m q. g ∙ ap uint32 (zero-of stopTimeUpdate 1 s i l h e m q Q) }
@@ -212,21 +248,8 @@ mark-given none = refl
 mark-given (some n) = refl
 
 pub deleted-read : (s : List ℕ) {x : List ℕ} (i l : ℕ) {n : ℕ} {r : Bool} → i + l ≤ length s → x ≡ take (i + l) s
-    → NumberReads x i feedEntity 2 n → r ≡ bool n → DeletedRead feed s i l r
-deleted-read s i l h e Q g =
-    record { of = λ m q. g ∙ ap bool (zero-of feedEntity 2 s i l h e m q Q) ∙ mark-given (numberIn (last 2 m)) }
-
--- what the two readers of one number ask
-number-ready : (t k : ℕ) (s : List ℕ) {x : List ℕ} (i l : ℕ) → feed t k ≡ some aNumber → i + l ≤ length s
-    → x ≡ take (i + l) s → NumberReady x i t k
-number-ready t k s i l g h e = record { inside = omega (arith, ap length e, length-take (i + l) s); listed = g }
-
-pub deleted-ready : (s : List ℕ) {x : List ℕ} (i l : ℕ) → i + l ≤ length s → x ≡ take (i + l) s
-    → NumberReady x i feedEntity 2
+    → LastNumber 2 x i n → r ≡ bool n → DeletedRead feed s i l r
 unfolding feed fieldRows
-deleted-ready s i l = number-ready feedEntity 2 s i l refl
-
-pub sequence-ready : (s : List ℕ) {x : List ℕ} (i l : ℕ) → i + l ≤ length s → x ≡ take (i + l) s
-    → NumberReady x i stopTimeUpdate 1
-unfolding feed fieldRows
-sequence-ready s i l = number-ready stopTimeUpdate 1 s i l refl
+deleted-read s i l h e Q g = record {
+  of = λ m q. g ∙ ap bool (zero-of feedEntity 2 s i l h e m q (Q feedEntity refl)) ∙ mark-given (numberIn (last 2 m));
+}

@@ -2,6 +2,7 @@ pub mod Fold
 pub mod Reading
 pub mod Last
 pub mod Scalars
+pub mod Seeks
 pub mod Walks
 pub mod Starts
 pub mod Turns

@@ -5,5 +5,6 @@ pub mod Scalars
 pub mod Narrow
 pub mod Numbers
 pub mod Views
+pub mod Seeks
 pub mod Walks
 pub mod Starts

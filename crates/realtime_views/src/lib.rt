@@ -1,10 +1,8 @@
 // The merged messages of a feed, read after the validator: a broken message is answered with anything.
-use realtime_read::FEED_ENTITY;
-use realtime_read::FEED_MESSAGE;
-use realtime_read::STOP_TIME_EVENT;
+use realtime_read::FEED_HEADER;
 use realtime_read::STOP_TIME_UPDATE;
 use realtime_read::Step;
-use realtime_read::TRIP_UPDATE;
+use realtime_read::TRIP_DESCRIPTOR;
 use realtime_read::fields::feed_entity;
 use realtime_read::fields::feed_message;
 use realtime_read::fields::stop_time_event;
@@ -12,28 +10,27 @@ use realtime_read::fields::stop_time_update;
 use realtime_read::fields::trip_update;
 use realtime_read::next;
 use wire::Cursor;
+use wire::GotKey;
 use wire::GotNumber;
 use wire::GotText;
+use wire::Skipped;
 ghost use mathlib.Core.Path.{_≡_};
-ghost use mathlib.Core.List.{[], _∷_};
 ghost use Prim.Native.Nat.{_+_, _≤_};
 ghost use lib.Dec.{eqb};
 ghost use lib.ListN.{length};
 ghost use mathlib.Core.Bool.{cond};
 ghost use Rattle.realtime.specs.Schema.{feed, stopTimeUpdate};
-ghost use Rattle.realtime.specs.Tree.{sub};
-ghost use Rattle.realtime_views.specs.promises.Fold.{inside};
-ghost use Rattle.realtime_views.specs.promises.Last.{taking};
 ghost use Rattle.realtime_views.specs.promises.Reading.{Ready, Reads};
-ghost use Rattle.realtime_views.specs.promises.Scalars.{ScalarRead, TripReads, TripReady, UpdateReads, blank};
-ghost use Rattle.realtime_views.specs.promises.Scalars.{kept, own, scalar, scalarAt, scalars, takesAlong};
+ghost use Rattle.realtime_views.specs.promises.Seeks.{Seeks};
+ghost use Rattle.realtime_views.specs.promises.Scalars.{FieldReads, OneRead, OneReadIn, OneReads, OneReadsIn};
+ghost use Rattle.realtime_views.specs.promises.Scalars.{TripReads, TripReady, UpdateReads, blank, kept, own};
+ghost use Rattle.realtime_views.specs.promises.Scalars.{scalar, scalars};
 ghost use Rattle.realtime_views.specs.promises.Narrow.{isValue, toDelay, toDirection, toHeader, toSpan};
 ghost use Rattle.realtime_views.specs.promises.Narrow.{toTimestamp, toTrip};
-ghost use Rattle.realtime_views.specs.promises.Numbers.{EventReads, NumberReads, NumberReady, StopReads, isPart};
+ghost use Rattle.realtime_views.specs.promises.Numbers.{EventReads, LastNumber, NumberReads, StopReads, isPart};
 ghost use Rattle.realtime_views.specs.promises.Numbers.{fromDelay, fromEvent, fromStop, fromTime, noNumbers};
 ghost use Rattle.realtime.specs.Typed as typed;
-ghost use Rattle.realtime_views.specs.promises.Walks.{NextEntity, NextUpdate, SoundWalk, Walks, Yields, met};
-ghost use Rattle.realtime_views.specs.promises.Walks.{typeOf};
+ghost use Rattle.realtime_views.specs.promises.Walks.{NextEntity, NextItem, NextUpdate, SoundWalk};
 ghost use Rattle.realtime_views.specs.promises.Starts.{atItems, atMerged, atPlain};
 ghost use Rattle.realtime_views.specs.promises.Views.{DeletedRead, HeaderRead, SequenceRead, StopRead, TripRead};
 
@@ -54,9 +51,6 @@ const DEPARTURE_KEY: u8 = 26;
 const STOP_KEY: u8 = 34;
 
 const RELATIONSHIP_KEY: u8 = 40;
-
-// And that of a trip_update's stop_time_updates.
-const UPDATE_KEY: u8 = 18;
 
 // No field has this number.
 pub const NO_FIELD: u64 = 0;
@@ -145,123 +139,138 @@ fn over_message(s: &[u8], from: usize, message: u64, before: Scalars) -> Scalars
     }
 }
 
-// The same of the messages at field `a`, all merged.
-fn over_field(s: &[u8], from: usize, message: u64, a: u64, before: Scalars) -> Scalars
+// Where the next message at a field stands.
+pub enum Met {
+    // start, length, next place
+    Sought(usize, usize, usize),
+    End,
+}
+
+// The next message at field `k`, from a boundary between two fields on. What else stands there is passed by its wire
+// type, whatever is listed: a call for each field, and what it answers through memory, takes twice the time.
+fn seek(s: &[u8], from: usize, k: u64) -> Met
+    ensures { λ r. ⌜ Seeks feed k (now (s .entry)) from r ⌝ }
+{
+    let mut at = from;
+    while at < s.len() {
+        let here = Cursor { at };
+        let GotKey::Read(field, wire, next) = here.key(s) else {
+            return Met::End;
+        };
+        if wire == wire::LEN {
+            let GotText::Read(start, len, after) = next.text(s) else {
+                return Met::End;
+            };
+            if field == k {
+                return Met::Sought(start, len, after.at);
+            }
+            at = after.at;
+        } else {
+            let Skipped::Past(after) = realtime_read::past(s, next, field, wire) else {
+                return Met::End;
+            };
+            at = after.at;
+        }
+    }
+    Met::End
+}
+
+// The last values of the messages at field `a`, of type `inner`, all merged.
+fn over_field(s: &[u8], from: usize, a: u64, inner: u64, before: Scalars) -> Scalars
     requires { ⌜ Ready scalars (now s) from before ⌝ }
-    ensures { λ r. ⌜ Reads scalars (takesAlong (a ∷ [])) feed message (now (s .entry)) from before r ⌝ }
+    ensures { λ r. ⌜ FieldReads a inner (now (s .entry)) from before r ⌝ }
 {
     let mut at = from;
     let mut d = before;
     loop {
-        match next(s, at, message) {
-            Step::Broken => return d,
-            Step::End => return d,
-            Step::Number(_, _, after) => {
-                at = after;
-            }
-            Step::Text(_, _, _, after) => {
-                at = after;
-            }
-            Step::Message(field, inner, start, _, after) => {
-                if field == a {
-                    d = over_message(slices::part(s, 0, after), start, inner, d);
-                }
-                at = after;
-            }
-        }
+        let Met::Sought(start, _, after) = seek(s, at, a) else {
+            return d;
+        };
+        d = over_message(slices::part(s, 0, after), start, inner, d);
+        at = after;
     }
 }
 
 // The last value of field `k` alone, from `from` to the end, over what is known already.
-fn over_scalar(s: &[u8], from: usize, message: u64, k: u64, before: Scalar) -> Scalar
+fn over_scalar(s: &[u8], from: usize, k: u64, before: Scalar) -> Scalar
     requires { ⌜ Ready scalar (now s) from before ⌝ }
-    ensures { λ r. ⌜ Reads scalar (taking (scalarAt k)) feed message (now (s .entry)) from before r ⌝ }
+    ensures { λ r. ⌜ OneReads k (now (s .entry)) from before r ⌝ }
 {
     let mut at = from;
     let mut d = before;
-    loop {
-        match next(s, at, message) {
-            Step::Broken => return d,
-            Step::End => return d,
-            Step::Number(field, value, after) => {
-                if field == k {
-                    d = Scalar::Number(value);
-                }
-                at = after;
+    while at < s.len() {
+        let here = Cursor { at };
+        let GotKey::Read(field, wire, next) = here.key(s) else {
+            return d;
+        };
+        if wire == wire::LEN {
+            let GotText::Read(start, len, after) = next.text(s) else {
+                return d;
+            };
+            if field == k {
+                d = Scalar::Text { start, len };
             }
-            Step::Text(field, start, len, after) => {
-                if field == k {
-                    d = Scalar::Text { start, len };
-                }
-                at = after;
+            at = after.at;
+        } else if wire == wire::VARINT {
+            let GotNumber::Read(value, after) = next.number(s) else {
+                return d;
+            };
+            if field == k {
+                d = Scalar::Number(value);
             }
-            Step::Message(_, _, _, _, after) => {
-                at = after;
-            }
+            at = after.at;
+        } else {
+            let Skipped::Past(after) = realtime_read::past(s, next, field, wire) else {
+                return d;
+            };
+            at = after.at;
         }
     }
+    d
 }
 
 // The same of the messages at field `a`, all merged.
-fn over_scalar_in(s: &[u8], from: usize, message: u64, a: u64, k: u64, before: Scalar) -> Scalar
+fn over_scalar_in(s: &[u8], from: usize, a: u64, k: u64, before: Scalar) -> Scalar
     requires { ⌜ Ready scalar (now s) from before ⌝ }
-    ensures { λ r. ⌜ Reads scalar (inside a (taking (scalarAt k))) feed message (now (s .entry)) from before r ⌝ }
+    ensures { λ r. ⌜ OneReadsIn a k (now (s .entry)) from before r ⌝ }
 {
     let mut at = from;
     let mut d = before;
     loop {
-        match next(s, at, message) {
-            Step::Broken => return d,
-            Step::End => return d,
-            Step::Number(_, _, after) => {
-                at = after;
-            }
-            Step::Text(_, _, _, after) => {
-                at = after;
-            }
-            Step::Message(field, inner, start, _, after) => {
-                if field == a {
-                    d = over_scalar(slices::part(s, 0, after), start, inner, k, d);
-                }
-                at = after;
-            }
-        }
+        let Met::Sought(start, _, after) = seek(s, at, a) else {
+            return d;
+        };
+        d = over_scalar(slices::part(s, 0, after), start, k, d);
+        at = after;
     }
 }
 
 // Of a message in `len` bytes at `start`: the last value of field `k`.
-pub fn scalar_at(s: &[u8], start: usize, len: usize, message: u64, k: u64) -> Scalar
+pub fn scalar_at(s: &[u8], start: usize, len: usize, k: u64) -> Scalar
     requires { ⌜ start + len ≤ length (now s) ⌝ }
-    ensures { λ r. ⌜ ScalarRead feed message (now (s .entry)) start len (λ m. m) k r ⌝ }
+    ensures { λ r. ⌜ OneRead k (now (s .entry)) start len r ⌝ }
 {
-    over_scalar(
-        slices::part(s, 0, start + len),
-        start,
-        message,
-        k,
-        Scalar::Nothing,
-    )
+    over_scalar(slices::part(s, 0, start + len), start, k, Scalar::Nothing)
 }
 
 // And that of the messages at field `a`, all merged.
-pub fn scalar_in(s: &[u8], start: usize, len: usize, message: u64, a: u64, k: u64) -> Scalar
+pub fn scalar_in(s: &[u8], start: usize, len: usize, a: u64, k: u64) -> Scalar
     requires { ⌜ start + len ≤ length (now s) ⌝ }
-    ensures { λ r. ⌜ ScalarRead feed message (now (s .entry)) start len (sub a) k r ⌝ }
+    ensures { λ r. ⌜ OneReadIn a k (now (s .entry)) start len r ⌝ }
 {
     over_scalar_in(
         slices::part(s, 0, start + len),
         start,
-        message,
         a,
         k,
         Scalar::Nothing,
     )
 }
 
-// Of the trip_updates of an entity: the last values of their trips, and their own.
+// Of the trip_updates of an entity: the last values of their trips, and the last delay.
 pub struct TripScalars {
     pub trip: Scalars,
-    pub update: Scalars,
+    pub delay: Scalar,
 }
 
 // Of one trip_update, in one walk, over what is known already.
@@ -271,27 +280,37 @@ fn over_update(s: &[u8], from: usize, before: TripScalars) -> TripScalars
 {
     let mut at = from;
     let mut trip = before.trip;
-    let mut update = before.update;
-    loop {
-        match next(s, at, TRIP_UPDATE) {
-            Step::Broken => return TripScalars { trip, update },
-            Step::End => return TripScalars { trip, update },
-            Step::Number(field, value, after) => {
-                update = keep(update, field, Scalar::Number(value));
-                at = after;
+    let mut delay = before.delay;
+    while at < s.len() {
+        let here = Cursor { at };
+        let GotKey::Read(field, wire, next) = here.key(s) else {
+            return TripScalars { trip, delay };
+        };
+        if wire == wire::LEN {
+            let GotText::Read(start, _, after) = next.text(s) else {
+                return TripScalars { trip, delay };
+            };
+            let end = after.at;
+            if field == trip_update::TRIP {
+                trip = over_message(slices::part(s, 0, end), start, TRIP_DESCRIPTOR, trip);
             }
-            Step::Text(field, start, len, after) => {
-                update = keep(update, field, Scalar::Text { start, len });
-                at = after;
+            at = end;
+        } else if wire == wire::VARINT {
+            let GotNumber::Read(value, after) = next.number(s) else {
+                return TripScalars { trip, delay };
+            };
+            if field == trip_update::DELAY {
+                delay = Scalar::Number(value);
             }
-            Step::Message(field, inner, start, _, after) => {
-                if field == trip_update::TRIP {
-                    trip = over_message(slices::part(s, 0, after), start, inner, trip);
-                }
-                at = after;
-            }
+            at = after.at;
+        } else {
+            let Skipped::Past(after) = realtime_read::past(s, next, field, wire) else {
+                return TripScalars { trip, delay };
+            };
+            at = after.at;
         }
     }
+    TripScalars { trip, delay }
 }
 
 // Of all those of an entity.
@@ -302,25 +321,14 @@ fn over_updates(s: &[u8], from: usize) -> TripScalars
     let mut at = from;
     let mut d = TripScalars {
         trip: nothing(),
-        update: nothing(),
+        delay: Scalar::Nothing,
     };
     loop {
-        match next(s, at, FEED_ENTITY) {
-            Step::Broken => return d,
-            Step::End => return d,
-            Step::Number(_, _, after) => {
-                at = after;
-            }
-            Step::Text(_, _, _, after) => {
-                at = after;
-            }
-            Step::Message(field, _, start, _, after) => {
-                if field == feed_entity::TRIP_UPDATE {
-                    d = over_update(slices::part(s, 0, after), start, d);
-                }
-                at = after;
-            }
-        }
+        let Met::Sought(start, _, after) = seek(s, at, feed_entity::TRIP_UPDATE) else {
+            return d;
+        };
+        d = over_update(slices::part(s, 0, after), start, d);
+        at = after;
     }
 }
 
@@ -467,9 +475,9 @@ fn header_from(h: Scalars) -> Header
     }
 }
 
-// The trip of a descriptor's scalars and of those of its trip_update.
-fn trip_from(d: Scalars, u: Scalars) -> Trip
-    ensures { λ r. ⌜ r ≡ toTrip d u ⌝ }
+// The trip of a descriptor's scalars and of its trip_update's delay.
+fn trip_from(d: Scalars, delay: Scalar) -> Trip
+    ensures { λ r. ⌜ r ≡ toTrip d delay ⌝ }
 {
     let id = d.f1;
     let time = d.f2;
@@ -477,7 +485,6 @@ fn trip_from(d: Scalars, u: Scalars) -> Trip
     let relationship = d.f4;
     let route = d.f5;
     let direction = d.f6;
-    let delay = u.f5;
     Trip {
         id: span_of(id),
         time: span_of(time),
@@ -518,26 +525,29 @@ fn over_event(s: &[u8], from: usize, before: EventNumbers) -> EventNumbers
     let mut at = from;
     let mut delay = before.delay;
     let mut time = before.time;
-    loop {
-        match next(s, at, STOP_TIME_EVENT) {
-            Step::Broken => return EventNumbers { delay, time },
-            Step::End => return EventNumbers { delay, time },
-            Step::Number(field, value, after) => {
-                if field == stop_time_event::DELAY {
-                    delay = Number { given: 1, value };
-                } else if field == stop_time_event::TIME {
-                    time = Number { given: 1, value };
-                }
-                at = after;
+    while at < s.len() {
+        let here = Cursor { at };
+        let GotKey::Read(field, wire, next) = here.key(s) else {
+            return EventNumbers { delay, time };
+        };
+        if wire == wire::VARINT {
+            let GotNumber::Read(value, after) = next.number(s) else {
+                return EventNumbers { delay, time };
+            };
+            if field == stop_time_event::DELAY {
+                delay = Number { given: 1, value };
+            } else if field == stop_time_event::TIME {
+                time = Number { given: 1, value };
             }
-            Step::Text(_, _, _, after) => {
-                at = after;
-            }
-            Step::Message(_, _, _, _, after) => {
-                at = after;
-            }
+            at = after.at;
+        } else {
+            let Skipped::Past(after) = realtime_read::past(s, next, field, wire) else {
+                return EventNumbers { delay, time };
+            };
+            at = after.at;
         }
     }
+    EventNumbers { delay, time }
 }
 
 fn delay_from(n: Number) -> Delay
@@ -676,29 +686,14 @@ fn over_stop(s: &[u8], from: usize) -> StopUpdate
 }
 
 // The last number at field `k` of a message from `from` to the end, 0 where there is none.
-fn last_number(s: &[u8], from: usize, message: u64, k: u64) -> u64
-    requires { ⌜ NumberReady (now s) from message k ⌝ }
-    ensures { λ r. ⌜ NumberReads (now (s .entry)) from message k r ⌝ }
+fn last_number(s: &[u8], from: usize, k: u64) -> u64
+    requires { ⌜ from ≤ length (now s) ⌝ }
+    ensures { λ r. ⌜ LastNumber k (now (s .entry)) from r ⌝ }
 {
-    let mut at = from;
-    let mut last: u64 = 0;
-    loop {
-        match next(s, at, message) {
-            Step::Broken => return last,
-            Step::End => return last,
-            Step::Number(field, value, after) => {
-                if field == k {
-                    last = value;
-                }
-                at = after;
-            }
-            Step::Text(_, _, _, after) => {
-                at = after;
-            }
-            Step::Message(_, _, _, _, after) => {
-                at = after;
-            }
-        }
+    match over_scalar(s, from, k, Scalar::Nothing) {
+        Scalar::Number(n) => n,
+        Scalar::Text { start: _, len: _ } => 0,
+        Scalar::Nothing => 0,
     }
 }
 
@@ -717,15 +712,15 @@ fn is_part(b: u8) -> bool
 
 // The last sequence, whatever the keys.
 fn any_sequence(s: &[u8], from: usize) -> u64
-    requires { ⌜ NumberReady (now s) from stopTimeUpdate 1 ⌝ }
+    requires { ⌜ from ≤ length (now s) ⌝ }
     ensures { λ r. ⌜ NumberReads (now (s .entry)) from stopTimeUpdate 1 r ⌝ }
 {
-    last_number(s, from, STOP_TIME_UPDATE, stop_time_update::STOP_SEQUENCE)
+    last_number(s, from, stop_time_update::STOP_SEQUENCE)
 }
 
 // The last sequence of a stop_time_update from `from` to the end, by the bytes of its keys as in `over_stop`.
 fn last_sequence(s: &[u8], from: usize) -> u64
-    requires { ⌜ NumberReady (now s) from stopTimeUpdate 1 ⌝ }
+    requires { ⌜ from ≤ length (now s) ⌝ }
     ensures { λ r. ⌜ NumberReads (now (s .entry)) from stopTimeUpdate 1 r ⌝ }
 {
     let mut at = from;
@@ -760,7 +755,7 @@ fn last_sequence(s: &[u8], from: usize) -> u64
 pub fn header_of(s: &[u8]) -> Header
     ensures { λ r. ⌜ HeaderRead feed (now (s .entry)) r ⌝ }
 {
-    header_from(over_field(s, 0, FEED_MESSAGE, feed_message::HEADER, nothing()))
+    header_from(over_field(s, 0, feed_message::HEADER, FEED_HEADER, nothing()))
 }
 
 // Of an entity in `len` bytes at `start`: whether it is deleted.
@@ -769,7 +764,7 @@ pub fn is_deleted(s: &[u8], start: usize, len: usize) -> bool
     ensures { λ r. ⌜ DeletedRead feed (now (s .entry)) start len r ⌝ }
 {
     let entity = slices::part(s, 0, start + len);
-    last_number(entity, start, FEED_ENTITY, feed_entity::IS_DELETED) != 0
+    last_number(entity, start, feed_entity::IS_DELETED) != 0
 }
 
 // And its trip, merged from all its trip_updates.
@@ -779,8 +774,8 @@ pub fn trip_of(s: &[u8], start: usize, len: usize) -> Trip
 {
     let d = over_updates(slices::part(s, 0, start + len), start);
     let trip = d.trip;
-    let update = d.update;
-    trip_from(trip, update)
+    let delay = d.delay;
+    trip_from(trip, delay)
 }
 
 // A stop_time_update in `len` bytes at `start`.
@@ -817,64 +812,29 @@ pub enum Item {
     Done,
 }
 
-// What a step meets, where messages at one field are looked for.
-pub enum Met {
-    // start, length, next place
-    Sought(usize, usize, usize),
-    // next place
-    Other(usize),
-    End,
-    Broken,
-}
-
-fn meet(k: u64, step: Step) -> Met
-    ensures { λ r. ⌜ r ≡ met k step ⌝ }
-{
-    match step {
-        Step::Broken => Met::Broken,
-        Step::End => Met::End,
-        Step::Number(_, _, after) => Met::Other(after),
-        Step::Text(_, _, _, after) => Met::Other(after),
-        Step::Message(field, _, start, len, after) => {
-            if field == k {
-                return Met::Sought(start, len, after);
-            }
-            Met::Other(after)
-        }
-    }
-}
-
-// The next message at field `k` of those of type `inner` at field `a` of a message.
-pub fn next_item(s: &[u8], message: u64, a: u64, inner: u64, k: u64, walk: Walk) -> Item
-    requires { ⌜ Walks feed message a inner (now s) walk ⌝ }
-    ensures { λ r. ⌜ Yields feed message a inner k (typeOf (feed inner k)) (now (s .entry)) walk r ⌝ }
+// The next message at field `k` of those at field `a` of a message.
+pub fn next_item(s: &[u8], a: u64, k: u64, walk: Walk) -> Item
+    requires { ⌜ SoundWalk (now s) (walk .outer) (walk .end) (walk .at) ⌝ }
+    ensures { λ r. ⌜ NextItem a k (now (s .entry)) walk r ⌝ }
 {
     let mut outer = walk.outer;
     let mut end = walk.end;
     let mut at = walk.at;
     loop {
-        match meet(k, next(slices::part(s, 0, end), at, inner)) {
-            Met::Broken => return Item::Done,
-            Met::Other(after) => {
-                at = after;
-            }
+        match seek(slices::part(s, 0, end), at, k) {
             Met::Sought(start, len, after) => {
                 at = after;
                 let walk = Walk { outer, end, at };
                 return Item::At { start, len, walk };
             }
-            Met::End => match meet(a, next(s, outer, message)) {
-                Met::Broken => return Item::Done,
-                Met::End => return Item::Done,
-                Met::Other(after) => {
-                    outer = after;
-                }
-                Met::Sought(start, _, after) => {
-                    at = start;
-                    end = after;
-                    outer = after;
-                }
-            },
+            Met::End => {
+                let Met::Sought(start, _, after) = seek(s, outer, a) else {
+                    return Item::Done;
+                };
+                at = start;
+                end = after;
+                outer = after;
+            }
         }
     }
 }
@@ -901,14 +861,7 @@ pub fn next_entity(s: &[u8], walk: Walk) -> Item
     requires { ⌜ SoundWalk (now s) (walk .outer) (walk .end) (walk .at) ⌝ }
     ensures { λ r. ⌜ NextEntity (now (s .entry)) walk r ⌝ }
 {
-    next_item(
-        s,
-        FEED_MESSAGE,
-        NO_FIELD,
-        FEED_MESSAGE,
-        feed_message::ENTITY,
-        walk,
-    )
+    next_item(s, NO_FIELD, feed_message::ENTITY, walk)
 }
 
 // Those in all the messages at a field of one that starts at `start`, merged, one after the other.
@@ -922,33 +875,13 @@ pub fn merged_items(start: usize) -> Walk
     }
 }
 
-// The key of the next is looked at first: it stands there as a rule.
 pub fn next_update(s: &[u8], walk: Walk) -> Item
     requires { ⌜ SoundWalk (now s) (walk .outer) (walk .end) (walk .at) ⌝ }
     ensures { λ r. ⌜ NextUpdate (now (s .entry)) walk r ⌝ }
 {
-    let at = walk.at;
-    let end = walk.end;
-    if at < end {
-        if s[at] == UPDATE_KEY {
-            let here = Cursor { at: at + 1 };
-            let GotText::Read(start, len, after) = here.text(slices::part(s, 0, end)) else {
-                return Item::Done;
-            };
-            let outer = walk.outer;
-            let walk = Walk {
-                outer,
-                end,
-                at: after.at,
-            };
-            return Item::At { start, len, walk };
-        }
-    }
     next_item(
         s,
-        FEED_ENTITY,
         feed_entity::TRIP_UPDATE,
-        TRIP_UPDATE,
         trip_update::STOP_TIME_UPDATE,
         walk,
     )

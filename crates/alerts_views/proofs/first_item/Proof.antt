@@ -14,9 +14,9 @@ first-item-spec =
     (λ c κs. search needs)
     (λ c κs. let start = c .before .before .before in
     let a = start .args in
-    first-walks (a .outer) (a .k) (now (a .message)) (a .start) (a .len) (start .pre) (c .before .items .ensures)
+    first-walks (a .k) (now (a .message)) (a .start) (a .len) (start .pre) (c .before .items .ensures)
     (c .part .ensures))
     (λ c. let start = c .before .before .before .before in
     let a = start .args in
-    first-read (a .outer) (a .k) (now (a .message)) (a .start) (a .len) (start .pre)
+    first-read (a .k) (now (a .message)) (a .start) (a .len) (start .pre)
     (c .before .before .items .ensures) (c .before .part .ensures) (c .next-item .ensures)))

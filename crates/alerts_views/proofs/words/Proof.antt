@@ -6,17 +6,18 @@ use native.Mathlib.Omega.{arith}
 use denote.Ref.{now}
 use lib.ListN.{take}
 use Rattle.realtime_views.specs.promises.Walks.{ahead}
+use Rattle.alerts_views.specs.promises.Words.{Worded}
 use Rattle.realtime_views.specs.laws.Turns.{walks, there, less}
-use Rattle.alerts_views.proofs.Wording.{Wording, wording, alert-walks, wordless, wording-on, worded}
-use Rattle.alerts_views.proofs.Wording.{worded-small, first-there}
+use Rattle.alerts_views.proofs.Wording.{Wording, wording, strings-of, wordless, wording-on, worded}
+use Rattle.alerts_views.proofs.Wording.{first-there}
 use Rattle.alerts_views.proofs.words.Statement.{statement}
 use Rattle.alerts_views.proofs.words.Tie as tie
 
 abbrev Inv-loop : tie.InvT-loop
-Inv-loop message start len k text end walk₀ walk = Wording message start len k walk
+Inv-loop message start len k end walk₀ walk = Wording message start len k walk
 
 abbrev μ-loop : tie.MeasureT-loop
-μ-loop message start len k text end walk₀ walk = ahead (take (start + len) message) walk
+μ-loop message start len k end walk₀ walk = ahead (take (start + len) message) walk
 
 loop-holds : tie.Need-loop-holds Inv-loop μ-loop
 loop-holds c =
@@ -24,24 +25,29 @@ loop-holds c =
     let a = start .args in
     wording (now (a .message)) (a .start) (a .len) (a .k) (start .pre .0) (c .merged-items .ensures)
 
+-- a string was looked for: the loop's turn, the field's words, and the answer
+abbrev Sought : Type 0
+Sought = tie.After-next-item Inv-loop μ-loop
+
+abbrev turn : Sought → tie.At-loop Inv-loop μ-loop
+turn c = c .before .before
+
+listed : (c : Sought) → Worded (turn c .before .before .before .args .k)
+listed c = turn c .before .before .before .pre .1
+
 returns : tie.Need-returns Inv-loop μ-loop
 returns c =
-    let at-next-item = c .before .before in
-    wordless (at-next-item .before .before .loop .inv) (at-next-item .before .part .ensures)
-    (at-next-item .next-item .ensures) (c .enum-told .given .1)
+    let n = c .before .before in
+    wordless (turn n .loop .inv) (listed n) (n .before .part .ensures)
+    (strings-of (turn n .loop .inv) (listed n) (n .before .part .ensures) (n .next-item .ensures))
+    (c .enum-told .given .1)
 
 first-item-requires : tie.Need-first-item-requires Inv-loop μ-loop
 first-item-requires c κs =
-    let at-next-item = c .before .before .before in
-    there (at-next-item .before .before .loop .inv) (at-next-item .before .part .ensures)
-    (at-next-item .next-item .ensures) (c .before .found .given .1)
-
-add-text-of : tie.Need-add-text-of Inv-loop μ-loop
-add-text-of c =
-    let at-first-item = c .before .before .before in
-    let at-next-item = at-first-item .before .before .before .before in
-    let turn = at-next-item .before .before in
-    search (needs, worded-small (turn .before .before .before .pre .1))
+    let n = c .before .before .before in
+    there (turn n .loop .inv) (n .before .part .ensures)
+    (strings-of (turn n .loop .inv) (listed n) (n .before .part .ensures) (n .next-item .ensures))
+    (c .before .found .given .1)
 
 text-of-requires : tie.Need-text-of-requires Inv-loop μ-loop
 text-of-requires c κs =
@@ -52,28 +58,28 @@ returns-2 : tie.Need-returns-2 Inv-loop μ-loop
 returns-2 c =
     let at-first-item = c .before .before .before .before in
     let at-found = at-first-item .before .before in
-    let at-next-item = at-found .before .before in
-    let turn = at-next-item .before .before in
-    worded (turn .loop .inv) (at-next-item .before .part .ensures) (at-next-item .next-item .ensures)
-    (turn .before .before .before .pre .1) (at-found .found .given .1) (at-first-item .first-item .ensures)
-    (c .before .before .j .given .1) (c .text-of .ensures)
+    let n = at-found .before .before in
+    worded (turn n .loop .inv) (listed n) (n .before .part .ensures)
+    (strings-of (turn n .loop .inv) (listed n) (n .before .part .ensures) (n .next-item .ensures))
+    (at-found .found .given .1) (at-first-item .first-item .ensures) (c .before .before .j .given .1)
+    (c .text-of .ensures)
 
 loop-less : tie.Need-loop-less Inv-loop μ-loop
 loop-less c =
     let at-found = c .before .before .before .before in
-    let at-next-item = at-found .before .before in
-    less (at-next-item .before .before .loop .inv) (at-next-item .before .part .ensures)
-    (at-next-item .next-item .ensures) (at-found .found .given .1)
+    let n = at-found .before .before in
+    less (turn n .loop .inv) (n .before .part .ensures)
+    (strings-of (turn n .loop .inv) (listed n) (n .before .part .ensures) (n .next-item .ensures))
+    (at-found .found .given .1)
 
 loop-again : tie.Need-loop-again Inv-loop μ-loop
 loop-again c =
     let at-first-item = c .before .before in
     let at-found = at-first-item .before .before in
-    let at-next-item = at-found .before .before in
-    let turn = at-next-item .before .before in
-    wording-on (turn .loop .inv) (at-next-item .before .part .ensures) (at-next-item .next-item .ensures)
-    (turn .before .before .before .pre .1) (at-found .found .given .1) (at-first-item .first-item .ensures)
-    (c .enum-told2 .given .1)
+    let n = at-found .before .before in
+    wording-on (turn n .loop .inv) (listed n) (n .before .part .ensures)
+    (strings-of (turn n .loop .inv) (listed n) (n .before .part .ensures) (n .next-item .ensures))
+    (at-found .found .given .1) (at-first-item .first-item .ensures) (c .enum-told2 .given .1)
 
 pub words-spec : {M : Type 1} → statement M
 words-spec =
@@ -85,13 +91,12 @@ words-spec =
     (λ c κs. search needs)
     loop-holds
     (λ c κs. omega (arith, c .before .before .before .pre .0))
-    (λ c κs. alert-walks (walks (c .before .loop .inv) (c .part .ensures)))
+    (λ c κs. walks (c .before .loop .inv) (c .part .ensures))
     (λ c. search needs)
     (λ c. search needs)
     returns
     first-item-requires
     (λ c. search needs)
-    add-text-of
     text-of-requires
     returns-2
     (λ c. search needs)

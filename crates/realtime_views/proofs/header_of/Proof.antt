@@ -3,10 +3,9 @@ use borrow.Author.Needs.{needs}
 use native.Mathlib.Omega.{arith}
 use denote.Ref.{now}
 use mathlib.Core.Path.{sym, subst}
-use mathlib.Core.List.{[], _∷_}
 use Rattle.realtime_views.specs.promises.Reading.{Ready}
 use Rattle.realtime_views.specs.promises.Scalars.{scalars}
-use Rattle.realtime_views.proofs.Reader.{blank-start, lasting-whole}
+use Rattle.realtime_views.proofs.Reader.{blank-start}
 use Rattle.realtime_views.proofs.Typing.{header-read}
 use Rattle.realtime_views.proofs.header_of.Statement.{statement}
 use Rattle.realtime_views.proofs.header_of.Tie as tie
@@ -19,6 +18,4 @@ header-of-spec =
     (λ c κs. subst (Ready scalars (now (c .before .before .args .s)) 0) (sym (c .nothing .ensures))
     (blank-start (now (c .before .before .args .s)) 0 (omega arith)))
     (λ c κs. search needs)
-    (λ c. header-read
-    (lasting-whole (now (c .before .before .before .before .args .s)) (1 ∷ [])
-    (c .before .before .nothing .ensures) (c .before .over-field .ensures)) (c .header-from .ensures)))
+    (λ c. header-read (c .before .before .nothing .ensures) (c .before .over-field .ensures) (c .header-from .ensures)))

@@ -2,7 +2,7 @@
 use borrow.Author.Needs.{needs}
 use denote.Ref.{now}
 use mathlib.Core.Path.{refl}
-use Rattle.realtime_views.proofs.Typing.{deleted-ready, deleted-read}
+use Rattle.realtime_views.proofs.Typing.{starts-in, deleted-read}
 use Rattle.realtime_views.proofs.is_deleted.Statement.{statement}
 use Rattle.realtime_views.proofs.is_deleted.Tie as tie
 
@@ -13,7 +13,7 @@ is-deleted-spec =
     (λ c. search needs)
     (λ c κs. search needs)
     (λ c κs. let a = c .before .before .args in
-    deleted-ready (now (a .s)) (a .start) (a .len) (c .before .before .pre) (c .part .ensures))
+    starts-in (now (a .s)) (a .start) (a .len) (c .before .before .pre) (c .part .ensures))
     (λ c. let a = c .before .before .before .args in
     deleted-read (now (a .s)) (a .start) (a .len) (c .before .before .before .pre) (c .before .part .ensures)
     (c .last-number .ensures) refl))

@@ -20,7 +20,7 @@ last-sequence-spec =
     (tie.spec
     Inv-loop
     μ-loop
-    (λ c. begins (record { inside = c .before .pre .inside; within = tt }))
+    (λ c. begins (record { inside = c .before .pre; within = tt }))
     (λ c. search needs)
     (λ c. search needs)
     (λ c κs. search needs)

@@ -8,7 +8,7 @@ use lib.ListN.{length, length-take}
 use mathlib.Core.Path.{refl, ap}
 use mathlib.Core.List.{[], _∷_}
 use Rattle.realtime_views.proofs.Reader.{lasting}
-use Rattle.realtime_views.proofs.Typing.{trip-read}
+use Rattle.realtime_views.proofs.Typing.{merged-read, trip-read}
 use Rattle.realtime_views.proofs.trip_of.Statement.{statement}
 use Rattle.realtime_views.proofs.trip_of.Tie as tie
 
@@ -21,10 +21,9 @@ trip-of-spec =
     (λ c κs. let a = c .before .before .args in
     omega (arith, ap length (c .part .ensures), length-take (a .start + a .len) (now (a .s)), c .before .before .pre))
     (λ c κs. search needs)
-    (λ c. trip-read
-    (lasting (3 ∷ 1 ∷ []) (c .before .before .before .before .before .before .pre)
-    (c .before .before .before .before .part .ensures) refl
-    (c .before .before .before .over-updates .ensures .trip))
-    (lasting (3 ∷ []) (c .before .before .before .before .before .before .pre)
-    (c .before .before .before .before .part .ensures) refl
-    (c .before .before .before .over-updates .ensures .update)) (c .trip-from .ensures)))
+    (λ c. let u = c .before .before in
+    let p = u .before in
+    let a = p .before .before in
+    trip-read (lasting (3 ∷ 1 ∷ []) (a .pre) (p .part .ensures) refl (u .over-updates .ensures .trip))
+    (merged-read (now (a .args .s)) (a .args .start) (a .args .len) (a .pre) (p .part .ensures)
+    (u .over-updates .ensures .delay)) (c .trip-from .ensures)))

@@ -42,13 +42,13 @@ isValue v Scalar.Nothing = false
 abbrev pub toHeader : Scalars → Header
 toHeader h = record { differential = isValue 1 (h .f2); timestamp = toTimestamp (h .f3) }
 
-abbrev pub toTrip : Scalars → Scalars → Trip
-toTrip d u = record {
+abbrev pub toTrip : Scalars → Scalar → Trip
+toTrip d x = record {
   id = toSpan (d .f1);
   time = toSpan (d .f2);
   date = toSpan (d .f3);
   route = toSpan (d .f5);
   cancelled = isValue 3 (d .f4);
   direction = toDirection (d .f6);
-  delay = toDelay (u .f5);
+  delay = toDelay x;
 }

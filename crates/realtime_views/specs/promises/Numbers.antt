@@ -6,7 +6,7 @@ use mathlib.Core.Bool.{Bool, cond, _||_}
 use mathlib.Core.Option.{Option, none, some}
 use native.Mathlib.Omega.{arith}
 use lib.Dec.{eqb}
-use lib.ListN.{length, take, drop}
+use lib.ListN.{take, drop}
 use Rattle.realtime.specs.Tree.{aNumber}
 use Rattle.realtime.specs.Schema.{feed, stopTimeUpdate, stopTimeEvent}
 use Rattle.realtime_views.specs.promises.Fold.{inside}
@@ -100,13 +100,13 @@ pub record EventsRead (j : ℕ) (s : List ℕ) (from : ℕ) (r : EventNumbers) :
   pub delay : Reads (plain valueOf) (inside j (taking delay)) feed stopTimeUpdate s from noNumber (r .delay)
   pub time : Reads (plain valueOf) (inside j (taking time)) feed stopTimeUpdate s from noNumber (r .time)
 
--- for a number at field k of a message of type t, which is listed
-pub record NumberReady (s : List ℕ) (from t k : ℕ) : Type 0 where
-  pub inside : from ≤ length s
-  pub listed : feed t k ≡ some aNumber
-
+-- for a number at field k of a message of type t
 abbrev pub NumberReads : List ℕ → ℕ → ℕ → ℕ → ℕ → Type 0
 NumberReads s from t k r = Reads (plain (λ n. n)) (taking (orZeroAt k)) feed t s from 0 r
+
+-- in every type that lists it as a number
+abbrev pub LastNumber : ℕ → List ℕ → ℕ → ℕ → Type 0
+LastNumber k s from r = (t : ℕ) → feed t k ≡ some aNumber → NumberReads s from t k r
 
 -- the keys of its messages and of its text, a byte each
 abbrev pub isPart : ℕ → Bool

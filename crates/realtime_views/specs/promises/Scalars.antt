@@ -3,15 +3,15 @@
 use Prim.Native.Nat.{ℕ, _+_, _≤_}
 use mathlib.Core.Path.{_≡_, refl, ap}
 use mathlib.Core.List.{List, [], _∷_}
-use mathlib.Core.Bool.{cond}
+use mathlib.Core.Bool.{Bool, true, false, cond}
 use mathlib.Core.Option.{Option, none, some}
 use native.Mathlib.Omega.{arith}
 use lib.Dec.{eqb}
 use lib.ListN.{length, take, drop}
-use Rattle.realtime.specs.Tree.{Schema, Tree, Leaf, count, words, tree, last}
+use Rattle.realtime.specs.Tree.{Kind, aNumber, aText, aMessage, Schema, Tree, Leaf, count, words, tree, last, sub}
 use Rattle.realtime.specs.Schema.{feed, feedEntity, tripUpdate}
-use Rattle.realtime_views.specs.promises.Fold.{Takes, inside}
-use Rattle.realtime_views.specs.promises.Last.{Single, each}
+use Rattle.realtime_views.specs.promises.Fold.{Takes, inside, Made}
+use Rattle.realtime_views.specs.promises.Last.{Single, taking, each}
 use Rattle.realtime_views.specs.laws.Reading.{front-part}
 use Rattle.realtime_views.specs.promises.Reading.{Lens, Ready, Reads}
 use Rattle.realtime_views.specs.declared.Scalar.{Scalar}
@@ -121,18 +121,41 @@ abbrev pub takesAlong : List ℕ → Takes Lasts
 takesAlong [] = own
 takesAlong (p ∷ ps) = inside p (takesAlong ps)
 
--- of a trip_update: its trips, 1, and its own; of an entity, the same of all its trip_updates, 3
+-- of the messages at field a, which are of type u, whatever type the message has
+pub record FieldReads (a u : ℕ) (s : List ℕ) (from : ℕ) (d r : Scalars) : Type 0 where
+  pub of : (t : ℕ) → feed t a ≡ some (aMessage u)
+      → Made (takesAlong (a ∷ [])) (scalars .look s d) feed t s from (scalars .look s r)
+  pub within : scalars .In (length s) r
+
+-- a number or a text
+abbrev pub isScalar : Option Kind → Bool
+isScalar none = false
+isScalar (some aNumber) = true
+isScalar (some aText) = true
+isScalar (some (aMessage u)) = false
+
+-- of field k alone, in every type that lists it as a scalar, and of that of the messages at field a
+pub record OneReads (k : ℕ) (s : List ℕ) (from : ℕ) (d r : Scalar) : Type 0 where
+  pub of : (t : ℕ) → isScalar (feed t k) ≡ true → Made (taking (scalarAt k)) (said s d) feed t s from (said s r)
+  pub within : Lying (length s) r
+
+pub record OneReadsIn (a k : ℕ) (s : List ℕ) (from : ℕ) (d r : Scalar) : Type 0 where
+  pub of : (t u : ℕ) → feed t a ≡ some (aMessage u) → isScalar (feed u k) ≡ true
+      → Made (inside a (taking (scalarAt k))) (said s d) feed t s from (said s r)
+  pub within : Lying (length s) r
+
+-- of a trip_update: its trips, 1, and its delay, 5; of an entity, the same of all its trip_updates, 3
 pub record TripReady (s : List ℕ) (from : ℕ) (b : TripScalars) : Type 0 where
   pub trip : Ready scalars s from (b .trip)
-  pub update : Ready scalars s from (b .update)
+  pub delay : Ready scalar s from (b .delay)
 
 pub record UpdateReads (s : List ℕ) (from : ℕ) (b r : TripScalars) : Type 0 where
   pub trip : Reads scalars (takesAlong (1 ∷ [])) feed tripUpdate s from (b .trip) (r .trip)
-  pub update : Reads scalars own feed tripUpdate s from (b .update) (r .update)
+  pub delay : Reads scalar (taking (scalarAt 5)) feed tripUpdate s from (b .delay) (r .delay)
 
 pub record TripReads (s : List ℕ) (from : ℕ) (r : TripScalars) : Type 0 where
   pub trip : Reads scalars (takesAlong (3 ∷ 1 ∷ [])) feed feedEntity s from blank (r .trip)
-  pub update : Reads scalars (takesAlong (3 ∷ [])) feed feedEntity s from blank (r .update)
+  pub delay : Reads scalar (inside 3 (taking (scalarAt 5))) feed feedEntity s from Scalar.Nothing (r .delay)
 
 -- THE ANSWER r for the message of type t in l bytes at i of s: where it is not broken, the last scalar at field k of
 -- what `inner` takes of it, itself or the messages at a field merged. A text lies in s
@@ -140,3 +163,11 @@ pub record ScalarRead (σ : Schema) (t : ℕ) (s : List ℕ) (i l : ℕ) (inner 
   where
     pub of : (m : Tree) → tree σ t (take l (drop i s)) ≡ some m → said s r ≡ last k (inner m)
     pub within : Lying (length s) r
+
+-- whatever type that message has
+abbrev pub OneRead : ℕ → List ℕ → ℕ → ℕ → Scalar → Type 0
+OneRead k s i l r = (t : ℕ) → isScalar (feed t k) ≡ true → ScalarRead feed t s i l (λ m. m) k r
+
+abbrev pub OneReadIn : ℕ → ℕ → List ℕ → ℕ → ℕ → Scalar → Type 0
+OneReadIn a k s i l r =
+    (t u : ℕ) → feed t a ≡ some (aMessage u) → isScalar (feed u k) ≡ true → ScalarRead feed t s i l (sub a) k r

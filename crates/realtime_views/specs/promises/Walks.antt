@@ -1,16 +1,13 @@
 -- Promise. The messages at a repeated field k, of all the messages at field a merged, one after the other.
-use mathlib.Core.Bool.{cond}
 use Prim.Native.Nat.{ℕ, _+_, _-_, _≤_, _<_}
 use mathlib.Core.Path.{_≡_}
 use mathlib.Core.List.{List, [], _∷_}
-use mathlib.Core.Option.{Option, none, some, Option·map}
+use mathlib.Core.Option.{Option, some, Option·map}
 use lib.ListN.{length, take, drop}
-use lib.Dec.{eqb}
-use Rattle.realtime.specs.Tree.{Kind, aNumber, aText, aMessage, Schema, Tree, tree, join, sub, rep}
+use Rattle.realtime.specs.Tree.{Schema, Tree, tree, join, sub, rep}
 use Rattle.basics.specs.Options.{bindO}
 use Rattle.realtime.specs.Schema.{feed, feedMessage, feedEntity, tripUpdate, stopTimeUpdate}
-use Rattle.realtime_read.specs.declared.Step.{Step}
-use Rattle.realtime_views.specs.declared.Met.{Met}
+use Rattle.realtime_views.specs.promises.Seeks.{Holding}
 use Rattle.realtime_views.specs.declared.Walk.{Walk}
 use Rattle.realtime_views.specs.declared.Item.{Item}
 
@@ -27,26 +24,6 @@ pub record SoundWalk (s : List ℕ) (outer end at : ℕ) : Type 0 where
   pub ahead : at ≤ end
   pub behind : end ≤ outer
   pub inside : outer ≤ length s
-
--- what a step meets, where messages at field k are sought
-abbrev pub met : ℕ → Step → Met
-met k (Step.Number f v n) = Met.Other n
-met k (Step.Text f i l n) = Met.Other n
-met k (Step.Message f u i l n) = cond (eqb f k) (Met.Sought i l n) (Met.Other n)
-met k Step.End = Met.End
-met k Step.Broken = Met.Broken
-
--- what a walk asks: its places, and the type of the messages at field a
-pub record Walks (σ : Schema) (t a u : ℕ) (s : List ℕ) (w : Walk) : Type 0 where
-  pub sound : SoundWalk s (w .outer) (w .end) (w .at)
-  pub opened : (v : ℕ) → σ t a ≡ some (aMessage v) → v ≡ u
-
--- the type of a listed message
-abbrev pub typeOf : Option Kind → ℕ
-typeOf none = 0
-typeOf (some aNumber) = 0
-typeOf (some aText) = 0
-typeOf (some (aMessage u)) = u
 
 -- an item, of type v, of the list l that was left: its first, and the others are left
 abbrev pub Yield : Schema → ℕ → ℕ → ℕ → ℕ → ℕ → List ℕ → List Tree → Item → Type 0
@@ -71,6 +48,12 @@ Lying s w Item.Done = Unit {0}
 -- THE ANSWER r of a walk: where nothing is broken, the first of those that are left, or that none is
 pub record Yields (σ : Schema) (t a u k v : ℕ) (s : List ℕ) (w : Walk) (r : Item) : Type 0 where
   pub of : (l : List Tree) → left σ t a u k s w ≡ some l → Yield σ t a u k v s l r
+  pub lying : Lying s w r
+
+-- the same of the messages at field k of those at field a, whatever types they have
+pub record NextItem (a k : ℕ) (s : List ℕ) (w : Walk) (r : Item) : Type 0 where
+  pub of : (t u v : ℕ) → Holding feed t a u → Holding feed u k v → (l : List Tree) → left feed t a u k s w ≡ some l
+      → Yield feed t a u k v s l r
   pub lying : Lying s w r
 
 abbrev pub NextEntity : List ℕ → Walk → Item → Type 0
