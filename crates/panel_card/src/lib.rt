@@ -38,23 +38,23 @@ const NOTHING: u32 = 0;
 const LABELS_LENGTH: usize = 1025;
 
 // The end of a card, and the first of the questions 5 to 7 that it fails.
-pub fn judge_card(s: &[u8]) -> Judge
-    ensures { λ r. ⌜ r ≡ judgeTo form.card (now (s .entry)) 0 ⌝ }
+pub fn judge_card(card: &[u8]) -> Judge
+    ensures { λ r. ⌜ r ≡ judgeTo form.card (now (card .entry)) 0 ⌝ }
 {
-    formats_judge::judge_value(&CARD_TABLE, CARD_DEPTH, CARD, s, 0)
+    formats_judge::judge_value(&CARD_TABLE, CARD_DEPTH, CARD, card, 0)
 }
 
 // The first of the questions 3 to 7 that an arriving card fails.
-fn card_number(s: &[u8]) -> u32
-    ensures { λ r. ⌜ r ≡ cardNumber (now (s .entry)) ⌝ }
+fn card_number(card: &[u8]) -> u32
+    ensures { λ r. ⌜ r ≡ cardNumber (now (card .entry)) ⌝ }
 {
-    if MOST_CARD < s.len() {
+    if MOST_CARD < card.len() {
         return 3;
     }
-    let Judge::At(p, n) = judge_card(s) else {
+    let Judge::At(p, n) = judge_card(card) else {
         return 4;
     };
-    if p < s.len() {
+    if p < card.len() {
         return 4;
     }
     n
