@@ -6,10 +6,10 @@ use Rattle.overlay_ascends.proofs.keys_ascend.Statement.{statement}
 use Rattle.overlay_ascends.proofs.keys_ascend.Tie as tie
 
 abbrev Inv-loop : tie.InvT-loop
-Inv-loop s at first count a₀ e₀ p₀ left₀ a e p left = Climb s first count a e p left
+Inv-loop sheet at first count a₀ e₀ p₀ left₀ a e p left = Climb sheet first count a e p left
 
 abbrev μ-loop : tie.MeasureT-loop
-μ-loop s at first count a₀ e₀ p₀ left₀ a e p left = left
+μ-loop sheet at first count a₀ e₀ p₀ left₀ a e p left = left
 
 none : tie.Need-returns Inv-loop μ-loop
 none c = no-keys (c .before .number .ensures) (c .if1 .taken)
