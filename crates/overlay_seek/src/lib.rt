@@ -9,11 +9,11 @@ pub enum Found {
 }
 
 // Whether the text at `at` is x.
-pub fn is_text(s: &[u8], at: usize, x: &[u8]) -> bool
-    ensures { λ r. ⌜ IsText (now (s .entry)) at (now (x .entry)) r ⌝ }
+pub fn is_text(old: &[u8], at: usize, x: &[u8]) -> bool
+    ensures { λ r. ⌜ IsText (now (old .entry)) at (now (x .entry)) r ⌝ }
 {
-    let t = formats_read::text(s, at);
+    let t = formats_read::text(old, at);
     let from = t.from;
     let to = t.to;
-    slices::same(&s[from..to], x)
+    slices::same(&old[from..to], x)
 }
