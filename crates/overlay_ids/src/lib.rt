@@ -73,14 +73,14 @@ pub fn ends_colon(id: &[u8], s: &[u8]) -> bool
     slices::same(id, &s[p..])
 }
 
-// Whether a text ends with ':' and `feed:rest`.
-pub fn ends_joined(feed: &[u8], rest: &[u8], s: &[u8]) -> bool
-    ensures { λ r. ⌜ EndsJoined (now (feed .entry)) (now (rest .entry)) (now (s .entry)) r ⌝ }
+// Whether a leg's route ends with ':' and `feed:rest`.
+pub fn ends_joined(feed: &[u8], rest: &[u8], leg: &[u8]) -> bool
+    ensures { λ r. ⌜ EndsJoined (now (feed .entry)) (now (rest .entry)) (now (leg .entry)) r ⌝ }
 {
-    if s.len() <= feed.len() {
+    if leg.len() <= feed.len() {
         return false;
     }
-    let m = s.len() - feed.len();
+    let m = leg.len() - feed.len();
     if m < 2 {
         return false;
     }
@@ -88,10 +88,10 @@ pub fn ends_joined(feed: &[u8], rest: &[u8], s: &[u8]) -> bool
         return false;
     }
     let p = m - 1 - rest.len();
-    if s[p - 1] != 58 {
+    if leg[p - 1] != 58 {
         return false;
     }
-    same_joined(feed, rest, &s[p..])
+    same_joined(feed, rest, &leg[p..])
 }
 
 // Whether a feed's stop is the card's, whose id is longer.
