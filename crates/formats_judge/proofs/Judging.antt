@@ -37,7 +37,7 @@ judged-none p s none r e h = refl
 judged-none p s (some x) r e h = broken-at (sym h ∙ e)
 
 -- a value was judged: what is left is the whole past the place
-record Found {A : Type 0} (rd : Reader A) (g : A → ℕ) (s : List ℕ) (at q x : ℕ) : Type 0 where
+record ValueJudged {A : Type 0} (rd : Reader A) (g : A → ℕ) (s : List ℕ) (at q x : ℕ) : Type 0 where
   value : A
   reads : rd (drop at s) ≡ some (value, drop q s)
   rules : x ≡ g value
@@ -46,7 +46,7 @@ record Found {A : Type 0} (rd : Reader A) (g : A → ℕ) (s : List ℕ) (at q x
 module _ {A : Type 0} {w : A → List ℕ} {rd : Reader A} {fits : A → Type 0} (l : Law w rd fits) (g : A → ℕ) (s : List ℕ)
     (at : ℕ) where
   found-go : (o : Option (A × List ℕ)) → rd (drop at s) ≡ o → (r : Judge) (q x : ℕ) → r ≡ judged g s o → r ≡ At q x
-      → Found rd g s at q x
+      → ValueJudged rd g s at q x
   found-go none e r q x h k = broken-at (sym h ∙ k)
   found-go (some y) e r q x h k =
       let i : length s - length (y .1) ≡ q = cc in
@@ -59,7 +59,7 @@ module _ {A : Type 0} {w : A → List ℕ} {rd : Reader A} {fits : A → Type 0}
         within = omega (arith, i);
       }
 
-  found : (r : Judge) (q x : ℕ) → r ≡ judged g s (rd (drop at s)) → r ≡ At q x → Found rd g s at q x
+  found : (r : Judge) (q x : ℕ) → r ≡ judged g s (rd (drop at s)) → r ≡ At q x → ValueJudged rd g s at q x
   found r q x h k = found-go (rd (drop at s)) refl r q x h k
 
 pub judged-in : (f : Format) (s : List ℕ) (at p x : ℕ) (r : Judge) → r ≡ judgeTo f s at → r ≡ At p x → p ≤ length s
@@ -96,7 +96,7 @@ module _ (f : Format) (s : List ℕ) (n at g : ℕ) (r : Judge) (e : r ≡ judge
       ap (judgedAfter g) (nothing (verdicts f) s (no-element f s n at l none-read)) ∙ i
 
   module _ (p x : ℕ) (h : r ≡ At p x) (k : at ≤ length s) where
-    one : Found (read f) (verdict f) s at p x
+    one : ValueJudged (read f) (verdict f) s at p x
     one = found (law f) (verdict f) s at r p x e h
 
     pub many-flat : p ≤ at → Broken ≡ y
