@@ -32,12 +32,12 @@ bad-none s none r e h = refl
 bad-none s (some x) r e h = bad-got (sym h ∙ e)
 
 -- what was got: what is left is the whole past the place
-pub record Found (r : Reader ℕ) (s : List ℕ) (at n q : ℕ) : Type 0 where
+pub record NumberGot (r : Reader ℕ) (s : List ℕ) (at n q : ℕ) : Type 0 where
   pub reads : r (drop at s) ≡ some (n, drop q s)
   pub within : q ≤ length s
 
 module _ {w : ℕ → List ℕ} {r : Reader ℕ} {ok : ℕ → Type 0} (l : Law w r ok) (s : List ℕ) (at : ℕ) where
-  got-go : (o : Option (ℕ × List ℕ)) → r (drop at s) ≡ o → (n q : ℕ) → Got n q ≡ numbered s o → Found r s at n q
+  got-go : (o : Option (ℕ × List ℕ)) → r (drop at s) ≡ o → (n q : ℕ) → Got n q ≡ numbered s o → NumberGot r s at n q
   got-go none e n q h = bad-got (sym h)
   got-go (some x) e n q h =
       let i : n ≡ x .0 = cc in
@@ -50,10 +50,10 @@ module _ {w : ℕ → List ℕ} {r : Reader ℕ} {ok : ℕ → Type 0} (l : Law 
         within = rw j (omega arith);
       }
 
-  pub got : (n q : ℕ) (o : Numeral) → o ≡ numbered s (r (drop at s)) → o ≡ Got n q → Found r s at n q
+  pub got : (n q : ℕ) (o : Numeral) → o ≡ numbered s (r (drop at s)) → o ≡ Got n q → NumberGot r s at n q
   got n q o e h = got-go (r (drop at s)) refl n q (sym h ∙ e)
 
-  got-fits : (n q : ℕ) → Found r s at n q → ok n
+  got-fits : (n q : ℕ) → NumberGot r s at n q → ok n
   got-fits n q f = l .back (drop at s) n (drop q s) (f .reads) .1
 
 pub at-end : (s : List ℕ) (at : ℕ) → length s ≤ at → Bad ≡ numbered s (numberR (drop at s))
@@ -97,7 +97,7 @@ module _ (s : List ℕ) (at b : ℕ) (h : at < length s) (e : b ≡ getD s at 0)
     little-bad f = rw (next, bad-none s (littleR (k - 1) (drop (at + 1) s)) o r f) refl
 
     module _ (n q : ℕ) (f : o ≡ Got n q) where
-      others : Found (littleR (k - 1)) s (at + 1) n q
+      others : NumberGot (littleR (k - 1)) s (at + 1) n q
       others = got (littleLaw (k - 1)) s (at + 1) n q o r f
 
       pub little-good : Got (b + 256 * n) q ≡ numbered s (littleR k (drop at s))

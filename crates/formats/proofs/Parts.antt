@@ -18,7 +18,7 @@ use Rattle.formats.specs.promises.Outcome.{element, numbered, formatAt, 
 use Rattle.formats.specs.laws.Format.{law, count-over}
 use Rattle.formats.specs.declared.Numeral.{Numeral}
 use Rattle.formats.specs.declared.Numeral.the-variants.{Got, Bad}
-use Rattle.formats.proofs.Numbers.{opened, Found, got, bad-none}
+use Rattle.formats.proofs.Numbers.{opened, NumberGot, got, bad-none}
 use Rattle.formats.proofs.Nodes.{node-list, node-choice, node-pair, node-never, node-none}
 
 -- a tag
@@ -34,7 +34,7 @@ tag-within s at c e l = omega (arith, tag-at s at c e l .0)
 
 -- a number was got
 pub count : (s : List ℕ) (at n p : ℕ) (o : Numeral) → o ≡ numbered s (numberR (drop at s)) → o ≡ Got n p
-    → Found numberR s at n p
+    → NumberGot numberR s at n p
 count s at n p o r e = got numberLaw s at n p o r e
 
 pub count-within : (s : List ℕ) (at n p : ℕ) (o : Numeral) → o ≡ numbered s (numberR (drop at s)) → o ≡ Got n p

@@ -19,7 +19,7 @@ use Rattle.formats.specs.declared.Numeral.{Numeral}
 use Rattle.formats.specs.declared.Numeral.the-variants.{Got, Bad}
 use Rattle.formats.specs.declared.Skip.{Skip}
 use Rattle.formats.specs.declared.Skip.the-variants.{At, Broken}
-use Rattle.formats.proofs.Numbers.{place, opened, Found, got}
+use Rattle.formats.proofs.Numbers.{place, opened, NumberGot, got}
 use Rattle.formats.proofs.Parts.{count, Numbered, no-value, no-float, no-number, too-large, no-element, no-bytes}
 use Rattle.formats.proofs.Parts.{an-element, the-one, the-other, no-depth, no-count, too-many, no-tag, no-first}
 use Rattle.formats.proofs.Parts.{no-kind}
@@ -79,7 +79,7 @@ module _ (a : ℕ) (s : List ℕ) (at : ℕ) (o : Numeral) (r : o ≡ numbered s
   leaf-bad kind e k = nothing s (no-number a 0 s at o r kind e k)
 
   module _ (n p : ℕ) (e : o ≡ Got n p) where
-    read-it : Found numberR s at n p
+    read-it : NumberGot numberR s at n p
     read-it = count s at n p o r e
 
     pub leaf-4-over : (kind : ℕ) → kind ≡ 4 → a < n → Broken ≡ skipTo (leafFormat kind a 0) s at

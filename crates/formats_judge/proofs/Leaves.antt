@@ -17,7 +17,7 @@ use Rattle.formats.specs.declared.Numeral.{Numeral}
 use Rattle.formats.specs.declared.Numeral.the-variants.{Got, Bad}
 use Rattle.formats.specs.declared.Skip.{Skip}
 use Rattle.formats.specs.declared.Skip.the-variants as skip
-use Rattle.formats.proofs.Numbers.{place, Found, got}
+use Rattle.formats.proofs.Numbers.{place, NumberGot, got}
 use Rattle.formats.proofs.Parts.{Numbered, no-value, no-float, no-number, too-large}
 use Rattle.formats_judge.proofs.Rules.{nothing}
 use Rattle.formats_judge.specs.Judged.{atMost, answer, verdict, judged, judgeTo}
@@ -66,7 +66,7 @@ module _ (a b : ℕ) (s : List ℕ) (at : ℕ) (o : Numeral) (r : o ≡ numbered
   leaf-bad kind e k = nothing (verdict (leafFormat kind a b)) s (no-number a b s at o r kind e k)
 
   module _ (n p : ℕ) (e : o ≡ Got n p) (kind : ℕ) where
-    number : Found numberR s at n p
+    number : NumberGot numberR s at n p
     number = got numberLaw s at n p o r e
 
     pub leaf-2 : (y : ℕ) → y ≡ answer 6 (leb a n && leb n b) → kind ≡ 2 → At p y ≡ judgeTo (leafFormat kind a b) s at

@@ -20,7 +20,7 @@ use Rattle.formats.specs.declared.Numeral.{Numeral}
 use Rattle.formats.specs.declared.Numeral.the-variants.{Got, Bad}
 use Rattle.formats.specs.declared.Skip.{Skip}
 use Rattle.formats.specs.declared.Skip.the-variants.{At, Broken}
-use Rattle.formats.proofs.Numbers.{Found, got, bad-none}
+use Rattle.formats.proofs.Numbers.{NumberGot, got, bad-none}
 use Rattle.formats_check.specs.promises.Checked.{Number, fine, Fine}
 use Rattle.formats_check.specs.laws.Checked.{Out, filter, is-none, is-good, is-bad}
 
@@ -29,7 +29,7 @@ module _ {s : List ℕ} {at : ℕ} {o : Numeral} (e : Number s at o) where
   pub no-number : o ≡ Bad → numberR (drop at s) ≡ none
   no-number h = bad-none s (numberR (drop at s)) o (e .says) h
 
-  pub a-number : {n p : ℕ} → o ≡ Got n p → Found numberR s at n p
+  pub a-number : {n p : ℕ} → o ≡ Got n p → NumberGot numberR s at n p
   a-number {n} {p} h = got numberLaw s at n p o (e .says) h
 
   pub in-place : {n p : ℕ} → o ≡ Got n p → p ≤ length s

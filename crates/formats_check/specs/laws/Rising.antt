@@ -16,7 +16,7 @@ use Rattle.formats.specs.declared.Numeral.{Numeral}
 use Rattle.formats.specs.declared.Numeral.the-variants.{Got, Bad}
 use Rattle.formats.specs.declared.Skip.{Skip}
 use Rattle.formats.specs.declared.Skip.the-variants.{At, Broken}
-use Rattle.formats.proofs.Numbers.{Found, got, bad-none}
+use Rattle.formats.proofs.Numbers.{NumberGot, got, bad-none}
 use Rattle.slices.specs.Lists.{lexOf}
 use Rattle.maps.specs.Map.{isLess, above, ascending}
 use Rattle.maps.specs.Order.{numbers}
@@ -58,7 +58,7 @@ module _ {hi : ℕ} {g : Format} {n : ℕ} {s : List ℕ} {at low left p : ℕ} 
     rising-no h = no (absent (rw (bad-none s (numberR (drop p s)) o (e .says) h) refl))
 
     module _ {k q : ℕ} (h : o ≡ Got k q) where
-      key : Found numberR s p k q
+      key : NumberGot numberR s p k q
       key = got numberLaw s p k q o (e .says) h
 
       module _ {x : Skip} (c : Checked g (fine g) s q x) where
