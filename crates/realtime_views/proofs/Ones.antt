@@ -1,14 +1,13 @@
 -- A turn of the loop for one field, in every type that lists it as a number or as a text: the loop goes by wire types,
 -- and what another wire type than the listed kind's has there is broken. Assumes nothing.
-use Prim.Native.Nat.{ℕ, _-_, _≤_, _<_}
-use mathlib.Core.Path.{_≡_, refl, sym, ap, subst, _∙_}
+use Prim.Native.Nat.{ℕ, _≤_, _<_}
+use mathlib.Core.Path.{_≡_, refl, sym, ap, _∙_}
 use mathlib.Core.List.{List}
 use mathlib.Core.Bool.{true}
 use mathlib.Core.Option.{Option, none, some}
 use native.Mathlib.Omega.{arith}
 use lib.ListN.{length, drop}
-use Rattle.wire.specs.Wire.{key}
-use Rattle.wire.specs.laws.At.{ReadAt, key-read, text-read}
+use Rattle.wire.specs.laws.At.{text-read}
 use Rattle.wire.specs.promises.Places.{keyAt, numberAt, textAt, skippedAt}
 use Rattle.wire.specs.declared.Cursor.{Cursor}
 use Rattle.wire.specs.declared.GotKey.{GotKey}
@@ -18,15 +17,17 @@ use Rattle.wire.specs.declared.Skipped.{Skipped}
 use Rattle.realtime.specs.Tree.{Kind, aNumber, aText, aMessage, tree}
 use Rattle.realtime.specs.Schema.{feed}
 use Rattle.realtime_read.specs.laws.Passing.{Passed}
-use Rattle.realtime_read.proofs.Passing.{here, passes, passes-number, passes-text, breaks, breaks-number, breaks-text}
-use Rattle.realtime_read.proofs.Turn.{some-number, some-text}
+use Rattle.realtime_read.proofs.Passing.{here}
+use Rattle.realtime_read.proofs.Turn.{some-text}
 use Rattle.realtime_views.specs.laws.Fold.{Walked, walk-starts}
 use Rattle.realtime_views.specs.promises.Last.{taking}
 use Rattle.realtime_views.specs.promises.Reading.{Ready}
 use Rattle.realtime_views.specs.promises.Scalars.{said, Lying, lying-far, scalar, scalarAt, isScalar, OneReads}
 use Rattle.realtime_views.specs.declared.Scalar.{Scalar}
 use Rattle.realtime_views.proofs.Reader.{Reading, taking-skips, passes-on, breaks-off, key-breaks, comes-to-end}
-use Rattle.realtime_views.proofs.Wires.{lost, no-number, no-text, past-number, past-text}
+use Rattle.realtime_views.proofs.Wires.{keyed, keyed-as, number-none, number-passed, number-step, text-none}
+use Rattle.realtime_views.proofs.Wires.{text-passed, other-none, other-passed, lost, no-number, no-text}
+use Rattle.realtime_views.proofs.Wires.{past-number, past-text}
 use Rattle.realtime_views.proofs.Stops.{mine-number, mine-text}
 
 -- the loop stands at `at` with d, and started at `from` with d₀: a reading for each of the types
@@ -64,12 +65,6 @@ module _ {k : ℕ} {s : List ℕ} {from : ℕ} {d₀ : Scalar} {at : ℕ} {d : S
     no-key g = record { of = λ t p. key-breaks (reading t p) h (sym g ∙ r) .made; within = far }
 
     module _ {f w : ℕ} {c : Cursor} (g : o ≡ GotKey.Read f w c) where
-      keyed : ReadAt key s at (record { number = f; wire = w }) (c .at)
-      keyed = key-read s at f w c (sym g ∙ r)
-
-      keyed-as : (v : ℕ) → w ≡ v → ReadAt key s at (record { number = f; wire = v }) (c .at)
-      keyed-as v e = subst (λ j. ReadAt key s at (record { number = f; wire = j }) (c .at)) e keyed
-
       other : {n : ℕ} → ((t : ℕ) → Passed feed t s at f n) → (f ≡ k → ⊥) → Ones k s from d₀ n d
       other {n} P q = record {
         of = λ t p. passes-on (reading t p) (P t) (taking-skips (scalarAt k) q) .walked;
@@ -80,77 +75,68 @@ module _ {k : ℕ} {s : List ℕ} {from : ℕ} {d₀ : Scalar} {at : ℕ} {d : S
       -- a text behind the key
       module _ (e : w ≡ 2) {x : GotText} (y : x ≡ textAt s (c .at)) where
         pub broken-text : x ≡ GotText.Broken → OneReads k s from d₀ d
-        broken-text z = ones-break (λ t. breaks-text feed t h (keyed-as 2 e) (sym z ∙ y))
+        broken-text z = ones-break (λ t. text-none s h r g e y feed t z)
 
         module _ {i l : ℕ} {n : Cursor} (z : x ≡ GotText.Read i l n) where
-          text-passed : (t : ℕ) → Passed feed t s at f (n .at)
-          text-passed t = passes-text h (keyed-as 2 e) (sym z ∙ y)
-
-          pub text-less : length s - n .at < length s - at
-          text-less = let P = text-passed 0 in omega (arith, P .ahead, P .inside)
+          past-the-text : (t : ℕ) → Passed feed t s at f (n .at)
+          past-the-text = text-passed s h r g e y z feed
 
           pub own-text : f ≡ k → Ones k s from d₀ (n .at) (Scalar.Text i l)
           own-text q =
-              let N : n .at ≤ length s = text-passed 0 .inside in
+              let N : n .at ≤ length s = past-the-text 0 .inside in
               let W : Lying (n .at) (Scalar.Text i l) = omega (arith, text-read s (c .at) i l n (sym z ∙ y) .ends) in
               record {
                 of = λ t p. by-kind (feed t k) p
                     (λ j. lost (reading t p) {r = Scalar.Text i l}
-                    (no-number feed t h (keyed-as 2 e) (ap (feed t) q ∙ j) (λ v. omega arith)) N W .walked)
+                    (no-number feed t h (keyed-as s h r g 2 e) (ap (feed t) q ∙ j) (λ v. omega arith)) N W .walked)
                     (λ j. mine-text (scalarAt k) (reading t p) {r = Scalar.Text i l}
-                    (some-text (here h (keyed-as 2 e)) (ap (feed t) q ∙ j) (sym z ∙ y)) q refl (λ v. v) .walked);
+                    (some-text (here h (keyed-as s h r g 2 e)) (ap (feed t) q ∙ j) (sym z ∙ y)) q refl (λ v. v) .walked);
                 within = W;
                 inside = N;
               }
 
           pub other-text : (f ≡ k → ⊥) → Ones k s from d₀ (n .at) d
-          other-text = other text-passed
+          other-text = other past-the-text
 
       -- a number
       module _ (e : w ≡ 0) {x : GotNumber} (y : x ≡ numberAt s (c .at)) where
         pub broken-number : x ≡ GotNumber.Broken → OneReads k s from d₀ d
-        broken-number z = ones-break (λ t. breaks-number feed t h (keyed-as 0 e) (sym z ∙ y))
+        broken-number z = ones-break (λ t. number-none s h r g e y feed t z)
 
         module _ {m : ℕ} {n : Cursor} (z : x ≡ GotNumber.Read m n) where
-          number-passed : (t : ℕ) → Passed feed t s at f (n .at)
-          number-passed t = passes-number h (keyed-as 0 e) (sym z ∙ y)
-
-          pub number-less : length s - n .at < length s - at
-          number-less = let P = number-passed 0 in omega (arith, P .ahead, P .inside)
+          past-the-number : (t : ℕ) → Passed feed t s at f (n .at)
+          past-the-number = number-passed s h r g e y z feed
 
           pub own-number : f ≡ k → Ones k s from d₀ (n .at) (Scalar.Number m)
           own-number q =
-              let N : n .at ≤ length s = number-passed 0 .inside in
+              let N : n .at ≤ length s = past-the-number 0 .inside in
               record {
                 of = λ t p. by-kind (feed t k) p
                     (λ j. mine-number (scalarAt k) (reading t p) {r = Scalar.Number m}
-                    (some-number (here h (keyed-as 0 e)) (ap (feed t) q ∙ j) (sym z ∙ y)) q refl tt .walked)
+                    (number-step s h r g e y z feed t (ap (feed t) q ∙ j)) q refl tt .walked)
                     (λ j. lost (reading t p) {r = Scalar.Number m}
-                    (no-text feed t h (keyed-as 0 e) (ap (feed t) q ∙ j) (λ v. omega arith)) N tt .walked);
+                    (no-text feed t h (keyed-as s h r g 0 e) (ap (feed t) q ∙ j) (λ v. omega arith)) N tt .walked);
                 within = tt;
                 inside = N;
               }
 
           pub other-number : (f ≡ k → ⊥) → Ones k s from d₀ (n .at) d
-          other-number = other number-passed
+          other-number = other past-the-number
 
       -- anything else
       module _ {x : Skipped} (y : x ≡ skippedAt s (c .at) f w 16) where
         pub broken-value : x ≡ Skipped.Broken → OneReads k s from d₀ d
-        broken-value z = ones-break (λ t. breaks feed t h keyed (sym z ∙ y))
+        broken-value z = ones-break (λ t. other-none s h r g y feed t z)
 
         module _ {n : Cursor} (z : x ≡ Skipped.Past n) where
-          value-passed : (t : ℕ) → Passed feed t s at f (n .at)
-          value-passed t = passes h keyed (sym z ∙ y)
-
-          pub value-less : length s - n .at < length s - at
-          value-less = let P = value-passed 0 in omega (arith, P .ahead, P .inside)
+          past-it : (t : ℕ) → Passed feed t s at f (n .at)
+          past-it = other-passed s h r g y z feed
 
           pub past-value : (w ≡ 2 → ⊥) → (w ≡ 0 → ⊥) → Ones k s from d₀ (n .at) d
           past-value a b = record {
             of = λ t p. by-kind (feed t k) p
-                (λ j. past-number (scalarAt k) (reading t p) h keyed (value-passed t) j b .walked)
-                (λ j. past-text (scalarAt k) (reading t p) h keyed (value-passed t) j a .walked);
-            within = lying-far at (n .at) d (omega (arith, value-passed 0 .ahead)) (R .within);
-            inside = value-passed 0 .inside;
+                (λ j. past-number (scalarAt k) (reading t p) h (keyed s h r g) (past-it t) j b .walked)
+                (λ j. past-text (scalarAt k) (reading t p) h (keyed s h r g) (past-it t) j a .walked);
+            within = lying-far at (n .at) d (omega (arith, past-it 0 .ahead)) (R .within);
+            inside = past-it 0 .inside;
           }

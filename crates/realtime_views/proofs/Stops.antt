@@ -63,7 +63,7 @@ module _ {D B : Type 0} {L : Lens D B} (o : Single B) {σ : Schema} {t : ℕ} {s
   no-message S = past-message R S (λ m. refl)
 
 -- a field is listed as one kind
-pub clash : (t f k : ℕ) → feed t f ≡ some aNumber → feed t k ≡ some aText → f ≡ k → ⊥
+clash : (t f k : ℕ) → feed t f ≡ some aNumber → feed t k ≡ some aText → f ≡ k → ⊥
 clash t f k p q e = let r : some aNumber ≡ some aText = sym p ∙ ap (feed t) e ∙ q in let z : _≡_ {A = ℕ} 0 1 = cc in
     omega arith
 

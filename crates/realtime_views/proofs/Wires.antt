@@ -40,7 +40,7 @@ module _ (s : List ℕ) {at : ℕ} (h : at < length s) {o : GotKey} {f w : ℕ} 
   pub keyed : ReadAt key s at (record { number = f; wire = w }) (c .at)
   keyed = key-read s at f w c (sym g ∙ k)
 
-  keyed-as : (v : ℕ) → w ≡ v → ReadAt key s at (record { number = f; wire = v }) (c .at)
+  pub keyed-as : (v : ℕ) → w ≡ v → ReadAt key s at (record { number = f; wire = v }) (c .at)
   keyed-as v e = subst (λ j. ReadAt key s at (record { number = f; wire = j }) (c .at)) e keyed
 
   module _ (z : w ≡ 0) {p : GotNumber} (q : p ≡ numberAt s (c .at)) where

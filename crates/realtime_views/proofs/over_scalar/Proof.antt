@@ -3,8 +3,8 @@ use borrow.Author.Needs.{needs}
 use Prim.Native.Nat.{_-_}
 use lib.ListN.{length}
 use Rattle.realtime_views.proofs.Ones.{Ones, ones-start, ones-end, no-key, broken-text, own-text, other-text}
-use Rattle.realtime_views.proofs.Ones.{text-less, broken-number, own-number, other-number, number-less}
-use Rattle.realtime_views.proofs.Ones.{broken-value, past-value, value-less}
+use Rattle.realtime_views.proofs.Ones.{broken-number, own-number, other-number, broken-value, past-value}
+use Rattle.realtime_views.proofs.Wires.{number-less, text-less, other-less}
 use Rattle.realtime_views.proofs.over_scalar.Statement.{statement}
 use Rattle.realtime_views.proofs.over_scalar.Tie as tie
 
@@ -45,6 +45,6 @@ over-scalar-spec =
     (λ c. search needs)
     (λ c. search needs)
     (λ c. search broken-value)
-    (λ c. search value-less)
+    (λ c. search other-less)
     (λ c. search past-value)
     (λ c. search ones-end))
