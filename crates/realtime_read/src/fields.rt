@@ -1,14 +1,8 @@
-// The numbers of the listed fields, by GTFS Realtime: a module for each message.
+// The numbers of the fields that code names, by GTFS Realtime: a module for each message.
 pub mod feed_message {
     pub const HEADER: u64 = 1;
 
     pub const ENTITY: u64 = 2;
-}
-
-pub mod feed_header {
-    pub const INCREMENTALITY: u64 = 2;
-
-    pub const TIMESTAMP: u64 = 3;
 }
 
 pub mod feed_entity {
@@ -31,12 +25,6 @@ pub mod trip_descriptor {
     pub const START_TIME: u64 = 2;
 
     pub const START_DATE: u64 = 3;
-
-    pub const SCHEDULE_RELATIONSHIP: u64 = 4;
-
-    pub const ROUTE_ID: u64 = 5;
-
-    pub const DIRECTION_ID: u64 = 6;
 }
 
 pub mod stop_time_update {

@@ -90,7 +90,8 @@ module _ {k : ℕ} {s : List ℕ} {from : ℕ} {d₀ : Scalar} {at : ℕ} {d : S
                     (λ j. lost (reading t p) {r = Scalar.Text i l}
                     (no-number feed t h (keyed-as s h r g 2 e) (ap (feed t) q ∙ j) (λ v. omega arith)) N W .walked)
                     (λ j. mine-text (scalarAt k) (reading t p) {r = Scalar.Text i l}
-                    (some-text (here h (keyed-as s h r g 2 e)) (ap (feed t) q ∙ j) (sym z ∙ y)) q refl (λ v. v) .walked);
+                    (some-text (here h (keyed-as s h r g 2 e)) (ap (feed t) q ∙ j) (sym z ∙ y)) q refl (λ v. v)
+                    .walked);
                 within = W;
                 inside = N;
               }

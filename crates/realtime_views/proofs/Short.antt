@@ -20,6 +20,7 @@ use Rattle.wire.specs.declared.GotText.{GotText}
 use Rattle.realtime.specs.Schema.{fieldRows, feed, stopTimeUpdate, stopTimeEvent}
 use Rattle.realtime_read.specs.promises.Steps.{Stepped}
 use Rattle.realtime_read.specs.declared.Step.{Step}
+use Rattle.realtime_read.proofs.Passing as passing
 use Rattle.realtime_read.proofs.Turn.{Here, at-end, some-number, some-text, some-message}
 use Rattle.realtime_views.specs.promises.Last.{taking}
 use Rattle.realtime_views.specs.promises.Numbers.{plain, sequence, isPart, EventReads, NumberReads, StopReads}
@@ -51,8 +52,7 @@ short-key s at n w h e l u v =
 
 module _ {s : List ℕ} {at : ℕ} (h : at < length s) where
   here : {t : ℕ} (n w : ℕ) → getD s at 0 ≡ 8 * n + w → 1 ≤ n → n < 16 → w < 8 → Here feed t s at n w (at + 1)
-  here n w e l u v =
-      record { at = at; fwd = omega arith; more = h; inv = refl; keyed = short-key s at n w h e l u v }
+  here n w e l u v = passing.here h (short-key s at n w h e l u v)
 
   -- a number behind the key
   module _ {o : GotNumber} {m : ℕ} {c : Cursor} (r : o ≡ numberAt s (at + 1)) (g : o ≡ GotNumber.Read m c) where

@@ -111,10 +111,10 @@ module _ {D B : Type 0} {L : Lens D B} {φ : Takes B} {t : ℕ} (s : List ℕ) {
   room : L .In (i + l) r
   room = subst (λ k. L .In k r) (ap length e ∙ length-take (i + l) s ∙ omega arith) (Q .within)
 
-  pub room-far : L .In (length s) r
+  room-far : L .In (length s) r
   room-far = L .far (i + l) (length s) r h room
 
-  pub made-of : (m : Tree) → tree feed t (take l (drop i s)) ≡ some m → L .look s r ≡ folded φ (L .look x d) m
+  made-of : (m : Tree) → tree feed t (take l (drop i s)) ≡ some m → L .look s r ≡ folded φ (L .look x d) m
   made-of m q =
       sym (ap (λ y. L .look y r) e ∙ L .front s (i + l) r h room)
       ∙ Q .made .of m (ap (tree feed t) (ap (drop i) e ∙ front-rest s (i + l) i l refl h) ∙ q)
