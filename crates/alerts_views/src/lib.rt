@@ -25,7 +25,7 @@ ghost use Rattle.alerts_views.specs.promises.Words.{DeletedRead, FirstRe
 const MOST_IDS: usize = 32;
 
 // A sheet has at most so many alerts.
-const MOST_ALERTS: usize = 256;
+pub const MOST_ALERTS: usize = 256;
 
 // Of a message in `len` bytes at `start`: the first message at field `k`.
 fn first_item(message: &[u8], start: usize, len: usize, k: u64) -> Item

@@ -1,4 +1,5 @@
 // The call that makes an alert sheet of a feed's message: its questions in their order and the sheet, then zeros.
+use alerts_views::MOST_ALERTS;
 use decode::sizes::MOST_MESSAGE;
 use panel_output::Ending;
 use realtime::Verdict;
@@ -16,10 +17,8 @@ ghost use Rattle.panel_alerts.specs.promises.Alerts.{alertsNumber, numbe
 // What a sheet takes.
 pub const SHEET: usize = 1048576;
 
-// The longest id with ':' in front, and the most alerts of a sheet.
+// The longest id with ':' in front.
 const AFTER_FEED: usize = 63;
-
-const MOST_ALERTS: usize = 256;
 
 // The longest id: 64 bytes with the feed's id and ':' in front.
 fn id_limit(feed: &[u8]) -> usize
