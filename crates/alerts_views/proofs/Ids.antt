@@ -6,7 +6,7 @@ use mathlib.Core.List.{List}
 use lib.Dec.{eqb}
 use lib.ListN.{length}
 use borrow.Author.Tests.{ne-eqb}
-use Rattle.realtime.specs.Tree.{Tree, last, sub}
+use Rattle.realtime.specs.Tree.{Tree, last}
 use Rattle.realtime.specs.Schema.{fieldRows, feed, entitySelector, selectedTrip}
 use Rattle.realtime.specs.Typed.{textIn}
 use Rattle.realtime_views.specs.declared.Scalar.{Scalar}

@@ -1,6 +1,6 @@
 -- Law. What the code counts of a message's alerts is question 7 of them, as a value of the sheet's format.
 use Prim.Native.Nat.{ℕ}
-use mathlib.Core.Path.{_≡_, refl, sym, ap, ap₂, _∙_}
+use mathlib.Core.Path.{_≡_, refl, sym, ap₂, _∙_}
 use mathlib.Core.Bool.{Bool, true, false, cond, _&&_}
 use mathlib.Core.List.{List, [], _∷_, map}
 use mathlib.Core.Logic.{inl, inr}
@@ -10,7 +10,7 @@ use Rattle.basics.specs.Lists.{all}
 use Rattle.basics.specs.Options.{Maybe}
 use Rattle.basics.specs.laws.Booleans.{and-yes}
 use Rattle.formats.specs.Class.{Class, printable, utf8}
-use Rattle.formats.specs.Format.{text, optional, Value}
+use Rattle.formats.specs.Format.{text, optional}
 use Rattle.formats_judge.specs.Judged.{ok}
 use Rattle.realtime.specs.Tree.{Tree, sub}
 use Rattle.alerts.specs.Alert.{ids, alert, alertSheet}
