@@ -4,11 +4,11 @@
 use mathlib.Core.List.{List, [], _∷_, _++_}
 use mathlib.Core.Option.{Option, none, some}
 use mathlib.Core.Bool.{Bool, true, false, cond, not, _&&_, _||_}
-use Prim.Native.Nat.{ℕ, _+_, _-_}
+use Prim.Native.Nat.{ℕ, _+_, _-_, _*_}
 use Prim.Native.String.{String}
 use Prim.Native.String as String
 use Prim.Native.Char.{code}
-use lib.Dec.{leb, eqb}
+use lib.Dec.{leb, ltb, eqb}
 use lib.ListN.{length, take, drop}
 use Rattle.basics.specs.Lists.{all, any, member, filter, isEmpty}
 use Rattle.alerts.specs.Text.{text, begins, ends, contains, find, upperByte, upper, sameIgnoringCase, digit}
@@ -220,18 +220,31 @@ alert-text-compatible-with-leg a route-short =
 abbrev pub products : List (List ℕ × List ℕ)
 products =
     (text "C01742", text "A") ∷ (text "C01743", text "B") ∷ (text "C01727", text "C") ∷ (text "C01728", text "D")
-    ∷ (text "C01729", text "E") ∷ (text "C01371", text "1") ∷ (text "C01372", text "2") ∷ (text "C01373", text "3")
-    ∷ (text "C01374", text "4") ∷ (text "C01375", text "5") ∷ (text "C01376", text "6") ∷ (text "C01377", text "7")
-    ∷ (text "C01378", text "8") ∷ (text "C01379", text "9") ∷ (text "C01380", text "10") ∷ (text "C01381", text "11")
-    ∷ (text "C01382", text "12") ∷ (text "C01383", text "13") ∷ (text "C01384", text "14") ∷ (text "C01389", text "T1")
-    ∷ (text "C01390", text "T2") ∷ (text "C01391", text "T3a") ∷ (text "C01679", text "T3b") ∷ []
+    ∷ (text "C01729", text "E") ∷ (text "C01389", text "T1") ∷ (text "C01390", text "T2") ∷ (text "C01391", text "T3a")
+    ∷ (text "C01679", text "T3b") ∷ []
 
 abbrev pub nameOf : List ℕ → List (List ℕ × List ℕ) → Option (List ℕ)
 nameOf c [] = none
 nameOf c (row ∷ l) = let r = nameOf c l in cond (same c (row .0)) (some (row .1)) r
 
+-- C01371 to C01384 are the lines 1 to 14, without a gap: these are worked out (02, C-13). The number that digits are,
+-- and that of C and five digits, 0 where a text is none
+abbrev pub decimalValue : ℕ → List ℕ → ℕ
+decimalValue n [] = n
+decimalValue n (b ∷ s) = decimalValue (10 * n + (b - 48)) s
+
+abbrev pub codeNumber : List ℕ → ℕ
+codeNumber [] = 0
+codeNumber (b ∷ s) = cond (eqb b 67 && eqb (length s) 5 && all digit s) (decimalValue 0 s) 0
+
+-- a line's number, below 20, in decimal
+abbrev pub lineName : ℕ → List ℕ
+lineName k = cond (ltb k 10) ((48 + k) ∷ []) (49 ∷ (38 + k) ∷ [])
+
 abbrev pub idfm-product-to-short : List ℕ → Option (List ℕ)
-idfm-product-to-short code = nameOf (upper code) products
+idfm-product-to-short code =
+    let n = codeNumber (upper code) in
+    cond (leb 1371 n && leb n 1384) (some (lineName (n - 1370))) (nameOf (upper code) products)
 
 -- an id of the alert's routes is the line's name, or a code of the same line
 abbrev pub isText : Option (List ℕ) → List ℕ → Bool

@@ -3,3 +3,4 @@ pub mod Ends
 pub mod Pieces
 pub mod Names
 pub mod Products
+pub mod LineCodes

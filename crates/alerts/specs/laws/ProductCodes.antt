@@ -17,8 +17,9 @@ use Rattle.basics.specs.Lists.{any}
 use Rattle.alerts.specs.Text.{upperByte, upper, alphanumeric, trim, split}
 use Rattle.basics.specs.Texts.{same}
 use Rattle.alerts.specs.Applies.{isCode, firstCode, product-code-token, segment, decided, tails-match}
-use Rattle.alerts.specs.Applies.{route-refs-match, short-names-equal, products, nameOf, idfm-product-to-short}
+use Rattle.alerts.specs.Applies.{route-refs-match, short-names-equal, nameOf, idfm-product-to-short}
 use Rattle.alerts.specs.Applies.{isText, same-line, by-product}
+use Rattle.alerts.specs.laws.LineCodes.{listed, as-listed}
 use Rattle.basics.specs.laws.Booleans.{false-true, or-comm, or-true, and-true}
 
 -- a code is in capitals already
@@ -81,7 +82,8 @@ one-code b c n (row ∷ l) d eb ec =
 
 named-once : (b c n : List ℕ) → upper b ≡ b → upper c ≡ c → idfm-product-to-short b ≡ some n
     → idfm-product-to-short c ≡ some n → b ≡ c
-named-once b c n hb hc eb ec = sym hb ∙ one-code (upper b) (upper c) n products refl eb ec ∙ hc
+named-once b c n hb hc eb ec =
+    sym hb ∙ one-code (upper b) (upper c) n listed refl (sym (as-listed b) ∙ eb) (sym (as-listed c) ∙ ec) ∙ hc
 
 -- two codes of one line are one code
 one-line : (short b : List ℕ) (c : List ℕ) → upper b ≡ b → upper c ≡ c → by-product (some b) short (some c) ≡ true
