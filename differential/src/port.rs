@@ -99,6 +99,7 @@ mod raw {
             mode_length: usize,
         ) -> u32;
         pub fn alerts_label(alert: *const u8, length: usize) -> Label;
+        pub fn alerts_line(out: *mut u8, out_length: usize, code: *const u8, code_length: usize) -> usize;
         pub fn alerts_text_fits(
             out: *mut u8,
             out_length: usize,
@@ -305,6 +306,11 @@ pub fn applies(text: &mut [u8], alert: &[u8], leg: &Leg) -> u32 {
 pub fn label(alert: &[u8]) -> &[u8] {
     let label = unsafe { raw::alerts_label(alert.as_ptr(), alert.len()) };
     &alert[label.from..label.to]
+}
+
+/// How many bytes of `out` the name of a product code's line takes: 0 where it has none, 4 where there is no room.
+pub fn line(out: &mut [u8], code: &[u8]) -> usize {
+    unsafe { raw::alerts_line(out.as_mut_ptr(), out.len(), code.as_ptr(), code.len()) }
 }
 
 /// A message's alerts as a sheet, and zeros behind it; the number of the first no, or 0.

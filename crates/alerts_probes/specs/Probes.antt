@@ -4,15 +4,15 @@ use mathlib.Core.List.{List, []}
 use mathlib.Core.Logic.{inl, inr}
 use mathlib.Core.Option.{Option, none, some}
 use mathlib.Core.Bool.{Bool, false, cond, not, _&&_}
-use Prim.Native.Nat.{ℕ, _+_, _≤_}
+use Prim.Native.Nat.{ℕ, _+_, _≤_, _<_}
 use lib.Dec.{ltb, leb, eqb}
-use lib.ListN.{length}
+use lib.ListN.{length, take}
 use lib.Seq.{slice}
 use Rattle.basics.specs.Lists.{member}
 use Rattle.formats.specs.Format.{read}
 use Rattle.formats_judge.specs.Judged.{verdict}
 use Rattle.alerts.specs.Alert.{alert, Alert}
-use Rattle.alerts.specs.Applies.{alert-text-compatible-with-leg, alert-applies-to-leg-with-mode}
+use Rattle.alerts.specs.Applies.{alert-text-compatible-with-leg, alert-applies-to-leg-with-mode, idfm-product-to-short}
 use Rattle.alerts.specs.Label.{label}
 
 -- an alert by its header and its description alone
@@ -51,3 +51,14 @@ pub record LabelShown (s : List ℕ) (a e : ℕ) : Type 0 where
   pub is : slice a e s ≡ labelIn (read alert s)
   pub forward : a ≤ e
   pub within : e ≤ length s
+
+-- the name of a product code's line: no bytes where it has none
+abbrev pub lineIn : Option (List ℕ) → List ℕ
+lineIn none = []
+lineIn (some name) = name
+
+-- it stands in the first r bytes; r is 4 where there is no room for three
+pub record LineShown (code : List ℕ) (r : ℕ) (old new : List ℕ) : Type 0 where
+  pub no-room : length old < 3 → r ≡ 4
+  pub is : 3 ≤ length old → take r new ≡ lineIn (idfm-product-to-short code)
+  pub within : 3 ≤ length old → r ≤ length new

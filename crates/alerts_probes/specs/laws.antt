@@ -1,2 +1,3 @@
 pub mod Probes
 pub mod Alert
+pub mod Line

@@ -1,6 +1,7 @@
 // Calls of the tests on an alert for a C host: differential/port compares them with the original, bench/run measures
 // them beside it. They ask nothing of their caller.
 use alerts_apply::known::applies_known;
+use alerts_ids::products::Line;
 use formats::Span;
 use formats_judge::Judge;
 
@@ -17,7 +18,7 @@ ghost use Rattle.formats.specs.Format.{read};
 ghost use Rattle.formats_judge.specs.Judged.{judgeTo};
 ghost use Rattle.alerts.specs.Alert.{alert};
 ghost use Rattle.alerts_apply.specs.promises.Hits.{Applied};
-ghost use Rattle.alerts_probes.specs.Probes.{textsFit, isFine, appliesTo, LabelShown};
+ghost use Rattle.alerts_probes.specs.Probes.{textsFit, isFine, appliesTo, LabelShown, LineShown};
 
 fn roomy(n: usize, h: usize, d: usize, s: usize) -> bool
     ensures { λ r. ⌜ r ≡ ltb (h + d + s) n ⌝ }
@@ -167,4 +168,19 @@ pub extern "C" fn alerts_label(s: &[u8]) -> Label
         from: l.from,
         to: l.to,
     }
+}
+
+// The name of a product code's line: how many bytes of `out` it takes, 0 where there is none; 4 where `out` has fewer
+// than three. No card asks for it.
+#[no_mangle]
+pub extern "C" fn alerts_line(out: &mut [u8], code: &[u8]) -> usize
+    ensures { λ r. ⌜ LineShown (now (code .entry)) r (now (out .entry)) (now (out .exit)) ⌝ }
+{
+    if out.len() < 3 {
+        return 4;
+    }
+    let Line::Short(n) = alerts_ids::products::idfm_product_to_short(code, out) else {
+        return 0;
+    };
+    n
 }

@@ -105,23 +105,23 @@ number-code (b ∷ s) l e f v =
 -- a line's name, written
 pub short-name : {k r : ℕ} {old new : List ℕ} → k < 10 → Wrote ((48 + k) ∷ []) r old new
     → Wrote (lineName k) r old new
-short-name {k} l W = record { kept = W .kept; is = W .is ∙ rw (lt-ltb k 10 l) refl }
+short-name {k} l W = record { kept = W .kept; within = W .within; is = W .is ∙ rw (lt-ltb k 10 l) refl }
 
 pub long-name : {k r : ℕ} {old new : List ℕ} → 10 ≤ k → Wrote (49 ∷ (38 + k) ∷ []) r old new
     → Wrote (lineName k) r old new
-long-name {k} l W = record { kept = W .kept; is = W .is ∙ rw (le-ltb k 10 l) refl }
+long-name {k} l W = record { kept = W .kept; within = W .within; is = W .is ∙ rw (le-ltb k 10 l) refl }
 
 -- ---- which it is
 
 module _ (code : List ℕ) {n : ℕ} (e : n ≡ codeNumber (upper code)) where
   pub below : {r : Line} {old new : List ℕ} → n < 1371 → Named (nameOf (upper code) products) r old new
       → Named (idfm-product-to-short code) r old new
-  below h N = record { kept = N .kept; is = rw (← e, lt-leb 1371 n h) (N .is) }
+  below h N = record { kept = N .kept; within = N .within; is = rw (← e, lt-leb 1371 n h) (N .is) }
 
   pub above : {r : Line} {old new : List ℕ} → 1371 ≤ n → 1384 < n → Named (nameOf (upper code) products) r old new
       → Named (idfm-product-to-short code) r old new
-  above h i N = record { kept = N .kept; is = rw (← e, le-leb 1371 n h, lt-leb n 1384 i) (N .is) }
+  above h i N = record { kept = N .kept; within = N .within; is = rw (← e, le-leb 1371 n h, lt-leb n 1384 i) (N .is) }
 
   pub worked-out : {r : ℕ} {old new : List ℕ} → 1371 ≤ n → n ≤ 1384 → Wrote (lineName (n - 1370)) r old new
       → Named (idfm-product-to-short code) (Short r) old new
-  worked-out h i W = record { kept = W .kept; is = rw (← e, le-leb 1371 n h, le-leb n 1384 i) (ap some (sym (W .is))) }
+  worked-out h i W = record { kept = W .kept; within = W .within; is = rw (← e, le-leb 1371 n h, le-leb n 1384 i) (ap some (sym (W .is))) }

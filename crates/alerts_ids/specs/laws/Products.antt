@@ -19,8 +19,11 @@ pub wrote : (name old new : List ℕ) → length name ≤ length old → new ≡
 wrote name old new h e =
     let z : 0 + length name ≡ length name = omega arith in
     let f : new ≡ name ++ drop (length name) old = e ∙ ap (λ k. name ++ drop k old) z in
+    let k : length new ≡ length old =
+    ap length f ∙ length-append name (drop (length name) old) ∙ omega (arith, length-drop (length name) old) in
     record {
-      kept = ap length f ∙ length-append name (drop (length name) old) ∙ omega (arith, length-drop (length name) old);
+      kept = k;
+      within = omega (arith, h, k);
       is = ap (take (length name)) f ∙ take-append-seam name (drop (length name) old);
     }
 
@@ -37,6 +40,7 @@ module _ (t r : List ℕ) (at : ℕ) (e : r ≡ trimEnd (take (at + 9 - (at + 6)
   pub row-wrote : {n : ℕ} {old new : List ℕ} → Wrote r n old new → Wrote (nameIn t at) n old new
   row-wrote W = record {
     kept = W .kept;
+    within = W .within;
     is = W .is ∙ e ∙ ap (λ k. trimEnd (take k (drop (at + 6) t))) (three at);
   }
 
@@ -74,11 +78,11 @@ module _ {code t : List ℕ} {n at left : ℕ} {old new : List ℕ} (S : Seeking
   pub row-found : {b : Bool} {k : ℕ} {out : List ℕ} → 0 < left
       → b ≡ sameIgnoringCase code (take (at + 6 - at) (drop at t)) → b ≡ true → Wrote (nameIn t at) k new out
       → Named (nameOf (upper code) (rows n t)) (Short k) old out
-  row-found z e f W = record { kept = W .kept ∙ S .kept; is = told z e ∙ rw f (ap some (sym (W .is))) }
+  row-found z e f W = record { kept = W .kept ∙ S .kept; within = W .within; is = told z e ∙ rw f (ap some (sym (W .is))) }
 
   pub seeking-on : {b : Bool} → 0 < left → b ≡ sameIgnoringCase code (take (at + 6 - at) (drop at t)) → b ≡ false
       → Seeking code t n (at + 9) (left - 1) old new
   seeking-on z e f = record { kept = S .kept; within = omega (arith, S .within); whole = told z e ∙ rw f refl }
 
   pub none-found : left ≤ 0 → Named (nameOf (upper code) (rows n t)) Unknown old new
-  none-found z = let k : left ≡ 0 = omega arith in record { kept = S .kept; is = S .whole ∙ rw k refl }
+  none-found z = let k : left ≡ 0 = omega arith in record { kept = S .kept; within = omega arith; is = S .whole ∙ rw k refl }

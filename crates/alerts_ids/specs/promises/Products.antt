@@ -2,7 +2,7 @@
 use mathlib.Core.Path.{_≡_}
 use mathlib.Core.List.{List, [], _∷_}
 use mathlib.Core.Option.{Option, none, some}
-use Prim.Native.Nat.{ℕ, zero, suc, _+_}
+use Prim.Native.Nat.{ℕ, zero, suc, _+_, _≤_}
 use lib.ListN.{length, take, drop}
 use Rattle.alerts.specs.Text.{upper, trimEnd}
 use Rattle.alerts_ids.specs.declared.products.Line.{Line}
@@ -19,12 +19,18 @@ rows (suc n) t = (upper (take 6 t), trimEnd (take 3 (drop 6 t))) ∷ rows n (dro
 -- the name takes the first r bytes
 pub record Wrote (name : List ℕ) (r : ℕ) (old new : List ℕ) : Type 0 where
   pub kept : length new ≡ length old
+  pub within : r ≤ length new
   pub is : take r new ≡ name
 
 abbrev pub shownIn : List ℕ → Line → Option (List ℕ)
 shownIn new (Short n) = some (take n new)
 shownIn new Unknown = none
 
+abbrev pub taken : Line → ℕ
+taken (Short n) = n
+taken Unknown = 0
+
 pub record Named (o : Option (List ℕ)) (r : Line) (old new : List ℕ) : Type 0 where
   pub kept : length new ≡ length old
+  pub within : taken r ≤ length new
   pub is : o ≡ shownIn new r

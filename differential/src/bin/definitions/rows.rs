@@ -13,8 +13,9 @@ pub const DEFINITIONS: &[Definition] = &[
     Definition {
         name: "tables",
         preamble: "use Rattle.alerts.specs.Applies.{
-  railModes, accents, letters, numerals, trams, letterRows, numberRows, bareRows, markers, needleRows, primaryRows, products,
+  railModes, accents, letters, numerals, trams, letterRows, numberRows, bareRows, markers, needleRows, primaryRows,
 }
+use Rattle.alerts.specs.laws.LineCodes.{listed}
 ",
         cases: Listed(tables),
         ..OF_APPLIES
@@ -46,7 +47,7 @@ fn tables() -> Vec<Equation> {
         same("markers", list(MARKERS)),
         same("needleRows", quoted(NEEDLE_ROWS)),
         same("primaryRows", quoted(PRIMARY_ROWS)),
-        same("products", format!("({}[])", products.collect::<String>())),
+        same("listed", format!("({}[])", products.collect::<String>())),
     ]
 }
 

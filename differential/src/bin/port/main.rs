@@ -2,6 +2,7 @@
 //! damaged, lists of calls run, and alerts and legs paired as are asked for.
 mod alerts;
 mod big;
+mod codes;
 mod damaged;
 mod ends;
 mod faults;
@@ -33,7 +34,7 @@ fn main() {
     let calls = words.next().map_or(CALLS, |calls| calls as usize);
     let forms = fields::run(seed) + ends::run(seed);
     let messages = trips::run(seed) + feed_alerts::run(seed);
-    let inputs = forms + guards::run() + messages + alerts::run(seed, pairs);
+    let inputs = forms + guards::run() + messages + codes::run(seed) + alerts::run(seed, pairs);
     let differ = inputs + damaged::run(seed, overlays) + lists::run(seed, lists, calls);
     std::process::exit(i32::from(differ > 0));
 }
