@@ -124,4 +124,8 @@ module _ (code : List ℕ) {n : ℕ} (e : n ≡ codeNumber (upper code)) where
 
   pub worked-out : {r : ℕ} {old new : List ℕ} → 1371 ≤ n → n ≤ 1384 → Wrote (lineName (n - 1370)) r old new
       → Named (idfm-product-to-short code) (Short r) old new
-  worked-out h i W = record { kept = W .kept; within = W .within; is = rw (← e, le-leb 1371 n h, le-leb n 1384 i) (ap some (sym (W .is))) }
+  worked-out h i W = record {
+    kept = W .kept;
+    within = W .within;
+    is = rw (← e, le-leb 1371 n h, le-leb n 1384 i) (ap some (sym (W .is)));
+  }

@@ -78,11 +78,17 @@ module _ {code t : List ℕ} {n at left : ℕ} {old new : List ℕ} (S : Seeking
   pub row-found : {b : Bool} {k : ℕ} {out : List ℕ} → 0 < left
       → b ≡ sameIgnoringCase code (take (at + 6 - at) (drop at t)) → b ≡ true → Wrote (nameIn t at) k new out
       → Named (nameOf (upper code) (rows n t)) (Short k) old out
-  row-found z e f W = record { kept = W .kept ∙ S .kept; within = W .within; is = told z e ∙ rw f (ap some (sym (W .is))) }
+  row-found z e f W = record {
+    kept = W .kept ∙ S .kept;
+    within = W .within;
+    is = told z e ∙ rw f (ap some (sym (W .is)));
+  }
 
   pub seeking-on : {b : Bool} → 0 < left → b ≡ sameIgnoringCase code (take (at + 6 - at) (drop at t)) → b ≡ false
       → Seeking code t n (at + 9) (left - 1) old new
   seeking-on z e f = record { kept = S .kept; within = omega (arith, S .within); whole = told z e ∙ rw f refl }
 
   pub none-found : left ≤ 0 → Named (nameOf (upper code) (rows n t)) Unknown old new
-  none-found z = let k : left ≡ 0 = omega arith in record { kept = S .kept; within = omega arith; is = S .whole ∙ rw k refl }
+  none-found z =
+      let k : left ≡ 0 = omega arith in
+      record { kept = S .kept; within = omega arith; is = S .whole ∙ rw k refl }
