@@ -125,11 +125,10 @@ pub fn idfm_product_to_short(code: &[u8], out: &mut [u8]) -> Line
     ensures { λ r. ⌜ Named (idfm-product-to-short (now (code .entry))) r (now (out .entry)) (now (out .exit)) ⌝ }
 {
     let n = code_number(code);
-    if n < 1371 {
-        return listed(code, out);
+    if 1371 <= n {
+        if n <= 1384 {
+            return Line::Short(number_name(n - 1370, out));
+        }
     }
-    if 1384 < n {
-        return listed(code, out);
-    }
-    Line::Short(number_name(n - 1370, out))
+    listed(code, out)
 }
