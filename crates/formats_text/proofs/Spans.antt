@@ -4,17 +4,23 @@ use mathlib.Core.List.{List, []}
 use mathlib.Core.Bool.{Bool, true, false, _&&_}
 use Prim.Native.Nat.{ℕ, zero, suc, _+_, _-_, _≤_, _<_}
 use native.Mathlib.Omega.{arith}
-use native.Mathlib.Nat.{add-zero}
+use native.Mathlib.Nat.{add-zero, zero-add}
 use lib.Dec.{leb, eqb}
-use lib.ListN.{length, drop, getD}
+use lib.ListN.{length, drop, getD, drop-of-length-le}
 use lib.Seq.{drop-cons}
 use borrow.Author.Tests.{lt-leb, le-leb, eqb-true, leb-true, ltb-true, ne-eqb}
 use Rattle.formats.specs.Class.{sequences, goesOn}
 use Rattle.basics.specs.Lists.{all}
-use Rattle.basics.specs.laws.Booleans.{and-assoc, and-true}
+use Rattle.basics.specs.laws.Booleans.{and-assoc, and-yes, and-true}
 use Rattle.formats_text.specs.promises.Due.{ranges}
 use Rattle.formats_text.specs.promises.Span.{span, ascii, plain}
 use Rattle.formats_text.proofs.Leads.{lead-1}
+
+-- what stands in both counts once
+and-again : (a b c : Bool) → ((a && b) && (b && c)) ≡ (a && (b && c))
+and-again true true c = refl
+and-again true false c = refl
+and-again false b c = refl
 
 module _ (p : ℕ → Bool) where
   pub span-all : (n : ℕ) (v : List ℕ) (i : ℕ) → i + n ≤ length v
@@ -32,6 +38,54 @@ module _ (p : ℕ → Bool) where
       && p (getD v (i + 4) 0)) && p (getD v (i + 5) 0)) && p (getD v (i + 6) 0)) && p (getD v (i + 7) 0))
       ≡ span p 8 v i
   span-eight v i = rw (add-zero i)
+
+  pub span-four : (v : List ℕ) (i : ℕ)
+      → (((p (getD v i 0) && p (getD v (i + 1) 0)) && p (getD v (i + 2) 0)) && p (getD v (i + 3) 0)) ≡ span p 4 v i
+  span-four v i = rw (add-zero i)
+
+  span-join : (m n : ℕ) (v : List ℕ) (i : ℕ) → span p (m + n) v i ≡ (span p m v i && span p n v (i + m))
+  span-join m zero v i = let e : m + 0 ≡ m = add-zero m in rw e (sym (and-yes (span p m v i)))
+  span-join m (suc n) v i =
+      let e : m + suc n ≡ suc (m + n) = omega arith in
+      let f : i + (m + n) ≡ (i + m) + n = omega arith in
+      ap (λ k. span p k v i) e
+      ∙ ap (λ k. span p (m + n) v i && p (getD v k 0)) f
+      ∙ ap (λ b. b && p (getD v ((i + m) + n) 0)) (span-join m n v i)
+      ∙ and-assoc (span p m v i) (span p n v (i + m)) (p (getD v ((i + m) + n) 0))
+
+  -- both from the start on
+  pub first-all : (i : ℕ) (v : List ℕ) → i ≤ length v → all p v ≡ (span p i v 0 && all p (drop i v))
+  first-all i v h =
+      span-all i v 0 (omega arith) ∙ ap (λ k. span p i v 0 && all p (drop k v)) (zero-add i)
+
+  pub first-join : (m n : ℕ) (v : List ℕ) → span p (m + n) v 0 ≡ (span p m v 0 && span p n v m)
+  first-join m n v = span-join m n v 0 ∙ ap (λ k. span p m v 0 && span p n v k) (zero-add m)
+
+  pub span-whole : (v : List ℕ) → all p v ≡ span p (length v) v 0
+  span-whole v =
+      let h : length v ≤ length v = omega arith in
+      first-all (length v) v h
+      ∙ ap (λ l. span p (length v) v 0 && all p l) (drop-of-length-le v h)
+      ∙ and-yes (span p (length v) v 0)
+
+  -- the first i, and the last n, which may have some of the first among them
+  pub span-ends : (v : List ℕ) (i n : ℕ) → i ≤ length v → n ≤ length v → length v - n ≤ i
+      → (span p i v 0 && span p n v (length v - n)) ≡ all p v
+  span-ends v i n a b c =
+      let k : ℕ = length v - n in
+      let j : ℕ = i - k in
+      let m : ℕ = length v - i in
+      let ei : i ≡ k + j = omega arith in
+      let en : n ≡ j + m = omega arith in
+      let el : length v ≡ k + n = omega arith in
+      let first = ap (λ x. span p x v 0) ei ∙ first-join k j v in
+      let last = ap (λ x. span p x v k) en ∙ span-join j m v k in
+      let whole = span-whole v ∙ ap (λ x. span p x v 0) el ∙ first-join k n v in
+      ap (λ x. x && span p n v k) first
+      ∙ ap (λ x. (span p k v 0 && span p j v k) && x) last
+      ∙ and-again (span p k v 0) (span p j v k) (span p m v (k + j))
+      ∙ ap (λ x. span p k v 0 && x) (sym last)
+      ∙ sym whole
 
 -- bytes that are characters by themselves, where none is begun
 span-sequences : (n : ℕ) (v : List ℕ) (i : ℕ) → i + n ≤ length v → span ascii n v i ≡ true
