@@ -130,10 +130,10 @@ scalar_read {k} s {x} i l {r} h e O t p =
       within = room_far s i l h e Q;
     }
 
-pub merged_read : {t a k : ℕ} (s : List ℕ) {x : List ℕ} (i l : ℕ) {r : Scalar} → i + l ≤ length s
+pub merged_read : {t k : ℕ} (a : ℕ) (s : List ℕ) {x : List ℕ} (i l : ℕ) {r : Scalar} → i + l ≤ length s
     → x ≡ take (i + l) s → Reads scalar (inside a (taking (scalar_at k))) feed t x i Scalar.Nothing r
     → ScalarRead feed t s i l (sub a) k r
-merged_read {t} {a} {k} s i l h e Q = record {
+merged_read {t} {k} a s i l h e Q = record {
   of = λ m q. made_of s i l h e Q m q ∙ inside_sub a (taking (scalar_at k)) none m
       ∙ taking_last (scalar_at k) none (sub a m) ∙ leaf_is k (last k (sub a m));
   within = room_far s i l h e Q;
