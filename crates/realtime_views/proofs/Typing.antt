@@ -141,7 +141,7 @@ merged_read {t} {k} a s i l h e Q = record {
 
 pub scalar_read_in : {a k : ℕ} (s : List ℕ) {x : List ℕ} (i l : ℕ) {r : Scalar} → i + l ≤ length s
     → x ≡ take (i + l) s → OneReadsIn a k x i Scalar.Nothing r → OneReadIn a k s i l r
-scalar_read_in s i l h e O t u p v = merged_read s i l h e (record { made = O.of t u p v; within = O.within })
+scalar_read_in s i l h e O t u p v = merged_read _ s i l h e (record { made = O.of t u p v; within = O.within })
 
 -- what the readers of a message ask: it starts in the bytes up to its end
 pub starts_in : (s : List ℕ) {x : List ℕ} (i l : ℕ) → i + l ≤ length s → x ≡ take (i + l) s → i ≤ length x

@@ -9,9 +9,9 @@ returns-then-present c = rw c.if-present.true refl
 
 pub slice_bounds-result-end : goal.slice_bounds-result-end
 slice_bounds-result-end c =
-    sym (length-take-le c.before.characters-end.result
+    sym (length-take-le c.characters_end-e.result
     c.args.description.now
-    c.before.characters-end.ensures.within)
+    c.characters_end-e.ensures.within)
 
 pub returns : goal.returns
-returns c = rw c.before.before.if1.false c.before.characters-end.ensures.taken
+returns c = rw c.if-present.false c.characters_end-e.ensures.taken
