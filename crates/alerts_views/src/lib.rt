@@ -1,4 +1,6 @@
 // The alerts of a message, read after the validator: a broken message is answered with anything.
+#![tactic(auto)]
+
 ghost use Rattle.std.specs.Prelude.{◌+◌, ◌≤◌, length};
 ghost use Rattle.realtime_views.specs.Promises.Walks.{SoundWalk};
 ghost use Rattle.alerts_views.specs.Promises.Views.{CountRead, FewRead, IdRead, KeptRead, LeftRead, WordsRead};

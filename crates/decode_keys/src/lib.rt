@@ -1,4 +1,6 @@
 // The keys of an entity go into the index, with the place of the entity.
+#![tactic(auto)]
+
 ghost use Rattle.std.specs.Prelude.{◌+◌, ◌≤◌, ◌++◌, length, take, drop};
 ghost use Rattle.realtime_views.specs.Promises.Views.{part_in, view_direction};
 ghost use Rattle.decode.specs.Key.{dated_key, head_of, tail_of};

@@ -1,4 +1,6 @@
 // The updates of a trip record in ascending order of sequence, and whether a record of the index has too many.
+#![tactic(auto)]
+
 ghost use Rattle.std.specs.Prelude.{◌≡◌, ◌+◌, ◌*◌, ◌≤◌, false, ◌&&◌, ltb, eqb, length, take, get_or};
 ghost use Rattle.basics.specs.Lists.{All};
 ghost use Rattle.maps.specs.Order.{numbers};

@@ -1,4 +1,6 @@
 // The labels of a card's alerts: noted as places in the old overlay's bytes, ascending by what stands there, each once.
+#![tactic(auto)]
+
 ghost use Rattle.std.specs.Prelude.{◌≤◌, ◌<◌, length, get_or};
 ghost use Rattle.decode.specs.Sizes.{most_old};
 ghost use Rattle.journey_labels.specs.Promises.Labels.{most_labels, Inside, SoundLabels};

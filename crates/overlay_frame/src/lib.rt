@@ -1,4 +1,6 @@
 // An overlay written anew with one feed put: where that feed's body goes, what stands before it, and what follows it.
+#![tactic(auto)]
+
 ghost use Rattle.std.specs.Prelude.{◌≡◌, cond, List, ℕ};
 ghost use Rattle.formats_write.specs.Promises.Adds.{Adds};
 ghost use Rattle.overlay.specs.State.{State};

@@ -39,15 +39,16 @@ enter-requires c =
     let a = c.args in
     let S = c.requires.sound_index in
     let w = rank_within a.keys.now a.marks.now a.order.now a.n S
-    (key_in a.keys.now a.n a.len) in (
-      (omega (arith, c.requires.n_le_most_trips), omega (arith, c.rank-r.ensures), omega (arith, c.requires.n_le_most_trips)),
-      (S.marked, S.ordered),
-    )
+    (key_in a.keys.now a.n a.len) in
+    record {
+      n_le_most_trips = (omega (arith, c.requires.n_le_most_trips), omega (arith, c.rank-r.ensures), omega (arith, c.requires.n_le_most_trips));
+      marks_len = (S.marked, S.ordered);
+    }
 
 pub returns : goal.returns
 returns c =
     let a = c.args in
     settles_into a.keys.now a.marks.now a.order.now a.n a.len a.from a.to c.requires.sound_index
     c.rank-r.result c.stands.result c.rank-r.ensures c.stands.ensures
-    c.enter.new.marks c.enter.new.order.0 c.requires.n_le_most_trips.0 c.requires.n_le_most_trips.1
+    c.enter.new.marks c.enter.new.order c.requires.n_le_most_trips.0 c.requires.n_le_most_trips.1
     c.if-stands.false c.enter.ensures.marks_after c.enter.ensures.order_after

@@ -24,7 +24,11 @@ key_order-requires c =
     let b = slot_below a.keys.now a.marks.now a.order.now a.n S a.r (omega arith) in
     let j : c.word.result < a.n = omega (arith, c.word.ensures) in
     let l = S.lengths c.word.result j in
-    (omega (arith, S.keyed), (omega (arith, S.marked), omega (arith, S.keyed)))
+    record {
+      len_in_bounds = omega (arith, S.keyed);
+      slot_in_bounds = omega (arith, S.marked);
+      slot_in_bounds_2 = omega (arith, S.keyed);
+    }
 
 pub returns : goal.returns
 returns c =

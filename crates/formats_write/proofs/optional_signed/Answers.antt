@@ -12,14 +12,11 @@ use mir.Val.{SFits}
 use Rattle.formats_write.proofs.optional_signed.Goals as goal
 
 pub returns-in-Absent : goal.returns-in-Absent
-returns-in-Absent c =
-    Laws.absent_is (λ z. number_w (zig z))
-    (ap given_signed c.in-Absent.is) c.byte.ensures
+returns-in-Absent c = Laws.absent_is (λ z. number_w (zig z)) (ap given_signed c.in-Absent.is) c.byte.ensures
 
 pub returns-in-Present : goal.returns-in-Present
 returns-in-Present c =
-    let f : SFits w64
-    c.in-Present.z = search rules in
+    let f : SFits w64 c.in-Present.z = search rules in
     Laws.present_is (λ z. number_w (zig z)) _
     (ap given_signed c.in-Present.is)
     c.byte-q.ensures

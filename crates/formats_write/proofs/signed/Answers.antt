@@ -6,7 +6,4 @@ use mir.Facts.{to_z-of_z}
 use Rattle.formats_write.proofs.signed.Goals as goal
 
 pub returns : goal.returns
-returns c =
-    Laws.as_number _ _ c.number.ensures
-    (c.to_zigzag.ensures
-    ∙ ap zig (to_z-of_z c.ranges.z))
+returns c = Laws.as_number _ _ c.number.ensures (c.to_zigzag.ensures ∙ ap zig (to_z-of_z c.ranges.z))
