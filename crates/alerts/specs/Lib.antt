@@ -3,5 +3,5 @@ pub mod Alert
 pub mod Index
 pub mod Applies
 pub mod Label
-pub mod promises
-pub mod laws
+pub mod Promises
+pub mod Laws

@@ -10,8 +10,8 @@ use Rattle.basics.specs.Lists.{is_empty}
 use Rattle.basics.specs.Texts.{same}
 
 -- the UTF-8 bytes of a character, and of a quoted text
-abbrev pub utf8Of : ℕ → List ℕ
-utf8Of n =
+abbrev pub utf8_of : ℕ → List ℕ
+utf8_of n =
     cond (ltb n 0x80) (n ∷ [])
     (cond (ltb n 0x800) ((0xc0 + n / 64) ∷ (0x80 + n % 64) ∷ [])
     (cond (ltb n 0x10000) ((0xe0 + n / 4096) ∷ (0x80 + n / 64 % 64) ∷ (0x80 + n % 64) ∷ [])
@@ -19,7 +19,7 @@ utf8Of n =
 
 abbrev pub text : String → List ℕ
 text String.[] = []
-text (String.◌∷◌ c s) = utf8Of (code c) ++ text s
+text (String.◌∷◌ c s) = utf8_of (code c) ++ text s
 
 -- `starts_with`, `ends_with`, `contains`
 abbrev pub begins : List ℕ → List ℕ → Bool
@@ -45,14 +45,14 @@ find p [] = cond (is_empty p) (some 0) none
 find p (b ∷ s) = let r = later (find p s) in cond (begins p (b ∷ s)) (some 0) r
 
 -- `to_ascii_uppercase`, `eq_ignore_ascii_case`
-abbrev pub upperByte : ℕ → ℕ
-upperByte b = cond (inside (97, 122) b) (b - 32) b
+abbrev pub upper_byte : ℕ → ℕ
+upper_byte b = cond (inside (97, 122) b) (b - 32) b
 
 abbrev pub upper : List ℕ → List ℕ
-upper s = map upperByte s
+upper s = map upper_byte s
 
-abbrev pub sameIgnoringCase : List ℕ → List ℕ → Bool
-sameIgnoringCase s t = same (upper s) (upper t)
+abbrev pub same_ignoring_case : List ℕ → List ℕ → Bool
+same_ignoring_case s t = same (upper s) (upper t)
 
 abbrev pub digit : ℕ → Bool
 digit b = inside (48, 57) b
@@ -62,26 +62,26 @@ abbrev pub alphanumeric : ℕ → Bool
 alphanumeric b = digit b || inside (65, 90) b || inside (97, 122) b
 
 -- `trim`, of the texts that question 5 lets in: their only white space is the space
-abbrev pub trimStart : List ℕ → List ℕ
-trimStart [] = []
-trimStart (b ∷ s) = let r = trimStart s in cond (eqb b 32) r (b ∷ s)
+abbrev pub trim_start : List ℕ → List ℕ
+trim_start [] = []
+trim_start (b ∷ s) = let r = trim_start s in cond (eqb b 32) r (b ∷ s)
 
-abbrev pub trimEnd : List ℕ → List ℕ
-trimEnd [] = []
-trimEnd (b ∷ s) = let r = trimEnd s in cond (eqb b 32 && is_empty r) [] (b ∷ r)
+abbrev pub trim_end : List ℕ → List ℕ
+trim_end [] = []
+trim_end (b ∷ s) = let r = trim_end s in cond (eqb b 32 && is_empty r) [] (b ∷ r)
 
 abbrev pub trim : List ℕ → List ℕ
-trim s = trimEnd (trimStart s)
+trim s = trim_end (trim_start s)
 
 -- `rsplit_once`: what stands before and after the last byte c
-abbrev pub splitOff : Bool → ℕ → List ℕ → Option (List ℕ × List ℕ) → Option (List ℕ × List ℕ)
-splitOff t b s (some p) = some (b ∷ p.0, p.1)
-splitOff true b s none = some ([], s)
-splitOff false b s none = none
+abbrev pub split_off : Bool → ℕ → List ℕ → Option (List ℕ × List ℕ) → Option (List ℕ × List ℕ)
+split_off t b s (some p) = some (b ∷ p.0, p.1)
+split_off true b s none = some ([], s)
+split_off false b s none = none
 
 abbrev pub rsplit_once : ℕ → List ℕ → Option (List ℕ × List ℕ)
 rsplit_once c [] = none
-rsplit_once c (b ∷ s) = splitOff (eqb b c) b s (rsplit_once c s)
+rsplit_once c (b ∷ s) = split_off (eqb b c) b s (rsplit_once c s)
 
 -- `split`: the pieces between the bytes that the test takes, in order
 abbrev pub onto : ℕ → List (List ℕ) → List (List ℕ)

@@ -1,12 +1,12 @@
 // Whether an alert whose ids hit a leg applies: road traffic first, and its texts only where the route alone hits.
 ghost use Rattle.std.specs.Prelude.{◌≡◌, length};
-ghost use Rattle.alerts_apply.specs.promises.Hits.{hitAny, Clear, Told, Decided, DecidedNew};
+ghost use Rattle.alerts_apply.specs.Promises.Hits.{hit_any, Clear, Told, Decided, DecidedNew};
 
 use crate::hits::Hit;
 use crate::texts::{road_known, text_fits};
 
 fn is_hit(h: Hit) -> bool
-    ensures { result ≡ hitAny h }
+    ensures { result ≡ hit_any h }
 {
     if h.trip {
         return true;

@@ -1,6 +1,6 @@
 // Which of the leg's ids an alert's ids hit.
 ghost use Rattle.std.specs.Prelude.{◌≡◌};
-ghost use Rattle.alerts_apply.specs.promises.Hits.{HitBy, unless};
+ghost use Rattle.alerts_apply.specs.Promises.Hits.{HitBy, unless};
 
 use alerts_search::candidates::trips_place;
 use alerts_search::ids::{Ask, any_id};

@@ -2,7 +2,7 @@
 // words for each alert. They are the alert's place; 1 where it is not about road traffic, 2 where it is; 1 where the
 // lines that it names are known; and these, a bit for each.
 ghost use Rattle.std.specs.Prelude.{◌+◌, ◌*◌, ◌≤◌, length};
-ghost use Rattle.alerts_apply.specs.promises.Known.{Begun, DecidedKnown, AppliedKnown};
+ghost use Rattle.alerts_apply.specs.Promises.Known.{Begun, DecidedKnown, AppliedKnown};
 
 use crate::applies::{decide, decide_new};
 use crate::hits::{Hit, hit_by};

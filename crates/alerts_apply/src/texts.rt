@@ -1,8 +1,8 @@
 // An alert's texts: its label, whether they may be about the leg's line, whether they are about road traffic.
 ghost use Rattle.std.specs.Prelude.{◌≡◌, ◌+◌, ltb, length};
-ghost use Rattle.alerts_text.specs.promises.Marked.{Roomy};
-ghost use Rattle.alerts_apply.specs.promises.Texts.{Shown, Given, Labelled, Road};
-ghost use Rattle.alerts_apply.specs.promises.Words.{roadWord, FitsAgain, FitsKnown, Fits, RoadKnown};
+ghost use Rattle.alerts_text.specs.Promises.Marked.{Roomy};
+ghost use Rattle.alerts_apply.specs.Promises.Texts.{Shown, Given, Labelled, Road};
+ghost use Rattle.alerts_apply.specs.Promises.Words.{road_word, FitsAgain, FitsKnown, Fits, RoadKnown};
 
 use alerts_text::blob::{first_fits, named_fits, settle_name};
 use alerts_text::lines::Settled;
@@ -147,7 +147,7 @@ fn road_alert(text: &mut [u8], s: &[u8], at: usize) -> bool
 }
 
 fn road_word(road: bool) -> u32
-    ensures { result ≡ roadWord road }
+    ensures { result ≡ road_word road }
 {
     if road { 2 } else { 1 }
 }

@@ -4,12 +4,12 @@ pub mod products; // product codes and their lines
 ghost use Rattle.std.specs.Prelude.{◌≡◌, ◌++◌, ◌≤◌, length, drop};
 ghost use Rattle.basics.specs.Lists.{all, any};
 ghost use Rattle.basics.specs.Texts.{same};
-ghost use Rattle.alerts.specs.Text.{text, ends, upperByte, upper, sameIgnoringCase};
-ghost use Rattle.alerts.specs.Text.{digit, alphanumeric, trimStart, trimEnd, trim};
+ghost use Rattle.alerts.specs.Text.{text, ends, upper_byte, upper, same_ignoring_case};
+ghost use Rattle.alerts.specs.Text.{digit, alphanumeric, trim_start, trim_end, trim};
 ghost use Rattle.alerts.specs.Index.{undated};
-ghost use Rattle.alerts.specs.Applies.{is_code, rfind, segment, tails-match, route-refs-match, short-names-equal};
-ghost use Rattle.alerts.specs.Applies.{by_name, railModes, is-rail-like-mode, stop-tail};
-ghost use Rattle.alerts_ids.specs.promises.Cuts.{LastOf, cuts, LastPiece, takes, FirstPiece, Coded};
+ghost use Rattle.alerts.specs.Applies.{is_code, rfind, segment, tails_match, route_refs_match, short_names_equal};
+ghost use Rattle.alerts.specs.Applies.{by_name, rail_modes, is_rail_like_mode, stop_tail};
+ghost use Rattle.alerts_ids.specs.Promises.Cuts.{LastOf, cuts, LastPiece, takes, FirstPiece, Coded};
 
 // Where the product code of an id stands: from, and up to.
 #[derive(Drop)]
@@ -19,7 +19,7 @@ pub enum Token {
 }
 
 fn capital(b: u8) -> u8
-    ensures { result ≡ upperByte b }
+    ensures { result ≡ upper_byte b }
 {
     if b < 97 {
         return b;
@@ -52,7 +52,7 @@ fn is_alphanumeric(b: u8) -> bool
 }
 
 pub fn same_ignoring_case(a: &[u8], b: &[u8]) -> bool
-    ensures { result ≡ sameIgnoringCase a.now b.now }
+    ensures { result ≡ same_ignoring_case a.now b.now }
 {
     if a.len() != b.len() {
         return false;
@@ -68,7 +68,7 @@ pub fn same_ignoring_case(a: &[u8], b: &[u8]) -> bool
 }
 
 fn trim_start(s: &[u8]) -> &[u8]
-    ensures { result.now ≡ trimStart s.now }
+    ensures { result.now ≡ trim_start s.now }
 {
     let mut a = 0;
     while a < s.len() {
@@ -81,7 +81,7 @@ fn trim_start(s: &[u8]) -> &[u8]
 }
 
 fn trim_end(s: &[u8]) -> &[u8]
-    ensures { result.now ≡ trimEnd s.now }
+    ensures { result.now ≡ trim_end s.now }
 {
     let mut e = s.len();
     while 0 < e {
@@ -213,7 +213,7 @@ pub fn segment(x: &[u8]) -> &[u8]
 }
 
 pub fn stop_tail(x: &[u8]) -> &[u8]
-    ensures { result.now ≡ stop-tail x.now }
+    ensures { result.now ≡ stop_tail x.now }
 {
     last_piece(x, true)
 }
@@ -280,7 +280,7 @@ pub fn product_code_token(x: &[u8]) -> Token
 
 // Whether the last pieces of two route ids agree, where they have three bytes.
 fn tails_match(leg: &[u8], informed: &[u8]) -> bool
-    ensures { result ≡ tails-match (segment leg.now) (segment informed.now) }
+    ensures { result ≡ tails_match (segment leg.now) (segment informed.now) }
 {
     let q = segment(leg);
     if q.len() < 3 {
@@ -290,7 +290,7 @@ fn tails_match(leg: &[u8], informed: &[u8]) -> bool
 }
 
 pub fn route_refs_match(leg: &[u8], informed: &[u8]) -> bool
-    ensures { result ≡ route-refs-match leg.now informed.now }
+    ensures { result ≡ route_refs_match leg.now informed.now }
 {
     if leg.len() == 0 {
         return false;
@@ -311,7 +311,7 @@ pub fn route_refs_match(leg: &[u8], informed: &[u8]) -> bool
 }
 
 pub fn short_names_equal(leg: &[u8], other: &[u8]) -> bool
-    ensures { result ≡ short-names-equal leg.now other.now }
+    ensures { result ≡ short_names_equal leg.now other.now }
 {
     let s = trimmed(leg);
     if s.len() == 0 {
@@ -342,7 +342,7 @@ pub fn by_name(short: &[u8], x: &[u8]) -> bool
 }
 
 fn is_tram_like(mode: &[u8]) -> bool
-    ensures { result ≡ any (same (upper mode.now)) (drop 4 railModes) }
+    ensures { result ≡ any (same (upper mode.now)) (drop 4 rail_modes) }
 {
     if same_ignoring_case(mode, b"TRAM") {
         return true;
@@ -354,7 +354,7 @@ fn is_tram_like(mode: &[u8]) -> bool
 }
 
 pub fn is_rail_like_mode(mode: &[u8]) -> bool
-    ensures { result ≡ is-rail-like-mode mode.now }
+    ensures { result ≡ is_rail_like_mode mode.now }
 {
     if same_ignoring_case(mode, b"RAIL") {
         return true;

@@ -1,8 +1,8 @@
 // Product codes and their lines. No card depends on them.
 ghost use Rattle.std.specs.Prelude.{◌≡◌, ◌+◌, ◌-◌, ◌*◌, ◌≤◌, ◌<◌, length, drop};
 ghost use Rattle.alerts.specs.Text.{upper};
-ghost use Rattle.alerts.specs.Applies.{name_of, products, decimalValue, codeNumber, lineName, idfm-product-to-short};
-ghost use Rattle.alerts_ids.specs.promises.Products.{rows, Wrote, nameIn, Named};
+ghost use Rattle.alerts.specs.Applies.{name_of, products, decimal_value, code_number, line_name, idfm_product_to_short};
+ghost use Rattle.alerts_ids.specs.Promises.Products.{rows, Wrote, name_in, Named};
 
 // A line's name: how many bytes of the output it takes.
 #[derive(Drop)]
@@ -22,7 +22,7 @@ fn write_name(out: &mut [u8], name: &[u8]) -> usize
 // The name of the row at `at`.
 fn row_name(table: &[u8], at: usize, out: &mut [u8]) -> usize
     requires { (at + 9 ≤ length table.now) × (3 ≤ length out.old) }
-    ensures { Wrote (nameIn table.now at) result out.old out.new }
+    ensures { Wrote (name_in table.now at) result out.old out.new }
 {
     let from = at + 6;
     let to = at + 9;
@@ -51,7 +51,7 @@ fn line_of(table: &[u8], n: usize, code: &[u8], out: &mut [u8]) -> Line
 // A line's number in decimal.
 fn number_name(k: u64, out: &mut [u8]) -> usize
     requires { (k < 20) × (3 ≤ length out.old) }
-    ensures { Wrote (lineName k) result out.old out.new }
+    ensures { Wrote (line_name k) result out.old out.new }
 {
     if k < 10 {
         let one = [(48 + k) as u8];
@@ -81,7 +81,7 @@ fn joined(a: u64, b: u64, c: u64, d: u64, e: u64) -> u64
 // The number that the digits from 1 to 5 are.
 fn digits_value(p: &[u8]) -> u64
     requires { length p.now ≡ 6 }
-    ensures { result ≡ decimalValue 0 (drop 1 p.now) }
+    ensures { result ≡ decimal_value 0 (drop 1 p.now) }
 {
     joined(
         value(p[1]),
@@ -94,7 +94,7 @@ fn digits_value(p: &[u8]) -> u64
 
 // The number of a product code; 0 where a text is none.
 fn code_number(code: &[u8]) -> u64
-    ensures { result ≡ codeNumber (upper code.now) }
+    ensures { result ≡ code_number (upper code.now) }
 {
     if code.len() != 6 {
         return 0;
@@ -121,7 +121,7 @@ fn listed(code: &[u8], out: &mut [u8]) -> Line
 // C01371 to C01384 are the lines 1 to 14, without a gap.
 pub fn idfm_product_to_short(code: &[u8], out: &mut [u8]) -> Line
     requires { 3 ≤ length out.old }
-    ensures { Named (idfm-product-to-short code.now) result out.old out.new }
+    ensures { Named (idfm_product_to_short code.now) result out.old out.new }
 {
     let n = code_number(code);
     if 1371 <= n {

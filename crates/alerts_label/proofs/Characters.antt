@@ -10,14 +10,14 @@ use lib.ListN.{length, get_or, take, drop, drop_of_length-le}
 use lib.Seq.{drop-cons, take-suc}
 use borrow.Author.Tests.{le-leb, lt-leb}
 use Rattle.alerts.specs.Label.{continues, characters}
-use Rattle.alerts.specs.promises.Label.{Ends}
-use Rattle.alerts.specs.laws.Label.{on-byte}
+use Rattle.alerts.specs.Promises.Label.{Ends}
+use Rattle.alerts.specs.Laws.Label.{on_byte}
 
-pub continues-low : (b : ℕ) → b < 128 → false ≡ continues b
-continues-low b h = rw (lt-leb 128 b h) refl
+pub continues_low : (b : ℕ) → b < 128 → false ≡ continues b
+continues_low b h = rw (lt-leb 128 b h) refl
 
-pub continues-high : (b : ℕ) → 128 ≤ b → leb b 191 ≡ continues b
-continues-high b h = rw (le-leb 128 b h) refl
+pub continues_high : (b : ℕ) → 128 ≤ b → leb b 191 ≡ continues b
+continues_high b h = rw (le-leb 128 b h) refl
 
 -- the first n characters are the bytes before i and the first `left` characters from there
 pub record Passed (s : List ℕ) (n left i : ℕ) : Type 0 where
@@ -45,7 +45,7 @@ one_more s n left left' i p h e = record {
 
 pub goes_on : (s : List ℕ) (n left i : ℕ) → Passed s n left i → i < length s → continues (get_or s i 0) ≡ true
     → Passed s n left (i + 1)
-goes_on s n left i p h e = one_more s n left left i p h (on-byte left (get_or s i 0) (drop (suc i) s) e)
+goes_on s n left i p h e = one_more s n left left i p h (on_byte left (get_or s i 0) (drop (suc i) s) e)
 
 pub begins : (s : List ℕ) (n left i : ℕ) → Passed s n left i → i < length s → continues (get_or s i 0) ≡ false → 0 < left
     → Passed s n (left - 1) (i + 1)

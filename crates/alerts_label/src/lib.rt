@@ -1,7 +1,7 @@
 // The label of an alert, as a part of lent bytes.
 ghost use Rattle.std.specs.Prelude.{◌≡◌};
 ghost use Rattle.alerts.specs.Label.{continues, label_of};
-ghost use Rattle.alerts.specs.promises.Label.{Ends};
+ghost use Rattle.alerts.specs.Promises.Label.{Ends};
 
 // Whether a byte goes on with a character.
 fn goes_on(b: u8) -> bool

@@ -3,11 +3,11 @@
 ghost use Rattle.std.specs.Prelude.{◌≡◌, ◌||◌, ◌+◌, ◌-◌, ◌<◌, ◌≤◌, eqb, length, get_or, take, drop};
 ghost use Rattle.basics.specs.Texts.{same};
 ghost use Rattle.alerts.specs.Text.{begins};
-ghost use Rattle.alerts_lines.specs.promises.Lines.{width_of, line_at, short_of, tenOf, longOf, last_of, bareOf};
-ghost use Rattle.alerts_lines.specs.promises.Lines.{number_of, tramOf, named_of, subjectOf, standsAt, row_at, row};
-ghost use Rattle.alerts_lines.specs.promises.Lines.{familyOf, table_of, IsLine};
-ghost use Rattle.alerts_lines.specs.promises.Marks.{on, any_from, pick_of, picks, Marked, MarkedBy, MarkedOne};
-ghost use Rattle.alerts_lines.specs.promises.Marks.{MarkedIn, Begin, Cleared};
+ghost use Rattle.alerts_lines.specs.Promises.Lines.{width_of, line_at, short_of, ten_of, long_of, last_of, bare_of};
+ghost use Rattle.alerts_lines.specs.Promises.Lines.{number_of, tram_of, named_of, subject_of, stands_at, row_at, row};
+ghost use Rattle.alerts_lines.specs.Promises.Lines.{family_of, table_of, IsLine};
+ghost use Rattle.alerts_lines.specs.Promises.Marks.{on, any_from, pick_of, picks, Marked, MarkedBy, MarkedOne};
+ghost use Rattle.alerts_lines.specs.Promises.Marks.{MarkedIn, Begin, Cleared};
 
 // What is asked of each line.
 #[derive(Drop)]
@@ -91,7 +91,7 @@ fn line_is(k: usize, name: &[u8]) -> bool
 // Whether the name of line k stands in s at j, and behind it one of a table's texts.
 fn stands_at(s: &[u8], j: usize, afters: &[u8], k: usize) -> bool
     requires { k < 32 }
-    ensures { result ≡ standsAt s.now j afters.now k }
+    ensures { result ≡ stands_at s.now j afters.now k }
 {
     if !line_at(s, j, k) {
         return false;
@@ -132,7 +132,7 @@ fn short_line(b: u8, c: u8) -> usize
 }
 
 fn long_number(c: u8) -> usize
-    ensures { result ≡ tenOf c }
+    ensures { result ≡ ten_of c }
 {
     if c < 48 {
         return 32;
@@ -142,7 +142,7 @@ fn long_number(c: u8) -> usize
 
 // The line with a long name, of two digits, whose name may begin with three bytes, or 32.
 fn long_line(b: u8, c: u8, d: u8) -> usize
-    ensures { result ≡ longOf b c d }
+    ensures { result ≡ long_of b c d }
 {
     if b == 49 {
         return long_number(c);
@@ -168,7 +168,7 @@ fn byte_at(s: &[u8], i: usize) -> u8
 
 fn long_at(s: &[u8], j: usize, b: u8, c: u8) -> usize
     requires { j < length s.now }
-    ensures { result ≡ longOf b c (get_or s.now (j + 2) 0) }
+    ensures { result ≡ long_of b c (get_or s.now (j + 2) 0) }
 {
     if s.len() - j <= 2 {
         return long_line(b, c, 0);
@@ -180,7 +180,7 @@ fn long_at(s: &[u8], j: usize, b: u8, c: u8) -> usize
 // Marks line k, if there is one and it stands at j.
 fn mark_one(marks: &mut [u8], s: &[u8], j: usize, afters: &[u8], k: usize)
     requires { length marks.old ≡ 32 }
-    ensures { MarkedOne (standsAt s.now j afters.now) k
+    ensures { MarkedOne (stands_at s.now j afters.now) k
         marks.old marks.new }
 {
     if 32 <= k {
@@ -198,7 +198,7 @@ fn mark_one(marks: &mut [u8], s: &[u8], j: usize, afters: &[u8], k: usize)
 // Marks the lines that stand at j.
 fn mark_at(marks: &mut [u8], s: &[u8], j: usize, afters: &[u8])
     requires { length marks.old ≡ 32 }
-    ensures { Marked (standsAt s.now j afters.now)
+    ensures { Marked (stands_at s.now j afters.now)
         marks.old marks.new }
 {
     if s.len() <= j {
@@ -246,7 +246,7 @@ fn mark_row(marks: &mut [u8], s: &[u8], before: &[u8], first: &[u8], afters: &[u
 // Marks the lines that stand anywhere in s where a family's '#' is.
 fn mark_family(marks: &mut [u8], s: &[u8], first: &[u8], family: &[u8])
     requires { length marks.old ≡ 32 }
-    ensures { MarkedBy first.now (familyOf s.now family.now)
+    ensures { MarkedBy first.now (family_of s.now family.now)
         marks.old marks.new }
 {
     let h = alerts_patterns::next(family, 0, b'#');
@@ -350,7 +350,7 @@ fn mark_last(marks: &mut [u8], s: &[u8])
 // Marks the numbers that stand alone in s.
 fn mark_bare(marks: &mut [u8], s: &[u8])
     requires { length marks.old ≡ 32 }
-    ensures { MarkedIn (bareOf s.now) 5 19 marks.old marks.new }
+    ensures { MarkedIn (bare_of s.now) 5 19 marks.old marks.new }
 {
     mark_class(marks, s, b"19", b" # |.|,;ET #", 5, 19);
     mark_last(marks, s);
@@ -369,7 +369,7 @@ fn mark_numbers(marks: &mut [u8], s: &[u8])
 
 fn mark_trams(marks: &mut [u8], s: &[u8])
     requires { length marks.old ≡ 32 }
-    ensures { MarkedIn (tramOf s.now) 19 32 marks.old marks.new }
+    ensures { MarkedIn (tram_of s.now) 19 32 marks.old marks.new }
 {
     if alerts_patterns::any_in(b"TRAM", s, s) {
         mark_class(marks, s, b"TT", b"#", 19, 32);
@@ -391,7 +391,7 @@ pub fn mark_named(marks: &mut [u8], s: &[u8])
 // Marks the lines that s is about.
 pub fn mark_subjects(marks: &mut [u8], s: &[u8])
     requires { length marks.old ≡ 32 }
-    ensures { Marked (subjectOf s.now) marks.old marks.new }
+    ensures { Marked (subject_of s.now) marks.old marks.new }
 {
     mark_table(
         marks,

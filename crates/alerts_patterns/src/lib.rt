@@ -2,9 +2,9 @@
 // it; and a table of them.
 ghost use Rattle.std.specs.Prelude.{◌≡◌, ◌&&◌, ◌||◌, ◌++◌, ◌+◌, ◌≤◌, ◌<◌, eqb, length, drop};
 ghost use Rattle.alerts.specs.Text.{begins, contains, find};
-ghost use Rattle.alerts_patterns.specs.promises.Occurrence.{foundOf, Skips, SkipsName, Seeks, SeeksTo, between};
-ghost use Rattle.alerts_patterns.specs.promises.Occurrence.{anyPair};
-ghost use Rattle.alerts_patterns.specs.promises.Tables.{up_to, nameFilled, anyIn, anyAt};
+ghost use Rattle.alerts_patterns.specs.Promises.Occurrence.{found_of, Skips, SkipsName, Seeks, SeeksTo, between};
+ghost use Rattle.alerts_patterns.specs.Promises.Occurrence.{any_pair};
+ghost use Rattle.alerts_patterns.specs.Promises.Tables.{up_to, name_filled, any_in, any_at};
 
 // Where a text first occurs.
 #[derive(Drop)]
@@ -102,7 +102,7 @@ fn pair_apart(x: u8, y: u8, a: u8, lo: u8, hi: u8) -> u8
 // it.
 fn pair_in(x: &[u8], y: &[u8], a: u8, lo: u8, hi: u8) -> bool
     requires { length x.now ≡ length y.now }
-    ensures { result ≡ anyPair a lo hi x.now y.now }
+    ensures { result ≡ any_pair a lo hi x.now y.now }
 {
     let mut least: u8 = 255;
     let mut k = 0;
@@ -246,7 +246,7 @@ fn skip_around(s: &[u8], i: usize, before: &[u8], name: &[u8], after: &[u8]) -> 
 // Where the three parts first stand in s.
 pub fn find_around(s: &[u8], before: &[u8], name: &[u8], after: &[u8]) -> Occurrence
     ensures { result ≡
-        foundOf (find (before.now ++ name.now ++ after.now) s.now) }
+        found_of (find (before.now ++ name.now ++ after.now) s.now) }
 {
     let mut i = skip_around(s, 0, before, name, after);
     while i < s.len() {
@@ -264,7 +264,7 @@ pub fn find_around(s: &[u8], before: &[u8], name: &[u8], after: &[u8]) -> Occurr
 
 // Where a pattern, with the name in its place, first stands in s.
 pub fn find_filled(s: &[u8], name: &[u8], pattern: &[u8]) -> Occurrence
-    ensures { result ≡ foundOf (find (nameFilled name.now pattern.now) s.now) }
+    ensures { result ≡ found_of (find (name_filled name.now pattern.now) s.now) }
 {
     let h = next(pattern, 0, b'#');
     if pattern.len() <= h {
@@ -277,7 +277,7 @@ pub fn find_filled(s: &[u8], name: &[u8], pattern: &[u8]) -> Occurrence
 
 // Whether it stands anywhere in s.
 pub fn contains_filled(s: &[u8], name: &[u8], pattern: &[u8]) -> bool
-    ensures { result ≡ contains (nameFilled name.now pattern.now) s.now }
+    ensures { result ≡ contains (name_filled name.now pattern.now) s.now }
 {
     match find_filled(s, name, pattern) {
         Occurrence::At(_) => true,
@@ -287,7 +287,7 @@ pub fn contains_filled(s: &[u8], name: &[u8], pattern: &[u8]) -> bool
 
 // Whether one of a table's patterns does.
 pub fn any_in(table: &[u8], name: &[u8], s: &[u8]) -> bool
-    ensures { result ≡ anyIn table.now name.now s.now }
+    ensures { result ≡ any_in table.now name.now s.now }
 {
     let mut at = 0;
     let mut e = next(table, 0, b'|');
@@ -303,7 +303,7 @@ pub fn any_in(table: &[u8], name: &[u8], s: &[u8]) -> bool
 
 // Whether one of a table's texts stands in s at i.
 pub fn any_at(table: &[u8], s: &[u8], i: usize) -> bool
-    ensures { result ≡ anyAt table.now s.now i }
+    ensures { result ≡ any_at table.now s.now i }
 {
     let mut at = 0;
     let mut e = next(table, 0, b'|');

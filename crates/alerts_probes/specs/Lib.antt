@@ -1,2 +1,2 @@
 pub mod Probes
-pub mod laws
+pub mod Laws

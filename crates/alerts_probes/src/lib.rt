@@ -9,10 +9,10 @@ mod table;
 
 ghost use Rattle.std.specs.Prelude.{◌≡◌, ◌+◌, ltb, length};
 ghost use Rattle.formats.specs.Format.{read};
-ghost use Rattle.formats_judge.specs.Judged.{judgeTo};
+ghost use Rattle.formats_judge.specs.Judged.{judge_to};
 ghost use Rattle.alerts.specs.Alert.{alert};
-ghost use Rattle.alerts_apply.specs.promises.Hits.{Applied};
-ghost use Rattle.alerts_probes.specs.Probes.{textsFit, isFine, appliesTo, LabelShown, LineShown};
+ghost use Rattle.alerts_apply.specs.Promises.Hits.{Applied};
+ghost use Rattle.alerts_probes.specs.Probes.{texts_fit, is_fine, applies_to, LabelShown, LineShown};
 
 use table::{ALERT, ALERT_DEPTH, AN_ALERT};
 
@@ -40,7 +40,7 @@ pub extern "C" fn alerts_text_fits(
     description: &[u8],
     short: &[u8],
 ) -> bool
-    ensures { result ≡ textsFit (length out.old) header.now description.now
+    ensures { result ≡ texts_fit (length out.old) header.now description.now
         short.now }
 {
     let space = alerts_patterns::next(short, 0, b' ');
@@ -55,14 +55,14 @@ pub extern "C" fn alerts_text_fits(
 
 // An alert's end, and the first of the questions 5 to 7 that it fails.
 fn judge_alert(s: &[u8]) -> Judge
-    ensures { result ≡ judgeTo alert s.now 0 }
+    ensures { result ≡ judge_to alert s.now 0 }
 {
     formats_judge::judge_value(&ALERT, ALERT_DEPTH, AN_ALERT, s, 0)
 }
 
 // Whether an alert within its limits stands in front.
 fn stands(s: &[u8]) -> bool
-    ensures { result ≡ isFine (read alert s.now) }
+    ensures { result ≡ is_fine (read alert s.now) }
 {
     let Judge::At(_, n) = judge_alert(s) else {
         return false;
@@ -106,7 +106,7 @@ pub extern "C" fn alerts_applies(
     to: &[u8],
     mode: &[u8],
 ) -> u32
-    ensures { result ≡ appliesTo (length text.old) s.now trip.now
+    ensures { result ≡ applies_to (length text.old) s.now trip.now
         route.now short.now from.now to.now mode.now }
 {
     if text.len() < 2626 {

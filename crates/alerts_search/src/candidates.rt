@@ -1,9 +1,9 @@
 // The search for a leg's candidates among a feed's alerts.
 ghost use Rattle.std.specs.Prelude.{◌≡◌, ◌||◌, ◌<◌, length};
-ghost use Rattle.formats_skip.specs.promises.Passes.{Leads};
+ghost use Rattle.formats_skip.specs.Promises.Passes.{Leads};
 ghost use Rattle.alerts.specs.Alert.{alert};
-ghost use Rattle.alerts_search.specs.promises.Marks.{mostMarks};
-ghost use Rattle.alerts_search.specs.promises.Candidates.{Met, Pushed, Pushes, Candidates};
+ghost use Rattle.alerts_search.specs.Promises.Marks.{most_marks};
+ghost use Rattle.alerts_search.specs.Promises.Candidates.{Met, Pushed, Pushes, Candidates};
 
 use crate::ids::{Ask, any_id};
 use crate::marks::{is_marked, mark, unmark};
@@ -46,7 +46,7 @@ pub fn met_by(s: &[u8], at: usize, trip: &[u8], route: &[u8], from: &[u8], to: &
 
 // The number i goes behind the n candidates where it hits and isn't marked yet.
 fn push(candidates: &mut [u16], met: &mut [u16], n: usize, i: usize, hit: bool) -> usize
-    requires { (length met.old ≡ mostMarks) × (i < 256) }
+    requires { (length met.old ≡ most_marks) × (i < 256) }
     ensures { Pushed hit i n result candidates.old candidates.new met.old
         met.new }
 {
@@ -66,7 +66,7 @@ fn push(candidates: &mut [u16], met: &mut [u16], n: usize, i: usize, hit: bool) 
 
 // Once for each of the three lists.
 fn push_met(candidates: &mut [u16], met: &mut [u16], n: usize, i: usize, m: Meet) -> usize
-    requires { length met.old ≡ mostMarks }
+    requires { length met.old ≡ most_marks }
     ensures { Pushes (m.trip || m.route || m.stop) i n result candidates.old candidates.new
         met.old met.new }
 {
@@ -89,10 +89,10 @@ pub fn find(
     candidates: &mut [u16],
     met: &mut [u16],
 ) -> usize
-    requires { (length candidates.old ≡ 256) × (length met.old ≡ mostMarks) }
+    requires { (length candidates.old ≡ 256) × (length met.old ≡ most_marks) }
     ensures candidates { Candidates trip.now route.now from.now to.now
         s.now at result candidates.new }
-    ensures met_len { length met.new ≡ mostMarks }
+    ensures met_len { length met.new ≡ most_marks }
 {
     unmark(met);
     let count = formats_read::number(s, at);

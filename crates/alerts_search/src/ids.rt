@@ -2,10 +2,10 @@
 ghost use Rattle.std.specs.Prelude.{◌≡◌, ◌||◌};
 ghost use Rattle.basics.specs.Lists.{any};
 ghost use Rattle.basics.specs.Texts.{same};
-ghost use Rattle.alerts.specs.Index.{idKeys};
-ghost use Rattle.alerts_ids.specs.promises.Cuts.{LastOf};
-ghost use Rattle.alerts_search.specs.promises.Ids.{meetsTrip, meetsId, meetsStop, hitsTripId, hitsStopId};
-ghost use Rattle.alerts_search.specs.promises.Ids.{hitsRouteId, answer_of, Asked};
+ghost use Rattle.alerts.specs.Index.{id_keys};
+ghost use Rattle.alerts_ids.specs.Promises.Cuts.{LastOf};
+ghost use Rattle.alerts_search.specs.Promises.Ids.{meets_trip, meets_id, meets_stop, hits_trip_id, hits_stop_id};
+ghost use Rattle.alerts_search.specs.Promises.Ids.{hits_route_id, answer_of, Asked};
 
 use alerts_ids::{last_of, same_ignoring_case, stop_tail, undated};
 
@@ -24,7 +24,7 @@ pub enum Ask {
 // something.
 fn key_in(k: &[u8], x: &[u8], c: usize) -> bool
     requires { LastOf 58 x.now c }
-    ensures { result ≡ any (same k.now) (idKeys x.now) }
+    ensures { result ≡ any (same k.now) (id_keys x.now) }
 {
     if slices::same(k, x) {
         return true;
@@ -41,7 +41,7 @@ fn key_in(k: &[u8], x: &[u8], c: usize) -> bool
 
 // Whether an id of the leg, or what stands past its last ':', is one of the keys of x.
 fn meets_id(k: &[u8], x: &[u8]) -> bool
-    ensures { result ≡ meetsId k.now x.now }
+    ensures { result ≡ meets_id k.now x.now }
 {
     let c = last_of(x, b':');
     if key_in(k, x, c) {
@@ -56,7 +56,7 @@ fn meets_id(k: &[u8], x: &[u8]) -> bool
 }
 
 fn meets_stop(x: &[u8], y: &[u8], id: &[u8]) -> bool
-    ensures { result ≡ meetsStop x.now y.now id.now }
+    ensures { result ≡ meets_stop x.now y.now id.now }
 {
     if meets_id(x, id) {
         return true;
@@ -66,7 +66,7 @@ fn meets_stop(x: &[u8], y: &[u8], id: &[u8]) -> bool
 
 // Whether a trip id, with its date or without, is the leg's, with its date or without.
 fn meets_trip(trip: &[u8], base: &[u8], id: &[u8]) -> bool
-    ensures { result ≡ meetsTrip trip.now base.now id.now }
+    ensures { result ≡ meets_trip trip.now base.now id.now }
 {
     let u = undated(id);
     if slices::same(base, id) {
@@ -82,7 +82,7 @@ fn meets_trip(trip: &[u8], base: &[u8], id: &[u8]) -> bool
 }
 
 fn hits_trip(trip: &[u8], base: &[u8], id: &[u8]) -> bool
-    ensures { result ≡ hitsTripId trip.now base.now id.now }
+    ensures { result ≡ hits_trip_id trip.now base.now id.now }
 {
     if slices::same(id, trip) {
         return true;
@@ -94,7 +94,7 @@ fn hits_trip(trip: &[u8], base: &[u8], id: &[u8]) -> bool
 }
 
 fn hits_stop(x: &[u8], id: &[u8]) -> bool
-    ensures { result ≡ hitsStopId x.now id.now }
+    ensures { result ≡ hits_stop_id x.now id.now }
 {
     if x.len() == 0 {
         return false;
@@ -106,7 +106,7 @@ fn hits_stop(x: &[u8], id: &[u8]) -> bool
 }
 
 fn hits_route(route: &[u8], short: &[u8], id: &[u8]) -> bool
-    ensures { result ≡ hitsRouteId route.now short.now id.now }
+    ensures { result ≡ hits_route_id route.now short.now id.now }
 {
     if alerts_ids::route_refs_match(route, id) {
         return true;
@@ -119,7 +119,7 @@ fn hits_route(route: &[u8], short: &[u8], id: &[u8]) -> bool
 
 fn hits_either(x: &[u8], y: &[u8], id: &[u8]) -> bool
     ensures { result ≡
-        hitsStopId x.now id.now || hitsStopId y.now id.now }
+        hits_stop_id x.now id.now || hits_stop_id y.now id.now }
 {
     if hits_stop(x, id) {
         return true;

@@ -1,5 +1,5 @@
 // The places of a feed's alerts, noted once, so that an alert is found by its number.
-ghost use Rattle.alerts_search.specs.promises.Places.{Kept, Noted};
+ghost use Rattle.alerts_search.specs.Promises.Places.{Kept, Noted};
 
 // The place p at i, where there is room for it.
 fn note(places: &mut [u32], i: usize, p: usize)

@@ -2,17 +2,17 @@
 use Prim.Native.Nat.{ℕ}
 use mathlib.Core.Path.{◌≡◌, refl, sym, ap, ◌∙◌}
 use mathlib.Core.List.{List, [], ◌∷◌, ◌++◌, append_assoc, append-nil}
-use Rattle.formats.specs.Readers.{manyW}
+use Rattle.formats.specs.Readers.{many_w}
 use Rattle.formats_write.specs.declared.Put.{Put}
-use Rattle.formats_write.specs.laws.Adds.{none, then, same}
-use Rattle.formats_write.specs.promises.Adds.{Adds}
-use Rattle.formats_read.specs.laws.Progress.{one_more}
+use Rattle.formats_write.specs.Laws.Adds.{none, then, same}
+use Rattle.formats_write.specs.Promises.Adds.{Adds}
+use Rattle.formats_read.specs.Laws.Progress.{one_more}
 
 -- of all the values, those in `left` are not yet written
 pub record Progress {A : Type 0} (w : A → List ℕ) (l : List ℕ) (r : Put) (m : List ℕ) (q : Put) (all left : List A) :
     Type 0 where
   pub written : List A
-  pub adds : Adds l r m q (manyW w written)
+  pub adds : Adds l r m q (many_w w written)
   pub whole : written ++ left ≡ all
 
 module _ {A : Type 0} {w : A → List ℕ} {l : List ℕ} {r : Put} {all : List A} where
@@ -33,5 +33,5 @@ module _ {A : Type 0} {w : A → List ℕ} {l : List ℕ} {r : Put} {all : List 
     still P e = record { written = P.written; adds = P.adds; whole = ap (λ x. P.written ++ x) (sym e) ∙ P.whole }
 
     -- none is left
-    pub is-done : Progress w l r m q all [] → Adds l r m q (manyW w all)
-    is-done P = same P.adds (ap (manyW w) (sym (append-nil P.written) ∙ P.whole))
+    pub is_done : Progress w l r m q all [] → Adds l r m q (many_w w all)
+    is_done P = same P.adds (ap (many_w w) (sym (append-nil P.written) ∙ P.whole))

@@ -2,12 +2,12 @@
 // ids of its selectors, which have the feed's prefix.
 ghost use Rattle.std.specs.Prelude.{length};
 ghost use Rattle.formats_write.specs.declared.Put.TheVariants.{At};
-ghost use Rattle.formats_write.specs.promises.Adds.{Adds};
-ghost use Rattle.formats_write.specs.promises.Given.{textW};
-ghost use Rattle.realtime_views.specs.promises.Views.{PartInside, partIn};
-ghost use Rattle.alerts_views.specs.promises.Views.{Writable};
-ghost use Rattle.alerts_sheet.specs.promises.Written.{Fair, ListedIds, Sheetable, Short, WrittenAlert};
-ghost use Rattle.alerts_sheet.specs.promises.Written.{WrittenAlerts, WrittenIds, WrittenSheet, named};
+ghost use Rattle.formats_write.specs.Promises.Adds.{Adds};
+ghost use Rattle.formats_write.specs.Promises.Given.{text_w};
+ghost use Rattle.realtime_views.specs.Promises.Views.{PartInside, part_in};
+ghost use Rattle.alerts_views.specs.Promises.Views.{Writable};
+ghost use Rattle.alerts_sheet.specs.Promises.Written.{Fair, ListedIds, Sheetable, Short, WrittenAlert};
+ghost use Rattle.alerts_sheet.specs.Promises.Written.{WrittenAlerts, WrittenIds, WrittenSheet, named};
 
 use formats_write::Put;
 use realtime_read::fields::entity_selector;
@@ -18,7 +18,7 @@ fn write_id(out: &mut [u8], w: Put, feed: &[u8], message: &[u8], id: TextPart) -
     requires short { Short feed.now message.now }
     requires part_inside { PartInside (length message.now) id }
     ensures { Adds out.old w out.new result
-        (textW (named feed.now (partIn message.now id))) }
+        (text_w (named feed.now (part_in message.now id))) }
 {
     let w1 = formats_write::number(out, w, (feed.len() + 1 + id.len) as u64);
     let w2 = formats_write::stretch(out, w1, feed, 0, feed.len());

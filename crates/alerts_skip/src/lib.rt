@@ -1,6 +1,6 @@
 // Quick passes over alerts, as formats_skip has them over leaves.
 ghost use Rattle.formats.specs.Format.{list};
-ghost use Rattle.formats_skip.specs.promises.Passes.{Passes};
+ghost use Rattle.formats_skip.specs.Promises.Passes.{Passes};
 ghost use Rattle.alerts.specs.Alert.{alert};
 
 pub fn past_alert(s: &[u8], at: usize) -> usize

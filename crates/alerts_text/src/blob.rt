@@ -1,13 +1,13 @@
 // The texts of an alert as they are searched: in capitals, and with accents folded, written one after the other into
 // a lent buffer.
 ghost use Rattle.std.specs.Prelude.{◌≡◌, ◌+◌, ◌-◌, ◌<◌, ◌≤◌, length, get_or, take, drop, ◌∷◌, ◌++◌};
-ghost use Rattle.alerts.specs.promises.Reduced.{road};
-ghost use Rattle.alerts.specs.Text.{upperByte};
+ghost use Rattle.alerts.specs.Promises.Reduced.{road};
+ghost use Rattle.alerts.specs.Text.{upper_byte};
 ghost use Rattle.alerts.specs.Applies.{unaccented};
-ghost use Rattle.alerts_lines.specs.promises.Lines.{named_of, IsLine};
-ghost use Rattle.alerts_lines.specs.promises.Marks.{Marked};
-ghost use Rattle.alerts_text.specs.promises.Blob.{letterOf, Stepped, Written, Answered, fits_of, roadOf};
-ghost use Rattle.alerts_text.specs.promises.Marked.{Roomy, MarkedOk, NamedFits, FirstFits, SettlesName};
+ghost use Rattle.alerts_lines.specs.Promises.Lines.{named_of, IsLine};
+ghost use Rattle.alerts_lines.specs.Promises.Marks.{Marked};
+ghost use Rattle.alerts_text.specs.Promises.Blob.{letter_of, Stepped, Written, Answered, fits_of, road_of};
+ghost use Rattle.alerts_text.specs.Promises.Marked.{Roomy, MarkedOk, NamedFits, FirstFits, SettlesName};
 
 use crate::lines::Settled;
 
@@ -26,7 +26,7 @@ const PLAIN: [u8; 64] = [
 ];
 
 fn upper(b: u8) -> u8
-    ensures { result ≡ upperByte b }
+    ensures { result ≡ upper_byte b }
 {
     if b < 97 {
         return b;
@@ -39,7 +39,7 @@ fn upper(b: u8) -> u8
 
 // The plain capital of an accented letter's two bytes, or 0.
 fn plain(a: u8, b: u8) -> u8
-    ensures { result ≡ letterOf (unaccented a b) }
+    ensures { result ≡ letter_of (unaccented a b) }
 {
     if a != 0xc3 {
         return 0;
@@ -57,7 +57,7 @@ fn plain(a: u8, b: u8) -> u8
 // A place that gives one byte, in capitals.
 fn single(s: &[u8], i: usize) -> Step
     requires { i < length s.now }
-    ensures { (result.byte ≡ upperByte (get_or s.now i 0)) × (result.next ≡ i + 1) }
+    ensures { (result.byte ≡ upper_byte (get_or s.now i 0)) × (result.next ≡ i + 1) }
 {
     Step {
         byte: upper(s[i]),
@@ -215,7 +215,7 @@ fn road_at(s: &[u8], n: usize) -> bool
 pub fn road_alert(out: &mut [u8], header: &[u8], description: &[u8], cause: &[u8]) -> bool
     requires { length header.now + length description.now + length cause.now + 1 < length out.old }
     ensures { Answered out.old out.new result
-        (roadOf header.now description.now cause.now) }
+        (road_of header.now description.now cause.now) }
 {
     let a = write_both(out, header, description, false);
     let n = write_next(out, a, cause, false);

@@ -1,15 +1,15 @@
 // Whether a folded text is about a line, names it as advice, or names others.
 ghost use Rattle.std.specs.Prelude.{◌≡◌, ◌+◌, ◌-◌, ◌≤◌, length};
 ghost use Rattle.basics.specs.Lists.{any};
-ghost use Rattle.alerts.specs.Applies.{anyMarker, window};
-ghost use Rattle.alerts.specs.promises.Reduced.{adviceMarkers, secondary, road};
-ghost use Rattle.alerts_patterns.specs.promises.Tables.{nameFilled, patterns};
-ghost use Rattle.alerts_text.specs.promises.Tables.{lesser, nearMarker, nearFilled};
-ghost use Rattle.alerts_text.specs.promises.Marked.{Others, Settles, Opened, MarkedOk};
+ghost use Rattle.alerts.specs.Applies.{any_marker, window};
+ghost use Rattle.alerts.specs.Promises.Reduced.{advice_markers, secondary, road};
+ghost use Rattle.alerts_patterns.specs.Promises.Tables.{name_filled, patterns};
+ghost use Rattle.alerts_text.specs.Promises.Tables.{lesser, near_marker, near_filled};
+ghost use Rattle.alerts_text.specs.Promises.Marked.{Others, Settles, Opened, MarkedOk};
 
 // Whether s has a marker of advice.
 fn marked(s: &[u8]) -> bool
-    ensures { result ≡ anyMarker adviceMarkers s.now }
+    ensures { result ≡ any_marker advice_markers s.now }
 {
     alerts_patterns::any_in(
         b"PRIVILEGIE|SATURATION|REPORTEZ|REPORTER|UTILISEZ|EMPRUNTEZ|EN DIRECTION DE LA LIGNE|VERS LA LIGNE|CORRESPONDANCE AVEC",
@@ -36,7 +36,7 @@ fn ahead(i: usize, end: usize) -> usize
 // Whether a marker stands in the window around the n bytes at i.
 fn marked_near(s: &[u8], i: usize, n: usize) -> bool
     requires { i + n ≤ length s.now }
-    ensures { result ≡ anyMarker adviceMarkers (window s.now i n) }
+    ensures { result ≡ any_marker advice_markers (window s.now i n) }
 {
     let start = back(i);
     let past = i + n;
@@ -46,7 +46,7 @@ fn marked_near(s: &[u8], i: usize, n: usize) -> bool
 
 // How long a pattern is with the name in its place.
 fn filled_len(name: &[u8], pattern: &[u8]) -> usize
-    ensures { result ≡ length (nameFilled name.now pattern.now) }
+    ensures { result ≡ length (name_filled name.now pattern.now) }
 {
     let h = alerts_patterns::next(pattern, 0, b'#');
     if pattern.len() <= h {
@@ -57,7 +57,7 @@ fn filled_len(name: &[u8], pattern: &[u8]) -> usize
 
 // Whether a marker stands near the first place of a pattern.
 fn near_marker(s: &[u8], name: &[u8], pattern: &[u8]) -> bool
-    ensures { result ≡ nearFilled s.now name.now pattern.now }
+    ensures { result ≡ near_filled s.now name.now pattern.now }
 {
     match alerts_patterns::find_filled(s, name, pattern) {
         alerts_patterns::Occurrence::At(i) => {
@@ -70,7 +70,7 @@ fn near_marker(s: &[u8], name: &[u8], pattern: &[u8]) -> bool
 
 // Whether a marker stands near one of the patterns of a table.
 fn any_near(table: &[u8], name: &[u8], s: &[u8]) -> bool
-    ensures { result ≡ any (nearFilled s.now name.now) (patterns table.now) }
+    ensures { result ≡ any (near_filled s.now name.now) (patterns table.now) }
 {
     let mut at = 0;
     let mut e = alerts_patterns::next(table, 0, b'|');

@@ -1,6 +1,6 @@
 // The marks of the 32 lines as the bits of a word, line 0 the lowest.
 ghost use Rattle.std.specs.Prelude.{◌≡◌, cond, ◌+◌, ◌*◌, ◌<◌, eqb, length};
-ghost use Rattle.alerts_text.specs.promises.Word.{bit_of, bits_of, word_of};
+ghost use Rattle.alerts_text.specs.Promises.Word.{bit_of, bits_of, word_of};
 
 fn bit(word: u32) -> u8
     ensures { result ≡ bit_of word }

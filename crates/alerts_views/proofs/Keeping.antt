@@ -9,19 +9,19 @@ use lib.Dec.{leb}
 use lib.ListN.{length}
 use borrow.Author.Tests.{le-leb, lt-leb, not-true, not-false}
 use Rattle.basics.specs.Lists.{filter, all}
-use Rattle.basics.specs.laws.Booleans.{and_no}
+use Rattle.basics.specs.Laws.Booleans.{and_no}
 use Rattle.realtime.specs.Tree.{Tree, tree, rep}
-use Rattle.realtime.specs.Schema.{feed, alertMessage}
+use Rattle.realtime.specs.Schema.{feed, alert_message}
 use Rattle.realtime_views.specs.declared.Walk.{Walk}
 use Rattle.realtime_views.specs.declared.Item.{Item}
-use Rattle.realtime_views.specs.promises.Starts.{atPlain}
-use Rattle.realtime_views.specs.promises.Walks.{SoundWalk, left, ahead}
-use Rattle.realtime_views.specs.laws.Starts.{left-plain, plain-sound}
-use Rattle.realtime_views.specs.laws.Turns.{Left}
-use Rattle.realtime_views.specs.laws.Walks.{found, yielded}
-use Rattle.alerts_feed.specs.Sheet.{hasAlert}
-use Rattle.alerts_views.specs.promises.Views.{FewRead, KeptRead, LeftRead, few, keptCount, keptIn}
-use Rattle.alerts_views.specs.promises.Walks.{AlertCounted, NextEntity, withAlert}
+use Rattle.realtime_views.specs.Promises.Starts.{at_plain}
+use Rattle.realtime_views.specs.Promises.Walks.{SoundWalk, left, ahead}
+use Rattle.realtime_views.specs.Laws.Starts.{left_plain, plain_sound}
+use Rattle.realtime_views.specs.Laws.Turns.{Left}
+use Rattle.realtime_views.specs.Laws.Walks.{found, yielded}
+use Rattle.alerts_feed.specs.Sheet.{has_alert}
+use Rattle.alerts_views.specs.Promises.Views.{FewRead, KeptRead, LeftRead, few, kept_count, kept_in}
+use Rattle.alerts_views.specs.Promises.Walks.{AlertCounted, NextEntity, with_alert}
 
 -- ---- one entity
 
@@ -33,7 +33,7 @@ module _ {s : List ℕ} {i l n : ℕ} (h : n ≤ 256) {b : Bool} (L : LeftRead s
   }
 
   module _ (t : not b ≡ false) {d : Bool} (F : FewRead s i l d) where
-    left_is : (e : Tree) → hasAlert e ≡ true → (x : Bool) → few e ≡ x → withAlert n e ≡ cond x (n + 1) 257
+    left_is : (e : Tree) → has_alert e ≡ true → (x : Bool) → few e ≡ x → with_alert n e ≡ cond x (n + 1) 257
     left_is e g x k =
         ap (λ y. cond y (cond (few e) (n + 1) 257) n) g ∙ ap (λ y. cond y (n + 1) 257) k
 
@@ -52,28 +52,28 @@ module _ {s : List ℕ} {i l n : ℕ} (h : n ≤ 256) {b : Bool} (L : LeftRead s
 -- ---- all entities
 
 -- over n alerts, those that are left
-abbrev pub keptOver : ℕ → List Tree → ℕ
-keptOver n l = cond (all few l && leb (n + length l) 256) (n + length l) 257
+abbrev pub kept_over : ℕ → List Tree → ℕ
+kept_over n l = cond (all few l && leb (n + length l) 256) (n + length l) 257
 
-over_none : (l : List Tree) → keptOver 0 l ≡ keptCount l
+over_none : (l : List Tree) → kept_over 0 l ≡ kept_count l
 over_none l =
     let z : 0 + length l ≡ length l = omega arith in
     ap (λ k. cond (all few l && leb k 256) k 257) z
 
-over-most : (n : ℕ) (l : List Tree) → 256 < n → keptOver n l ≡ 257
-over-most n l h =
+over_most : (n : ℕ) (l : List Tree) → 256 < n → kept_over n l ≡ 257
+over_most n l h =
     ap (λ b. cond (all few l && b) (n + length l) 257) (lt-leb (n + length l) 256 (omega arith))
     ∙ ap (λ b. cond b (n + length l) 257) (and_no (all few l))
 
-over-end : (n : ℕ) → n ≤ 256 → keptOver n [] ≡ n
-over-end n h = ap (λ b. cond b (n + 0) 257) (le-leb (n + 0) 256 (omega arith)) ∙ omega arith
+over_end : (n : ℕ) → n ≤ 256 → kept_over n [] ≡ n
+over_end n h = ap (λ b. cond b (n + 0) 257) (le-leb (n + 0) 256 (omega arith)) ∙ omega arith
 
-over-next : (n : ℕ) (e : Tree) (l : List Tree)
-    → keptOver n (filter hasAlert (e ∷ l)) ≡ keptOver (withAlert n e) (filter hasAlert l)
-over-next n e l = go (hasAlert e) (few e) (filter hasAlert l) refl
+over_next : (n : ℕ) (e : Tree) (l : List Tree)
+    → kept_over n (filter has_alert (e ∷ l)) ≡ kept_over (with_alert n e) (filter has_alert l)
+over_next n e l = go (has_alert e) (few e) (filter has_alert l) refl
   where
     go : (b d : Bool) (k : List Tree) → few e ≡ d
-        → keptOver n (cond b (e ∷ k) k) ≡ keptOver (cond b (cond d (n + 1) 257) n) k
+        → kept_over n (cond b (e ∷ k) k) ≡ kept_over (cond b (cond d (n + 1) 257) n) k
     go false d k g = refl
     go true true k g =
         let z : n + length (e ∷ k) ≡ n + 1 + length k = omega arith in
@@ -81,48 +81,48 @@ over-next n e l = go (hasAlert e) (few e) (filter hasAlert l) refl
         ∙ ap (λ j. cond (all few k && leb j 256) j 257) z
     go true false k g =
         ap (λ x. cond ((x && all few k) && leb (n + length (e ∷ k)) 256) (n + length (e ∷ k)) 257) g
-        ∙ sym (over-most 257 k (omega arith))
+        ∙ sym (over_most 257 k (omega arith))
 
 -- THE INVARIANT
 pub record Keeping (s : List ℕ) (n : ℕ) (w : Walk) : Type 0 where
   pub most : n ≤ 257
   pub sound : SoundWalk s w.outer w.end w.at
-  pub of : (m : Tree) → tree feed alertMessage s ≡ some m
-      → Left feed alertMessage 0 alertMessage 2 s w (λ l. keptOver n (filter hasAlert l) ≡ keptCount (keptIn m))
+  pub of : (m : Tree) → tree feed alert_message s ≡ some m
+      → Left feed alert_message 0 alert_message 2 s w (λ l. kept_over n (filter has_alert l) ≡ kept_count (kept_in m))
 
-pub keeping : (s : List ℕ) {w : Walk} → w ≡ atPlain s → Keeping s 0 w
+pub keeping : (s : List ℕ) {w : Walk} → w ≡ at_plain s → Keeping s 0 w
 keeping s {w} e = record {
   most = omega arith;
-  sound = plain-sound e;
+  sound = plain_sound e;
   of = λ m q. record {
     trees = rep 2 m;
-    left = ap (left feed alertMessage 0 alertMessage 2 s) e ∙ left-plain feed alertMessage 0 alertMessage 2 s
+    left = ap (left feed alert_message 0 alert_message 2 s) e ∙ left_plain feed alert_message 0 alert_message 2 s
         ∙ ap (map (rep 2)) q;
-    holds = over_none (keptIn m);
+    holds = over_none (kept_in m);
   };
 }
 
 module _ {s : List ℕ} {n : ℕ} {w : Walk} (K : Keeping s n w) where
   -- too many, whatever is left
-  pub kept-many : 256 < n → KeptRead s n
-  kept-many h = record {
+  pub kept_many : 256 < n → KeptRead s n
+  kept_many h = record {
     of = λ m q. let L = K.of m q in
         let z : n ≡ 257 = omega (arith, K.most) in
-        z ∙ sym (over-most n (filter hasAlert L.trees) h) ∙ L.holds;
+        z ∙ sym (over_most n (filter has_alert L.trees) h) ∙ L.holds;
   }
 
   module _ {r : Item} (N : NextEntity s w r) where
-    pub kept-all : r ≡ Item.Done → n ≤ 256 → KeptRead s n
-    kept-all d h = record {
+    pub kept_all : r ≡ Item.Done → n ≤ 256 → KeptRead s n
+    kept_all d h = record {
       of = λ m q. let L = K.of m q in
-          sym (over-end n h)
-          ∙ subst (λ l. keptOver n (filter hasAlert l) ≡ keptCount (keptIn m)) (yielded N d L.trees L.left)
+          sym (over_end n h)
+          ∙ subst (λ l. kept_over n (filter has_alert l) ≡ kept_count (kept_in m)) (yielded N d L.trees L.left)
           L.holds;
     }
 
     module _ {i l : ℕ} {w' : Walk} (a : r ≡ Item.At i l w') where
-      pub entity-inside : i + l ≤ length s
-      entity-inside = (found N a).inside
+      pub entity_inside : i + l ≤ length s
+      entity_inside = (found N a).inside
 
       pub fewer : ahead s w' < ahead s w
       fewer = (found N a).less
@@ -136,7 +136,7 @@ module _ {s : List ℕ} {n : ℕ} {w : Walk} (K : Keeping s n w) where
             record {
               trees = z;
               left = g;
-              holds = ap (λ j. keptOver j (filter hasAlert z)) (A.of e o) ∙ sym (over-next n e z)
-                  ∙ ap (λ x. keptOver n (filter hasAlert x)) (sym f) ∙ L.holds;
+              holds = ap (λ j. kept_over j (filter has_alert z)) (A.of e o) ∙ sym (over_next n e z)
+                  ∙ ap (λ x. kept_over n (filter has_alert x)) (sym f) ∙ L.holds;
             };
       }

@@ -1,9 +1,9 @@
 // The alerts of a message, read after the validator: a broken message is answered with anything.
 ghost use Rattle.std.specs.Prelude.{◌+◌, ◌≤◌, length};
-ghost use Rattle.realtime_views.specs.promises.Walks.{SoundWalk};
-ghost use Rattle.alerts_views.specs.promises.Views.{CountRead, FewRead, IdRead, KeptRead, LeftRead, WordsRead};
-ghost use Rattle.alerts_views.specs.promises.Walks.{AlertCounted, NextEntity, NextSelector, SelectorsCounted};
-ghost use Rattle.alerts_views.specs.promises.Words.{DeletedRead, FirstRead, TextRead, Worded};
+ghost use Rattle.realtime_views.specs.Promises.Walks.{SoundWalk};
+ghost use Rattle.alerts_views.specs.Promises.Views.{CountRead, FewRead, IdRead, KeptRead, LeftRead, WordsRead};
+ghost use Rattle.alerts_views.specs.Promises.Walks.{AlertCounted, NextEntity, NextSelector, SelectorsCounted};
+ghost use Rattle.alerts_views.specs.Promises.Words.{DeletedRead, FirstRead, TextRead, Worded};
 
 use formats::{OptionalText, Span};
 use realtime_read::fields::{

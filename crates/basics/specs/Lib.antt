@@ -3,4 +3,4 @@ pub mod Options
 pub mod Texts
 pub mod Integers
 pub mod Rows
-pub mod laws
+pub mod Laws

@@ -19,9 +19,9 @@ is_empty [] = true
 is_empty (a ∷ l) = false
 
 -- what each element gives, in order
-abbrev pub concatMap : {A B : Type 0} → (A → List B) → List A → List B
-concatMap f [] = []
-concatMap f (a ∷ l) = f a ++ concatMap f l
+abbrev pub concat_map : {A B : Type 0} → (A → List B) → List A → List B
+concat_map f [] = []
+concat_map f (a ∷ l) = f a ++ concat_map f l
 
 abbrev pub All : {A : Type 0} → (A → Type 0) → List A → Type 0
 All ok [] = Unit {0}

@@ -19,29 +19,29 @@ or_else none b = b
 or_else (some a) b = some a
 
 -- `and_then`
-abbrev pub bindO : {A B : Type 0} → Option A → (A → Option B) → Option B
-bindO none q = none
-bindO (some a) q = q a
+abbrev pub bind_o : {A B : Type 0} → Option A → (A → Option B) → Option B
+bind_o none q = none
+bind_o (some a) q = q a
 
 -- of two optional values the first that is given
-abbrev pub orOther : {A : Type 0} → Maybe A → Maybe A → Maybe A
-orOther (inl x) other = other
-orOther (inr a) other = inr a
+abbrev pub or_other : {A : Type 0} → Maybe A → Maybe A → Maybe A
+or_other (inl x) other = other
+or_other (inr a) other = inr a
 
 -- something is there and passes a test
-abbrev pub someAnd : {A : Type 0} → (A → Bool) → Option A → Bool
-someAnd p none = false
-someAnd p (some a) = p a
+abbrev pub some_and : {A : Type 0} → (A → Bool) → Option A → Bool
+some_and p none = false
+some_and p (some a) = p a
 
 -- an optional value is given and passes a test
-abbrev pub givenAnd : {A : Type 0} → (A → Bool) → Maybe A → Bool
-givenAnd p (inl x) = false
-givenAnd p (inr a) = p a
+abbrev pub given_and : {A : Type 0} → (A → Bool) → Maybe A → Bool
+given_and p (inl x) = false
+given_and p (inr a) = p a
 
 -- the given value, else another
-abbrev pub givenOr : {A : Type 0} → A → Maybe A → A
-givenOr old (inl x) = old
-givenOr old (inr a) = a
+abbrev pub given_or : {A : Type 0} → A → Maybe A → A
+given_or old (inl x) = old
+given_or old (inr a) = a
 
 -- something is there
 abbrev pub is_some : {A : Type 0} → Option A → Bool

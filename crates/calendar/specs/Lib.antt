@@ -1,3 +1,3 @@
 pub mod Civil
 pub mod Paris
-pub mod laws
+pub mod Laws

@@ -1,8 +1,8 @@
 // The date in Paris at an instant, for every instant since 1970: the civil calendar, and the rule of document 01's
 // `chrono_tz`.
 ghost use Rattle.std.specs.Prelude.{◌≡◌, ◌≤◌};
-ghost use Rattle.calendar.specs.Civil.{leapDay, yearOf, monthOf, lastSunday};
-ghost use Rattle.calendar.specs.Paris.{isSummer, offsetAt, parisDay, parisDate, digitOf, digitsOf, parisDigits};
+ghost use Rattle.calendar.specs.Civil.{leap_day, year_of, month_of, last_sunday};
+ghost use Rattle.calendar.specs.Paris.{is_summer, offset_at, paris_day, paris_date, digit_of, digits_of, paris_digits};
 
 // A day of a year, the first being 0.
 #[derive(Drop)]
@@ -21,7 +21,7 @@ pub struct Date {
 
 // 1 in a leap year, else 0.
 fn leap_day(year: u64) -> u64
-    ensures { result ≡ leapDay year }
+    ensures { result ≡ leap_day year }
 {
     if year % 400 == 0 {
         return 1;
@@ -37,7 +37,7 @@ fn leap_day(year: u64) -> u64
 
 // The year of the day n days after 1 January 1970.
 fn year_of(n: u64) -> YearDay
-    ensures { result ≡ yearOf n }
+    ensures { result ≡ year_of n }
 {
     let mut year = 1970 + n / 146097 * 400;
     let mut day = n % 146097;
@@ -56,7 +56,7 @@ fn year_of(n: u64) -> YearDay
 
 // The month and the day of the month of a day of a year.
 fn month_of(at: YearDay) -> Date
-    ensures { result ≡ monthOf at }
+    ensures { result ≡ month_of at }
 {
     let year = at.year;
     let february = 28 + leap_day(year);
@@ -84,14 +84,14 @@ fn month_of(at: YearDay) -> Date
 // The last Sunday up to day n, both counted from 1 January 1970, a Thursday.
 fn last_sunday(n: u64) -> u64
     requires { 6 ≤ n }
-    ensures { result ≡ lastSunday n }
+    ensures { result ≡ last_sunday n }
 {
     n - (n % 7 + 4) % 7
 }
 
 // Whether the clocks of Paris are two hours ahead at s.
 fn summer(s: u64) -> bool
-    ensures { result ≡ isSummer s }
+    ensures { result ≡ is_summer s }
 {
     let n = s / 86400;
     let at = year_of(n);
@@ -107,7 +107,7 @@ fn summer(s: u64) -> bool
 }
 
 pub fn offset(s: u64) -> u64
-    ensures { result ≡ offsetAt s }
+    ensures { result ≡ offset_at s }
 {
     if summer(s) {
         return 7200;
@@ -117,28 +117,28 @@ pub fn offset(s: u64) -> u64
 
 // The day in Paris at s. The offset goes to the seconds of the day, so that no sum is too large.
 fn paris_day(s: u64) -> u64
-    ensures { result ≡ parisDay s }
+    ensures { result ≡ paris_day s }
 {
     s / 86400 + (s % 86400 + offset(s)) / 86400
 }
 
 // The date in Paris at s.
 pub fn paris_date(s: u64) -> Date
-    ensures { result ≡ parisDate s }
+    ensures { result ≡ paris_date s }
 {
     month_of(year_of(paris_day(s)))
 }
 
 // The last decimal digit of n, in ASCII.
 fn digit(n: u64) -> u8
-    ensures { result ≡ digitOf n }
+    ensures { result ≡ digit_of n }
 {
     (48 + n % 10) as u8
 }
 
 // A date as eight digits.
 pub fn date_digits(d: Date) -> [u8; 8]
-    ensures { result ≡ digitsOf d }
+    ensures { result ≡ digits_of d }
 {
     [
         digit(d.year / 1000),
@@ -154,7 +154,7 @@ pub fn date_digits(d: Date) -> [u8; 8]
 
 // The date in Paris at s as eight digits.
 pub fn paris_digits(s: u64) -> [u8; 8]
-    ensures { result ≡ parisDigits s }
+    ensures { result ≡ paris_digits s }
 {
     date_digits(paris_date(s))
 }

@@ -3,5 +3,5 @@ pub mod Trip
 pub mod Record
 pub mod Key
 pub mod Leaves
-pub mod promises
-pub mod laws
+pub mod Promises
+pub mod Laws

@@ -3,18 +3,18 @@
 use Rattle.std.specs.Prelude.{ℕ, List, ℤ, pos, negsuc}
 use Rattle.formats.specs.Class.{printable}
 use Rattle.formats.specs.Format.{Format, number, signed, small, text, list, ◌&◌, optional, Value}
-use Rattle.decode.specs.Sizes.{mostUpdates, keyBytes, mostId, mostDate, mostTime}
+use Rattle.decode.specs.Sizes.{most_updates, key_bytes, most_id, most_date, most_time}
 use Rattle.basics.specs.Options.{Maybe}
 
 -- the limits of questions 5 and 6
 abbrev pub id : Format
-id = text mostId printable
+id = text most_id printable
 
 abbrev pub date : Format
-date = text mostDate printable
+date = text most_date printable
 
 abbrev pub time : Format
-time = text mostTime printable
+time = text most_time printable
 
 abbrev pub delay : Format
 delay = signed (negsuc 2147483647) (pos 2147483647)
@@ -26,65 +26,65 @@ abbrev pub number32 : Format
 number32 = number 0 4294967295
 
 -- stop id; delay and time of the arrival, then of the departure; skipped
-abbrev pub stopUpdate : Format
-stopUpdate = id & optional delay & optional instant & optional delay & optional instant & small 1
+abbrev pub stop_update : Format
+stop_update = id & optional delay & optional instant & optional delay & optional instant & small 1
 
 -- delay; cancelled; start date; route; direction; start time; updates, ascending by sequence
 abbrev pub trip : Format
-trip = optional delay & small 1 & date & id & optional number32 & time & list mostUpdates (number32 & stopUpdate)
+trip = optional delay & small 1 & date & id & optional number32 & time & list most_updates (number32 & stop_update)
 
 -- a record by the rest of its key after the feed and ':'
-abbrev pub tripEntry : Format
-tripEntry = text keyBytes printable & trip
+abbrev pub trip_entry : Format
+trip_entry = text key_bytes printable & trip
 
 abbrev pub StopUpdate : Type 0
-StopUpdate = Value stopUpdate
+StopUpdate = Value stop_update
 
 abbrev pub Trip : Type 0
 Trip = Value trip
 
 module _ (u : StopUpdate) where
-  abbrev pub stopOf : List ℕ
-  stopOf = u.0
+  abbrev pub stop_of : List ℕ
+  stop_of = u.0
 
-  abbrev pub arrivalDelayOf : Maybe ℤ
-  arrivalDelayOf = u.1.0
+  abbrev pub arrival_delay_of : Maybe ℤ
+  arrival_delay_of = u.1.0
 
-  abbrev pub arrivalTimeOf : Maybe ℤ
-  arrivalTimeOf = u.1.1.0
+  abbrev pub arrival_time_of : Maybe ℤ
+  arrival_time_of = u.1.1.0
 
-  abbrev pub departureDelayOf : Maybe ℤ
-  departureDelayOf = u.1.1.1.0
+  abbrev pub departure_delay_of : Maybe ℤ
+  departure_delay_of = u.1.1.1.0
 
-  abbrev pub departureTimeOf : Maybe ℤ
-  departureTimeOf = u.1.1.1.1.0
+  abbrev pub departure_time_of : Maybe ℤ
+  departure_time_of = u.1.1.1.1.0
 
 module _ (t : Trip) where
-  abbrev pub delayOf : Maybe ℤ
-  delayOf = t.0
+  abbrev pub delay_of : Maybe ℤ
+  delay_of = t.0
 
-  abbrev pub cancelledOf : ℕ
-  cancelledOf = t.1.0
+  abbrev pub cancelled_of : ℕ
+  cancelled_of = t.1.0
 
-  abbrev pub dateOf : List ℕ
-  dateOf = t.1.1.0
+  abbrev pub date_of : List ℕ
+  date_of = t.1.1.0
 
-  abbrev pub routeOf : List ℕ
-  routeOf = t.1.1.1.0
+  abbrev pub route_of : List ℕ
+  route_of = t.1.1.1.0
 
-  abbrev pub directionOf : Maybe ℕ
-  directionOf = t.1.1.1.1.0
+  abbrev pub direction_of : Maybe ℕ
+  direction_of = t.1.1.1.1.0
 
-  abbrev pub timeOf : List ℕ
-  timeOf = t.1.1.1.1.1.0
+  abbrev pub time_of : List ℕ
+  time_of = t.1.1.1.1.1.0
 
-  abbrev pub updatesOf : List (ℕ × StopUpdate)
-  updatesOf = t.1.1.1.1.1.1
+  abbrev pub updates_of : List (ℕ × StopUpdate)
+  updates_of = t.1.1.1.1.1.1
 
-abbrev pub updateWith : List ℕ → Maybe ℤ → Maybe ℤ → Maybe ℤ → Maybe ℤ → ℕ → StopUpdate
-updateWith stop arrivalDelay arrivalTime departureDelay departureTime skipped =
-    (stop, (arrivalDelay, (arrivalTime, (departureDelay, (departureTime, skipped)))))
+abbrev pub update_with : List ℕ → Maybe ℤ → Maybe ℤ → Maybe ℤ → Maybe ℤ → ℕ → StopUpdate
+update_with stop arrival_delay arrival_time departure_delay departure_time skipped =
+    (stop, (arrival_delay, (arrival_time, (departure_delay, (departure_time, skipped)))))
 
-abbrev pub tripWith : Maybe ℤ → ℕ → List ℕ → List ℕ → Maybe ℕ → List ℕ → List (ℕ × StopUpdate) → Trip
-tripWith delay cancelled date route direction time updates =
+abbrev pub trip_with : Maybe ℤ → ℕ → List ℕ → List ℕ → Maybe ℕ → List ℕ → List (ℕ × StopUpdate) → Trip
+trip_with delay cancelled date route direction time updates =
     (delay, (cancelled, (date, (route, (direction, (time, updates))))))

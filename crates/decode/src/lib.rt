@@ -2,12 +2,12 @@
 pub mod sizes; // how large things may be
 
 ghost use Rattle.std.specs.Prelude.{◌≡◌, ◌+◌, ◌*◌, ◌≤◌, ◌<◌, [], ◌∷◌, ◌++◌, length, take, drop};
-ghost use Rattle.decode.specs.Key.{decimalOf, datedKey, prefixed, directionText, head_of, tailOf};
-ghost use Rattle.realtime_views.specs.promises.Views.{partIn, PartInside, viewDirection};
+ghost use Rattle.decode.specs.Key.{decimal_of, dated_key, prefixed, direction_text, head_of, tail_of};
+ghost use Rattle.realtime_views.specs.Promises.Views.{part_in, PartInside, view_direction};
 ghost use Rattle.basics.specs.Options.{maybe};
-ghost use Rattle.decode.specs.Sizes.{keyBytes, mostFeed, mostId, mostDate, mostTime};
-ghost use Rattle.decode.specs.promises.Written.{Added};
-ghost use Rattle.decode.specs.promises.Keyed.{Room, Short, Keyed};
+ghost use Rattle.decode.specs.Sizes.{key_bytes, most_feed, most_id, most_date, most_time};
+ghost use Rattle.decode.specs.Promises.Written.{Added};
+ghost use Rattle.decode.specs.Promises.Keyed.{Room, Short, Keyed};
 
 use realtime_views::{Direction, TextPart, Trip};
 use sizes::KEY_BYTES;
@@ -40,7 +40,7 @@ fn digit(n: u32) -> u8
 // n in decimal, at most k digits.
 fn decimal(k: usize, out: &mut [u8], at: usize, n: u32) -> usize
     requires { at + k ≤ length out.old }
-    ensures { Added out.old at (decimalOf k n) out.new result }
+    ensures { Added out.old at (decimal_of k n) out.new result }
 {
     if k == 0 {
         return at;
@@ -55,7 +55,7 @@ fn decimal(k: usize, out: &mut [u8], at: usize, n: u32) -> usize
 // A key that stands in the message, into slot n: how long it is.
 pub fn write_key(keys: &mut [u8], n: usize, message: &[u8], start: usize, len: usize) -> usize
     requires room { Room keys.old n }
-    requires len_in_bounds { (start + len ≤ length message.now) × (len ≤ keyBytes) }
+    requires len_in_bounds { (start + len ≤ length message.now) × (len ≤ key_bytes) }
     ensures { Keyed keys.old n (take len (drop start message.now)) keys.new result }
 {
     add(keys, KEY_BYTES * n, slices::part(message, start, len)) - KEY_BYTES * n
@@ -66,7 +66,7 @@ pub fn write_dated(keys: &mut [u8], n: usize, message: &[u8], t: Trip) -> usize
     requires room { Room keys.old n }
     requires short { Short message.now t }
     ensures { Keyed keys.old n
-        (datedKey (partIn message.now t.id) (partIn message.now t.date))
+        (dated_key (part_in message.now t.id) (part_in message.now t.date))
         keys.new result }
 {
     let id = t.id;
@@ -78,10 +78,10 @@ pub fn write_dated(keys: &mut [u8], n: usize, message: &[u8], t: Trip) -> usize
 
 // feed:route, and nothing where there is no route: 16 + 1 + 64 bytes at most.
 fn write_route(keys: &mut [u8], at: usize, feed: &[u8], message: &[u8], route: TextPart) -> usize
-    requires at_in_bounds { (at + 81 ≤ length keys.old) × (length feed.now ≤ mostFeed) }
-    requires part_inside { PartInside (length message.now) route × (route.len ≤ mostId) }
+    requires at_in_bounds { (at + 81 ≤ length keys.old) × (length feed.now ≤ most_feed) }
+    requires part_inside { PartInside (length message.now) route × (route.len ≤ most_id) }
     ensures { Added keys.old at
-        (prefixed feed.now (partIn message.now route)) keys.new result }
+        (prefixed feed.now (part_in message.now route)) keys.new result }
 {
     if route.len == 0 {
         return at;
@@ -95,7 +95,7 @@ fn write_route(keys: &mut [u8], at: usize, feed: &[u8], message: &[u8], route: T
 fn write_direction(keys: &mut [u8], at: usize, direction: Direction) -> usize
     requires { at + 10 ≤ length keys.old }
     ensures { Added keys.old at
-        (directionText (maybe (viewDirection direction))) keys.new result }
+        (direction_text (maybe (view_direction direction))) keys.new result }
 {
     match direction {
         Direction::Given(d) => decimal(10, keys, at, d),
@@ -105,10 +105,10 @@ fn write_direction(keys: &mut [u8], at: usize, direction: Direction) -> usize
 
 // #r=, 81 bytes of a route, &d= and a direction: 97 at most.
 fn write_head(keys: &mut [u8], at: usize, feed: &[u8], message: &[u8], t: Trip) -> usize
-    requires at_in_bounds { (at + 97 ≤ length keys.old) × (length feed.now ≤ mostFeed) }
+    requires at_in_bounds { (at + 97 ≤ length keys.old) × (length feed.now ≤ most_feed) }
     requires short { Short message.now t }
     ensures { Added keys.old at
-        (head_of feed.now (partIn message.now t.route) (maybe (viewDirection t.direction)))
+        (head_of feed.now (part_in message.now t.route) (maybe (view_direction t.direction)))
         keys.new result }
 {
     let route = t.route;
@@ -122,10 +122,10 @@ fn write_head(keys: &mut [u8], at: usize, feed: &[u8], message: &[u8], t: Trip) 
 // &sd= and a date, &st= and a time: 40 bytes at most.
 fn write_tail(keys: &mut [u8], at: usize, message: &[u8], date: TextPart, time: TextPart) -> usize
     requires at_in_bounds { at + 40 ≤ length keys.old }
-    requires part_inside { PartInside (length message.now) date × (date.len ≤ mostDate) }
-    requires part_inside_2 { PartInside (length message.now) time × (time.len ≤ mostTime) }
+    requires part_inside { PartInside (length message.now) date × (date.len ≤ most_date) }
+    requires part_inside_2 { PartInside (length message.now) time × (time.len ≤ most_time) }
     ensures { Added keys.old at
-        (tailOf (partIn message.now date) (partIn message.now time)) keys.new result }
+        (tail_of (part_in message.now date) (part_in message.now time)) keys.new result }
 {
     let a = add(keys, at, b"&sd=");
     let b = add(keys, a, slices::part(message, date.start, date.len));
@@ -136,11 +136,11 @@ fn write_tail(keys: &mut [u8], at: usize, message: &[u8], date: TextPart, time: 
 // The key of an entity without a trip id.
 pub fn write_incomplete(keys: &mut [u8], n: usize, feed: &[u8], message: &[u8], t: Trip) -> usize
     requires room { Room keys.old n }
-    requires feed_len_bound { length feed.now ≤ mostFeed }
+    requires feed_len_bound { length feed.now ≤ most_feed }
     requires short { Short message.now t }
     ensures { Keyed keys.old n
-        (head_of feed.now (partIn message.now t.route) (maybe (viewDirection t.direction))
-        ++ tailOf (partIn message.now t.date) (partIn message.now t.time))
+        (head_of feed.now (part_in message.now t.route) (maybe (view_direction t.direction))
+        ++ tail_of (part_in message.now t.date) (part_in message.now t.time))
         keys.new result }
 {
     let p = write_head(keys, KEY_BYTES * n, feed, message, t);

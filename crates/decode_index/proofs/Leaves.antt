@@ -9,40 +9,40 @@ use lib.ListN.{length, take}
 use borrow.Author.Tests.{lt-ltb, le-ltb}
 use Rattle.basics.specs.Lists.{All}
 use Rattle.formats.specs.Format.{list}
-use Rattle.formats_read.specs.promises.Here.{Here}
-use Rattle.formats_skip.specs.promises.Passes.{Passes}
+use Rattle.formats_read.specs.Promises.Here.{Here}
+use Rattle.formats_skip.specs.Promises.Passes.{Passes}
 use Rattle.realtime.specs.Schema.{feed}
-use Rattle.realtime_views.specs.promises.Views.{HeaderRead}
+use Rattle.realtime_views.specs.Promises.Views.{HeaderRead}
 use Rattle.realtime_views.specs.declared.Header.{Header}
-use Rattle.decode.specs.Trip.{tripEntry}
+use Rattle.decode.specs.Trip.{trip_entry}
 use Rattle.maps.specs.Map.{puts}
 use Rattle.maps.specs.Order.{texts}
-use Rattle.maps.specs.laws.Map.{puts-all}
-use Rattle.decode_slots.specs.Index.{Place, slotPlace, slotted, index}
-use Rattle.decode_slots.specs.promises.Index.{SoundIndex}
-use Rattle.decode_slots.specs.laws.Slots.{index-length}
+use Rattle.maps.specs.Laws.Map.{puts_all}
+use Rattle.decode_slots.specs.Index.{Place, slot_place, slotted, index}
+use Rattle.decode_slots.specs.Promises.Index.{SoundIndex}
+use Rattle.decode_slots.specs.Laws.Slots.{index_length}
 use Rattle.decode.specs.Leaves.{Trips, differential, leaves}
-use Rattle.decode_slots.specs.Places.{oldAt, held_at, held, isNew, crowded, anyCrowded}
-use Rattle.decode_updates.specs.promises.Updates.{ReadableSlot, crowdedIn}
-use Rattle.decode_updates.specs.laws.Updates.{crowded-held}
-use Rattle.decode_old.specs.promises.Old.{OldRecord, Joined}
-use Rattle.decode_index.specs.Message.{messageTree}
-use Rattle.decode_index.specs.promises.Message.{JudgedMessage, AllFit, withEntities, Indexed}
+use Rattle.decode_slots.specs.Places.{old_at, held_at, held, is_new, crowded, any_crowded}
+use Rattle.decode_updates.specs.Promises.Updates.{ReadableSlot, crowded_in}
+use Rattle.decode_updates.specs.Laws.Updates.{crowded_held}
+use Rattle.decode_old.specs.Promises.Old.{OldRecord, Joined}
+use Rattle.decode_index.specs.Message.{message_tree}
+use Rattle.decode_index.specs.Promises.Message.{JudgedMessage, AllFit, with_entities, Indexed}
 use Rattle.decode_index.specs.Leaving.{trips}
-use Rattle.decode_index.specs.promises.Leaving.{Old, Begun, Leaves}
+use Rattle.decode_index.specs.Promises.Leaving.{Old, Begun, Leaves}
 use Rattle.decode_index.specs.declared.Left.{Left}
-use Rattle.decode_index.proofs.Entities.{whole, message-is, held-length}
+use Rattle.decode_index.proofs.Entities.{whole, message_is, held_length}
 
 -- ---- the index before the entities
 
-pub begun-none : {o keys marks order : List ℕ} {at p : ℕ} {d : Bool} → SoundIndex keys marks order 0 → d ≡ false
-    → Passes (list 2048 tripEntry) o at p → Begun o at d keys marks order 0 p
+pub begun_none : {o keys marks order : List ℕ} {at p : ℕ} {d : Bool} → SoundIndex keys marks order 0 → d ≡ false
+    → Passes (list 2048 trip_entry) o at p → Begun o at d keys marks order 0 p
 unfolding held
-begun-none S e P = record { sound = S; few = omega arith; old = tt; of = λ v q h s. rw e refl; passes = P }
+begun_none S e P = record { sound = S; few = omega arith; old = tt; of = λ v q h s. rw e refl; passes = P }
 
-pub begun-old : {o keys marks order : List ℕ} {at n p : ℕ} {d : Bool} → Joined o at keys marks order n p → d ≡ true
+pub begun_old : {o keys marks order : List ℕ} {at n p : ℕ} {d : Bool} → Joined o at keys marks order n p → d ≡ true
     → Begun o at d keys marks order n p
-begun-old J e = record {
+begun_old J e = record {
   sound = J.sound;
   few = J.few;
   old = J.old;
@@ -52,51 +52,51 @@ begun-old J e = record {
 
 -- ---- the places of an index are fit
 
-or-false : (a b : Bool) → (a || b) ≡ false → (a ≡ false) × (b ≡ false)
-or-false true b e = absurd (false≢true (sym e))
-or-false false b e = (refl, e)
+or_false : (a b : Bool) → (a || b) ≡ false → (a ≡ false) × (b ≡ false)
+or_false true b e = absurd (false≢true (sym e))
+or_false false b e = (refl, e)
 
-old-fit : (s o : List ℕ) (m : List (List ℕ × Place)) → All (λ e. OldRecord o e.1) m
-    → anyCrowded (held s o m) ≡ false → AllFit s o m
-unfolding held anyCrowded
-old-fit s o [] a c = tt
-old-fit s o (e ∷ m) a c =
-    let b = or-false (crowded (held_at s o e.1)) _ c in (
+old_fit : (s o : List ℕ) (m : List (List ℕ × Place)) → All (λ e. OldRecord o e.1) m
+    → any_crowded (held s o m) ≡ false → AllFit s o m
+unfolding held any_crowded
+old_fit s o [] a c = tt
+old_fit s o (e ∷ m) a c =
+    let b = or_false (crowded (held_at s o e.1)) _ c in (
       record {
         new = λ n. absurd (false≢true (sym a.0.aged ∙ n));
         old = λ _. a.0;
         calm = λ n. rw n at b.0;
       },
-      old-fit s o m a.1 b.1,
+      old_fit s o m a.1 b.1,
     )
 
-all-calm : (m : Trips) → All (λ e. crowded e.1 ≡ false) m → anyCrowded m ≡ false
-unfolding anyCrowded
-all-calm [] h = refl
-all-calm (e ∷ m) h = rw h.0 (all-calm m h.1)
+all_calm : (m : Trips) → All (λ e. crowded e.1 ≡ false) m → any_crowded m ≡ false
+unfolding any_crowded
+all_calm [] h = refl
+all_calm (e ∷ m) h = rw h.0 (all_calm m h.1)
 
-begun-fit : {o keys marks order : List ℕ} {at n p : ℕ} {d : Bool} (s : List ℕ) → Old o at
+begun_fit : {o keys marks order : List ℕ} {at n p : ℕ} {d : Bool} (s : List ℕ) → Old o at
     → Begun o at d keys marks order n p → AllFit s o (index keys marks order n)
-unfolding anyCrowded
-begun-fit {o} {keys} {marks} {order} {n = n} {d = d} s O B =
-    old-fit s o (index keys marks order n) B.old
-    (ap anyCrowded (B.of O.stands.trips O.stands.end O.stands.here s) ∙ go d)
+unfolding any_crowded
+begun_fit {o} {keys} {marks} {order} {n = n} {d = d} s O B =
+    old_fit s o (index keys marks order n) B.old
+    (ap any_crowded (B.of O.stands.trips O.stands.end O.stands.here s) ∙ go d)
   where
-    go : (b : Bool) → anyCrowded (cond b (puts texts O.stands.trips []) []) ≡ false
-    go true = all-calm (puts texts O.stands.trips [])
-        (puts-all texts (λ e. crowded e.1 ≡ false) O.stands.trips [] O.calm tt)
+    go : (b : Bool) → any_crowded (cond b (puts texts O.stands.trips []) []) ≡ false
+    go true = all_calm (puts texts O.stands.trips [])
+        (puts_all texts (λ e. crowded e.1 ≡ false) O.stands.trips [] O.calm tt)
     go false = refl
 
-slots-readable : (s o keys marks : List ℕ) (n : ℕ) (l : List ℕ) → n ≤ 2049 → All (λ j. j < n) l
+slots_readable : (s o keys marks : List ℕ) (n : ℕ) (l : List ℕ) → n ≤ 2049 → All (λ j. j < n) l
     → AllFit s o (slotted keys marks l) → All (ReadableSlot s marks) l
-slots-readable s o keys marks n [] c b f = tt
-slots-readable s o keys marks n (j ∷ l) c b f =
-    ((omega (arith, b.0), f.0.new), slots-readable s o keys marks n l c b.1 f.1)
+slots_readable s o keys marks n [] c b f = tt
+slots_readable s o keys marks n (j ∷ l) c b f =
+    ((omega (arith, b.0), f.0.new), slots_readable s o keys marks n l c b.1 f.1)
 
-slots-calm : (s o keys marks : List ℕ) (l : List ℕ) → AllFit s o (slotted keys marks l)
-    → All (λ j. isNew (slotPlace marks j) ≡ false → crowded (oldAt o (slotPlace marks j)) ≡ false) l
-slots-calm s o keys marks [] f = tt
-slots-calm s o keys marks (j ∷ l) f = (f.0.calm, slots-calm s o keys marks l f.1)
+slots_calm : (s o keys marks : List ℕ) (l : List ℕ) → AllFit s o (slotted keys marks l)
+    → All (λ j. is_new (slot_place marks j) ≡ false → crowded (old_at o (slot_place marks j)) ≡ false) l
+slots_calm s o keys marks [] f = tt
+slots_calm s o keys marks (j ∷ l) f = (f.0.calm, slots_calm s o keys marks l f.1)
 
 -- ---- the whole
 
@@ -104,57 +104,57 @@ module _ {name s o keys₀ marks₀ order₀ keys marks order : List ℕ} {at n 
     (J : JudgedMessage s) (O : Old o at) (H : HeaderRead feed s h)
     (B : Begun o at h.differential keys₀ marks₀ order₀ n p)
     (I : Indexed name s (index keys₀ marks₀ order₀ n) keys marks order m) where
-  flag : h.differential ≡ differential (messageTree s)
+  flag : h.differential ≡ differential (message_tree s)
   flag = let W = whole s J in ap (λ v. v.differential) (H.of W.message W.read)
-      ∙ ap differential (sym (message-is W))
+      ∙ ap differential (sym (message_is W))
 
-  left_is : (v : Trips) (q : ℕ) → Here (list 2048 tripEntry) o at q v
-      → withEntities name s (held s o (index keys₀ marks₀ order₀ n)) ≡ leaves name (messageTree s) (puts texts v [])
+  left_is : (v : Trips) (q : ℕ) → Here (list 2048 trip_entry) o at q v
+      → with_entities name s (held s o (index keys₀ marks₀ order₀ n)) ≡ leaves name (message_tree s) (puts texts v [])
   unfolding leaves
-  left_is v q k = ap (withEntities name s) (B.of v q k s ∙ ap (λ b. cond b (puts texts v []) []) flag)
+  left_is v q k = ap (with_entities name s) (B.of v q k s ∙ ap (λ b. cond b (puts texts v []) []) flag)
 
-  pub leaves-many : 2048 < m → Leaves name s o at keys marks order Left.ManyTrips
-  leaves-many g = record {
+  pub leaves_many : 2048 < m → Leaves name s o at keys marks order Left.ManyTrips
+  leaves_many g = record {
     sound = λ e. absurd (let z : ◌≡◌ {A = ℕ} 0 1 = cc in omega arith);
     fit = λ e. absurd (let z : ◌≡◌ {A = ℕ} 0 1 = cc in omega arith);
     calm = λ e. absurd (let z : ◌≡◌ {A = ℕ} 0 1 = cc in omega arith);
     passes = λ e. absurd (let z : ◌≡◌ {A = ℕ} 0 1 = cc in omega arith);
-    of = λ v q k. sym (rw (lt-ltb 2048 (length (leaves name (messageTree s) (puts texts v [])))
+    of = λ v q k. sym (rw (lt-ltb 2048 (length (leaves name (message_tree s) (puts texts v [])))
         (rw (← left_is v q k) (I.many g o))) refl);
   }
 
   module _ (g : m ≤ 2048) where
     fits : AllFit s o (index keys marks order m)
-    fits = I.fit g o (begun-fit s O B)
+    fits = I.fit g o (begun_fit s O B)
 
-    pub readable-slots : All (ReadableSlot s marks) (take m order)
-    readable-slots = slots-readable s o keys marks m (take m order) (omega arith) I.sound.slots fits
+    pub readable_slots : All (ReadableSlot s marks) (take m order)
+    readable_slots = slots_readable s o keys marks m (take m order) (omega arith) I.sound.slots fits
 
-    held-is : (v : Trips) (q : ℕ) → Here (list 2048 tripEntry) o at q v
-        → held s o (index keys marks order m) ≡ leaves name (messageTree s) (puts texts v [])
-    held-is v q k = I.few g o ∙ left_is v q k
+    held_is : (v : Trips) (q : ℕ) → Here (list 2048 trip_entry) o at q v
+        → held s o (index keys marks order m) ≡ leaves name (message_tree s) (puts texts v [])
+    held_is v q k = I.few g o ∙ left_is v q k
 
-    short : (v : Trips) (q : ℕ) → Here (list 2048 tripEntry) o at q v
-        → ltb 2048 (length (leaves name (messageTree s) (puts texts v []))) ≡ false
+    short : (v : Trips) (q : ℕ) → Here (list 2048 trip_entry) o at q v
+        → ltb 2048 (length (leaves name (message_tree s) (puts texts v []))) ≡ false
     short v q k =
-        le-ltb 2048 (length (leaves name (messageTree s) (puts texts v [])))
+        le-ltb 2048 (length (leaves name (message_tree s) (puts texts v [])))
         (omega (
           arith,
-          sym (ap length (held-is v q k)),
-          held-length s o (index keys marks order m),
-          index-length keys
+          sym (ap length (held_is v q k)),
+          held_length s o (index keys marks order m),
+          index_length keys
               marks order m I.sound,
         ))
 
-    module _ {c : Bool} (C : c ≡ crowdedIn s marks (take m order)) where
-      crowds : (v : Trips) (q : ℕ) → Here (list 2048 tripEntry) o at q v
-          → anyCrowded (leaves name (messageTree s) (puts texts v [])) ≡ c
+    module _ {c : Bool} (C : c ≡ crowded_in s marks (take m order)) where
+      crowds : (v : Trips) (q : ℕ) → Here (list 2048 trip_entry) o at q v
+          → any_crowded (leaves name (message_tree s) (puts texts v [])) ≡ c
       crowds v q k =
-          ap anyCrowded (sym (held-is v q k))
-          ∙ sym (crowded-held s o keys marks (take m order) (slots-calm s o keys marks (take m order) fits)) ∙ sym C
+          ap any_crowded (sym (held_is v q k))
+          ∙ sym (crowded_held s o keys marks (take m order) (slots_calm s o keys marks (take m order) fits)) ∙ sym C
 
-      pub leaves-crowded : c ≡ true → Leaves name s o at keys marks order Left.ManyUpdates
-      leaves-crowded t = record {
+      pub leaves_crowded : c ≡ true → Leaves name s o at keys marks order Left.ManyUpdates
+      leaves_crowded t = record {
         sound = λ e. absurd (let z : ◌≡◌ {A = ℕ} 0 1 = cc in omega arith);
         fit = λ e. absurd (let z : ◌≡◌ {A = ℕ} 0 1 = cc in omega arith);
         calm = λ e. absurd (let z : ◌≡◌ {A = ℕ} 0 1 = cc in omega arith);
@@ -162,15 +162,15 @@ module _ {name s o keys₀ marks₀ order₀ keys marks order : List ℕ} {at n 
         of = λ v q k. sym (rw (short v q k, crowds v q k, t) refl);
       }
 
-      pub leaves-trips : c ≡ false → Leaves name s o at keys marks order (Left.Trips m p)
-      leaves-trips t =
+      pub leaves_trips : c ≡ false → Leaves name s o at keys marks order (Left.Trips m p)
+      leaves_trips t =
           let S = O.stands in
-          let calm : anyCrowded (held s o (index keys marks order m)) ≡ false =
-          ap anyCrowded (held-is S.trips S.end S.here) ∙ crowds S.trips S.end S.here ∙ t in
+          let calm : any_crowded (held s o (index keys marks order m)) ≡ false =
+          ap any_crowded (held_is S.trips S.end S.here) ∙ crowds S.trips S.end S.here ∙ t in
           record {
             sound = λ {n = i} e. let z : m ≡ i = cc in rw z at I.sound;
             fit = λ {n = i} e. let z : m ≡ i = cc in rw z at fits;
             calm = λ {n = i} e. let z : m ≡ i = cc in rw z at calm;
             passes = λ {next = q} e. let z : p ≡ q = cc in rw z at B.passes;
-            of = λ v q k. ap trips (held-is v q k) ∙ sym (rw (short v q k, crowds v q k, t) refl);
+            of = λ v q k. ap trips (held_is v q k) ∙ sym (rw (short v q k, crowds v q k, t) refl);
           }

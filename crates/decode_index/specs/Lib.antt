@@ -1,4 +1,4 @@
 pub mod Message
 pub mod Leaving
-pub mod promises
-pub mod laws
+pub mod Promises
+pub mod Laws

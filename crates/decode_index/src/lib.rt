@@ -1,11 +1,11 @@
 // The index of what a message leaves of a feed's trips: every entity's keys, in order.
 ghost use Rattle.std.specs.Prelude.{◌≤◌, length};
-ghost use Rattle.decode.specs.Sizes.{mostFeed, mostMessage};
+ghost use Rattle.decode.specs.Sizes.{most_feed, most_message};
 ghost use Rattle.decode_slots.specs.Index.{index};
-ghost use Rattle.decode_slots.specs.promises.Index.{Open, Lent};
-ghost use Rattle.decode_old.specs.promises.Old.{Stands};
-ghost use Rattle.decode_index.specs.promises.Message.{JudgedMessage, Indexed};
-ghost use Rattle.decode_index.specs.promises.Leaving.{Old, Begun, Leaves};
+ghost use Rattle.decode_slots.specs.Promises.Index.{Open, Lent};
+ghost use Rattle.decode_old.specs.Promises.Old.{Stands};
+ghost use Rattle.decode_index.specs.Promises.Message.{JudgedMessage, Indexed};
+ghost use Rattle.decode_index.specs.Promises.Leaving.{Old, Begun, Leaves};
 
 use decode::sizes::MOST_TRIPS;
 use decode_old::Passed;
@@ -22,7 +22,7 @@ pub fn apply_entities(
     message: &[u8],
 ) -> usize
     requires fact { Open keys.old marks.old order.old n }
-    requires feed_len_bound { (length feed.now ≤ mostFeed) × (length message.now ≤ mostMessage) }
+    requires feed_len_bound { (length feed.now ≤ most_feed) × (length message.now ≤ most_message) }
     requires judged_message { JudgedMessage message.now }
     ensures { Indexed feed.now message.now
         (index keys.old marks.old order.old n)
@@ -91,7 +91,7 @@ pub fn leave(
     at: usize,
 ) -> Left
     requires lent { Lent keys.old marks.old order.old }
-    requires feed_len_bound { (length feed.now ≤ mostFeed) × (length message.now ≤ mostMessage) }
+    requires feed_len_bound { (length feed.now ≤ most_feed) × (length message.now ≤ most_message) }
     requires judged_message { JudgedMessage message.now }
     requires old { Old old.now at }
     ensures { Leaves feed.now message.now old.now at

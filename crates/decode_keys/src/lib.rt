@@ -1,12 +1,12 @@
 // The keys of an entity go into the index, with the place of the entity.
 ghost use Rattle.std.specs.Prelude.{◌+◌, ◌≤◌, ◌++◌, length, take, drop};
-ghost use Rattle.realtime_views.specs.promises.Views.{partIn, viewDirection};
-ghost use Rattle.decode.specs.Key.{datedKey, head_of, tailOf};
+ghost use Rattle.realtime_views.specs.Promises.Views.{part_in, view_direction};
+ghost use Rattle.decode.specs.Key.{dated_key, head_of, tail_of};
 ghost use Rattle.basics.specs.Options.{maybe};
-ghost use Rattle.decode.specs.promises.Keyed.{Short};
-ghost use Rattle.decode.specs.Sizes.{keyBytes, mostFeed, mostMessage};
-ghost use Rattle.decode_slots.specs.promises.Index.{Open};
-ghost use Rattle.decode_keys.specs.promises.Entity.{Filed, Entered, FineEntity, Applies};
+ghost use Rattle.decode.specs.Promises.Keyed.{Short};
+ghost use Rattle.decode.specs.Sizes.{key_bytes, most_feed, most_message};
+ghost use Rattle.decode_slots.specs.Promises.Index.{Open};
+ghost use Rattle.decode_keys.specs.Promises.Entity.{Filed, Entered, FineEntity, Applies};
 
 use decode::sizes::MOST_TRIPS;
 use realtime_views::Trip;
@@ -24,7 +24,7 @@ pub fn file_key(
     to: u32,
 ) -> usize
     requires fact { Open keys.old marks.old order.old n }
-    requires len_in_bounds { (start + len ≤ length message.now) × (len ≤ keyBytes) }
+    requires len_in_bounds { (start + len ≤ length message.now) × (len ≤ key_bytes) }
     ensures { Filed keys.old marks.old order.old n
         (take len (drop start message.now)) from to
         keys.new marks.new order.new result }
@@ -47,7 +47,7 @@ fn file_base(
     requires fact { Open keys.old marks.old order.old n }
     requires short { Short message.now t }
     ensures { Filed keys.old marks.old order.old n
-        (partIn message.now t.id) from to keys.new marks.new order.new result }
+        (part_in message.now t.id) from to keys.new marks.new order.new result }
 {
     let id = t.id;
     file_key(keys, marks, order, n, message, id.start, id.len, from, to)
@@ -67,7 +67,7 @@ fn file_dated(
     requires fact { Open keys.old marks.old order.old n }
     requires short { Short message.now t }
     ensures { Filed keys.old marks.old order.old n
-        (datedKey (partIn message.now t.id) (partIn message.now t.date)) from to
+        (dated_key (part_in message.now t.id) (part_in message.now t.date)) from to
         keys.new marks.new order.new result }
 {
     let len = decode::write_dated(keys, n, message, t);
@@ -87,11 +87,11 @@ fn file_incomplete(
     to: u32,
 ) -> usize
     requires fact { Open keys.old marks.old order.old n }
-    requires feed_len_bound { length feed.now ≤ mostFeed }
+    requires feed_len_bound { length feed.now ≤ most_feed }
     requires short { Short message.now t }
     ensures { Filed keys.old marks.old order.old n
-        (head_of feed.now (partIn message.now t.route) (maybe (viewDirection t.direction))
-        ++ tailOf (partIn message.now t.date) (partIn message.now t.time)) from to
+        (head_of feed.now (part_in message.now t.route) (maybe (view_direction t.direction))
+        ++ tail_of (part_in message.now t.date) (part_in message.now t.time)) from to
         keys.new marks.new order.new result }
 {
     let len = decode::write_incomplete(keys, n, feed, message, t);
@@ -111,7 +111,7 @@ fn file_trip(
     to: u32,
 ) -> usize
     requires fact { Open keys.old marks.old order.old n }
-    requires feed_len_bound { length feed.now ≤ mostFeed }
+    requires feed_len_bound { length feed.now ≤ most_feed }
     requires short { Short message.now t }
     ensures { Entered feed.now message.now t from to
         keys.old marks.old order.old n
@@ -145,8 +145,8 @@ pub fn apply(
     len: usize,
 ) -> usize
     requires fact { Open keys.old marks.old order.old n }
-    requires feed_len_bound { length feed.now ≤ mostFeed }
-    requires len_in_bounds { (start + len ≤ length message.now) × (length message.now ≤ mostMessage) }
+    requires feed_len_bound { length feed.now ≤ most_feed }
+    requires len_in_bounds { (start + len ≤ length message.now) × (length message.now ≤ most_message) }
     requires fine_entity { FineEntity message.now start len }
     ensures { Applies feed.now message.now start len
         keys.old marks.old order.old n

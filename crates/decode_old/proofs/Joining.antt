@@ -10,79 +10,79 @@ use lib.Seq.{length-slice}
 use borrow.Author.Tests.{le-ltb}
 use Rattle.basics.specs.Lists.{All}
 use Rattle.formats.specs.Format.{Format, list, Value, read, write}
-use Rattle.formats.specs.laws.Format.{law}
-use Rattle.formats_write.specs.laws.Slices.{slice_is}
-use Rattle.formats_read.specs.laws.Here.{halves}
-use Rattle.formats_read.specs.promises.Here.{Here}
-use Rattle.formats_read.specs.laws.Lists.{listed}
-use Rattle.formats_read.specs.promises.Lists.{Many}
-use Rattle.formats_read.specs.promises.Reads.{ReadsNumber, ReadsText}
-use Rattle.formats_skip.specs.promises.Passes.{Passes}
-use Rattle.formats_skip.specs.laws.Passes.{Passing, list-end}
-use Rattle.formats_read.specs.laws.Walk.{At, Walk, ended, of-list}
-use Rattle.decode.specs.Trip.{Trip, trip, tripEntry}
+use Rattle.formats.specs.Laws.Format.{law}
+use Rattle.formats_write.specs.Laws.Slices.{slice_is}
+use Rattle.formats_read.specs.Laws.Here.{halves}
+use Rattle.formats_read.specs.Promises.Here.{Here}
+use Rattle.formats_read.specs.Laws.Lists.{listed}
+use Rattle.formats_read.specs.Promises.Lists.{Many}
+use Rattle.formats_read.specs.Promises.Reads.{ReadsNumber, ReadsText}
+use Rattle.formats_skip.specs.Promises.Passes.{Passes}
+use Rattle.formats_skip.specs.Laws.Passes.{Passing, list_end}
+use Rattle.formats_read.specs.Laws.Walk.{At, Walk, ended, of_list}
+use Rattle.decode.specs.Trip.{Trip, trip, trip_entry}
 use Rattle.maps.specs.Map.{put}
 use Rattle.maps.specs.Order.{texts}
-use Rattle.maps.specs.laws.Map.{map-put, puts-append, put_all, put-one-more}
+use Rattle.maps.specs.Laws.Map.{map_put, puts_append, put_all, put_one_more}
 use Rattle.decode_slots.specs.Index.{Place, index}
-use Rattle.decode_slots.specs.promises.Index.{SoundIndex, Lent}
-use Rattle.decode_keys.specs.promises.Entity.{Filed}
-use Rattle.decode_slots.specs.laws.Slots.{index-length, sound_none}
-use Rattle.decode_keys.specs.laws.Lengths.{filed-length}
+use Rattle.decode_slots.specs.Promises.Index.{SoundIndex, Lent}
+use Rattle.decode_keys.specs.Promises.Entity.{Filed}
+use Rattle.decode_slots.specs.Laws.Slots.{index_length, sound_none}
+use Rattle.decode_keys.specs.Laws.Lengths.{filed_length}
 use Rattle.decode.specs.Leaves.{Trips}
 use Rattle.decode.specs.Sizes.{beyond}
-use Rattle.decode_slots.specs.Places.{isNew, orNoTrip, recordAt, oldAt, held_at, held}
-use Rattle.decode_old.specs.promises.Old.{Stands, OldRecord, Joined, Entry, FiledEntry, Filled}
+use Rattle.decode_slots.specs.Places.{is_new, or_no_trip, record_at, old_at, held_at, held}
+use Rattle.decode_old.specs.Promises.Old.{Stands, OldRecord, Joined, Entry, FiledEntry, Filled}
 
 -- the bytes of a value that stands somewhere are read as it, and nothing is left
-read-there : (f : Format) {o : List ℕ} {m e : ℕ} {v : Value f} → Here f o m e v
+read_there : (f : Format) {o : List ℕ} {m e : ℕ} {v : Value f} → Here f o m e v
     → read f (take (e - m) (drop m o)) ≡ some (v, [])
-read-there f {o} {m} {e} {v} h =
+read_there f {o} {m} {e} {v} h =
     ap (read f) (slice_is m e o h.forward h.within ∙ h.written ∙ sym (append-nil (write f v)))
     ∙ (law f).there v [] h.fits
 
-old-new : (m e : ℕ) → isNew (beyond + m, beyond + e) ≡ false
-old-new m e = le-ltb (beyond + m) beyond (omega arith)
+old_new : (m e : ℕ) → is_new (beyond + m, beyond + e) ≡ false
+old_new m e = le-ltb (beyond + m) beyond (omega arith)
 
 -- A RECORD THAT STANDS IN THE OLD OVERLAY is what its place in the index stands for
 module _ {o : List ℕ} {m e : ℕ} {t : Trip} (h : Here trip o m e t) where
-  old-read : oldAt o (beyond + m, beyond + e) ≡ t
-  unfolding oldAt
-  old-read =
+  old_read : old_at o (beyond + m, beyond + e) ≡ t
+  unfolding old_at
+  old_read =
       let i : beyond + m - beyond ≡ m = omega arith in
       let j : beyond + e - beyond ≡ e = omega arith in
-      ap orNoTrip (ap (read trip) (λ k. take (j k - i k) (drop (i k) o)) ∙ read-there trip h)
+      ap or_no_trip (ap (read trip) (λ k. take (j k - i k) (drop (i k) o)) ∙ read_there trip h)
 
-  old-record : OldRecord o (beyond + m, beyond + e)
-  old-record = record { aged = old-new m e; forward = omega (arith, h.forward); here = there }
+  old_record : OldRecord o (beyond + m, beyond + e)
+  old_record = record { aged = old_new m e; forward = omega (arith, h.forward); here = there }
     where
-      there : Here trip o (beyond + m - beyond) (beyond + e - beyond) (oldAt o (beyond + m, beyond + e))
+      there : Here trip o (beyond + m - beyond) (beyond + e - beyond) (old_at o (beyond + m, beyond + e))
       there =
           let i : beyond + m - beyond ≡ m = omega arith in
           let j : beyond + e - beyond ≡ e = omega arith in
-          rw (i, j, old-read) h
+          rw (i, j, old_read) h
 
-  old-held : (s : List ℕ) → held_at s o (beyond + m, beyond + e) ≡ t
-  old-held s =
-      ap (λ b. cond b (recordAt s (beyond + m, beyond + e)) (oldAt o (beyond + m, beyond + e))) (old-new m e)
-      ∙ old-read
+  old_held : (s : List ℕ) → held_at s o (beyond + m, beyond + e) ≡ t
+  old_held s =
+      ap (λ b. cond b (record_at s (beyond + m, beyond + e)) (old_at o (beyond + m, beyond + e))) (old_new m e)
+      ∙ old_read
 
 -- an entry that was read: its key from a to m, and its record from there to e
 module _ {o : List ℕ} {p a m e : ℕ} (T : ReadsText o p a m) (P : Passes trip o m e) where
-  record-here : (v : Value tripEntry) (q : ℕ) → Here tripEntry o p q v → Here trip o m q v.1
-  record-here v q h = let x = halves h in let i = T.next x.first in rw i x.second
+  record_here : (v : Value trip_entry) (q : ℕ) → Here trip_entry o p q v → Here trip o m q v.1
+  record_here v q h = let x = halves h in let i = T.next x.first in rw i x.second
 
-  entry-ends : (v : Value tripEntry) (q : ℕ) → Here tripEntry o p q v → e ≡ q
-  entry-ends v q h = P.to (record-here v q h)
+  entry_ends : (v : Value trip_entry) (q : ℕ) → Here trip_entry o p q v → e ≡ q
+  entry_ends v q h = P.to (record_here v q h)
 
-  key-is : (v : Value tripEntry) (q : ℕ) → Here tripEntry o p q v → take (m - a) (drop a o) ≡ v.0
-  key-is v q h = slice_is a m o T.forward T.within ∙ T.bytes (halves h).first
+  key_is : (v : Value trip_entry) (q : ℕ) → Here trip_entry o p q v → take (m - a) (drop a o) ≡ v.0
+  key_is v q h = slice_is a m o T.forward T.within ∙ T.bytes (halves h).first
 
-  pub entry-small : Entry o p → e ≤ 4000000000
-  entry-small E = omega (arith, entry-ends E.entry E.end E.here, E.here.within, E.small)
+  pub entry_small : Entry o p → e ≤ 4000000000
+  entry_small E = omega (arith, entry_ends E.entry E.end E.here, E.here.within, E.small)
 
-  pub key-short : Entry o p → (a + (m - a) ≤ length o) × (m - a ≤ 137)
-  key-short E =
+  pub key_short : Entry o p → (a + (m - a) ≤ length o) × (m - a ≤ 137)
+  key_short E =
       let l = length-slice a m o T.within in
       let b = ap length (T.bytes (halves E.here).first) in
       (omega (arith, T.forward, T.within), omega (arith, E.short))
@@ -91,8 +91,8 @@ module _ {o : List ℕ} {p a m e : ℕ} (T : ReadsText o p a m) (P : Passes trip
       → Filed keys marks order n (take (m - a) (drop a o)) from to keys' marks' order' r
       → FiledEntry o p keys marks order n keys' marks' order' r e
   files f t F = record {
-    ends = entry-ends;
-    filed = λ v h. (m, record-here v e h, rw (f, t, key-is v e h) at F);
+    ends = entry_ends;
+    filed = λ v h. (m, record_here v e h, rw (f, t, key_is v e h) at F);
   }
 
 pub filled_none : {o keys marks order : List ℕ} → Lent keys marks order → Filled o keys marks order 0 []
@@ -101,7 +101,7 @@ filled_none L = record { sound = sound_none L; few = omega arith; old = tt; hold
 
 pub filled_more : {o keys marks order keys' marks' order' : List ℕ} {p n r e : ℕ}
     → FiledEntry o p keys marks order n keys' marks' order' r e
-    → (us : Trips) (v : Value tripEntry) → Filled o keys marks order n us → Here tripEntry o p e v
+    → (us : Trips) (v : Value trip_entry) → Filled o keys marks order n us → Here trip_entry o p e v
     → Filled o keys' marks' order' r (us ++ (v ∷ []))
 unfolding held
 filled_more {o} {keys} {marks} {order} {n = n} {e = e} P us v D h =
@@ -113,34 +113,34 @@ filled_more {o} {keys} {marks} {order} {n = n} {e = e} P us v D h =
       sound = F.sound;
       few = omega (
         arith,
-        filed-length F,
-        put-one-more texts v.0 at m,
-        index-length keys marks order n D.sound,
+        filed_length F,
+        put_one_more texts v.0 at m,
+        index_length keys marks order n D.sound,
         D.few,
         length-append us (v ∷ []),
       );
-      old = rw F.map (put_all texts (λ e. OldRecord o e.1) v.0 at m (old-record x.1) D.old);
+      old = rw F.map (put_all texts (λ e. OldRecord o e.1) v.0 at m (old_record x.1) D.old);
       holds = λ s.
-          ap (held s o) F.map ∙ map-put texts (held_at s o) v.0 at m
-          ∙ (λ i. put texts v.0 (old-held x.1 s i) (D.holds s i))
-          ∙ sym (puts-append texts us (v ∷ []) []);
+          ap (held s o) F.map ∙ map_put texts (held_at s o) v.0 at m
+          ∙ (λ i. put texts v.0 (old_held x.1 s i) (D.holds s i))
+          ∙ sym (puts_append texts us (v ∷ []) []);
     }
 
 -- the walk over the entries, c in number from a on
 module _ {o : List ℕ} {at c a : ℕ} (S : Stands o at) (N : ReadsNumber o at c a) {keys marks order : List ℕ}
-    {p left n : ℕ} (W : Walk tripEntry o a c p left (Filled o keys marks order n)) where
-  now-at : At tripEntry o S.end S.trips p left (Filled o keys marks order n)
-  now-at =
+    {p left n : ℕ} (W : Walk trip_entry o a c p left (Filled o keys marks order n)) where
+  now_at : At trip_entry o S.end S.trips p left (Filled o keys marks order n)
+  now_at =
       let x = (listed S.here).1 in
       let y = N.next x.count in
       W.at S.trips S.end (sym (N.value x.count)) (rw y x.values)
 
-  pub sound-now : SoundIndex keys marks order n
-  sound-now = now-at.so.sound
+  pub sound_now : SoundIndex keys marks order n
+  sound_now = now_at.so.sound
 
-  pub few-now : 0 < left → n ≤ 2048
-  few-now z =
-      let A = now-at in omega (
+  pub few_now : 0 < left → n ≤ 2048
+  few_now z =
+      let A = now_at in omega (
         arith,
         A.so.few,
         A.count,
@@ -154,18 +154,18 @@ module _ {o : List ℕ} {at c a : ℕ} (S : Stands o at) (N : ReadsNumber o at c
   short_back [] ws h = h
   short_back (u ∷ us) ws h = short_back us ws h.1
 
-  first_entry : (ws : Trips) → length ws ≡ left → 0 < left → Many tripEntry o p S.end ws
+  first_entry : (ws : Trips) → length ws ≡ left → 0 < left → Many trip_entry o p S.end ws
       → All (λ e. length e.0 ≤ 137) ws → Entry o p
   first_entry [] l z m h = absurd (omega arith)
   first_entry (w ∷ ws) l z m h = record { entry = w; end = m.0; here = m.1; short = h.0; small = S.small }
 
-  pub entry-now : 0 < left → Entry o p
-  entry-now z =
-      let A = now-at in let j = A.joined in first_entry A.ahead A.count z A.stand
+  pub entry_now : 0 < left → Entry o p
+  entry_now z =
+      let A = now_at in let j = A.joined in first_entry A.ahead A.count z A.stand
       (short_back A.behind A.ahead (rw j S.short))
 
   -- whatever was done with the entries behind
-  passing : Passing tripEntry o a c p left
+  passing : Passing trip_entry o a c p left
   passing = record {
     walk = record {
       at = λ vs q l m.
@@ -183,12 +183,12 @@ module _ {o : List ℕ} {at c a : ℕ} (S : Stands o at) (N : ReadsNumber o at c
 
   pub joins : left ≤ 0 → Joined o at keys marks order n p
   joins z = record {
-    sound = sound-now;
+    sound = sound_now;
     few = omega (arith, (all S.trips S.end S.here).few, S.few);
     old = (all S.trips S.end S.here).old;
     of = λ v q h. (all v q h).holds;
-    passes = list-end passing N z;
+    passes = list_end passing N z;
   }
     where
-      all : (v : Trips) (q : ℕ) → Here (list 2048 tripEntry) o at q v → Filled o keys marks order n v
-      all v q h = of-list {P = Filled o keys marks order n} h N (ended W z)
+      all : (v : Trips) (q : ℕ) → Here (list 2048 trip_entry) o at q v → Filled o keys marks order n v
+      all v q h = of_list {P = Filled o keys marks order n} h N (ended W z)

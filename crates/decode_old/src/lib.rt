@@ -1,15 +1,15 @@
 // The old trips of a feed join the index before a message's entities: where the message says what has changed, and not
 // all there is.
 ghost use Rattle.std.specs.Prelude.{◌≡◌, ◌+◌, ◌≤◌};
-ghost use Rattle.decode_slots.specs.promises.Index.{Open, Lent};
-ghost use Rattle.decode.specs.Sizes.{beyond, mostOld};
-ghost use Rattle.decode_old.specs.promises.Old.{Stands, Joined, Entry, FiledEntry};
+ghost use Rattle.decode_slots.specs.Promises.Index.{Open, Lent};
+ghost use Rattle.decode.specs.Sizes.{beyond, most_old};
+ghost use Rattle.decode_old.specs.Promises.Old.{Stands, Joined, Entry, FiledEntry};
 
 use decode::sizes::BEYOND;
 
 // A place of the old overlay's bytes, above all those of a message.
 fn old_place(p: usize) -> u32
-    requires { p ≤ mostOld }
+    requires { p ≤ most_old }
     ensures { result ≡ beyond + p }
 {
     (BEYOND + p) as u32

@@ -9,14 +9,14 @@ use native.Mathlib.Omega.{arith}
 use lib.Seq.{take-length}
 use Rattle.realtime.specs.Tree.{Tree, tree}
 use Rattle.realtime.specs.Schema.{feed}
-use Rattle.realtime.specs.Judge.{Rules, asked, textsFine, numbersFine}
+use Rattle.realtime.specs.Judge.{Rules, asked, texts_fine, numbers_fine}
 use Rattle.realtime.specs.declared.Verdict.{Verdict}
 use Rattle.basics.specs.Texts.{same}
 use Rattle.realtime.specs.Views.{TripView}
-use Rattle.realtime_views.specs.promises.Views.{partIn, viewTrip}
+use Rattle.realtime_views.specs.Promises.Views.{part_in, view_trip}
 use Rattle.realtime_views.specs.declared.Trip.{Trip}
-use Rattle.decode_probes.specs.Answers.{ofWhole, textsAre}
-use Rattle.decode_probes.specs.promises.Answers.{is_whole}
+use Rattle.decode_probes.specs.Answers.{of_whole, texts_are}
+use Rattle.decode_probes.specs.Promises.Answers.{is_whole}
 
 abbrev pub unbroken : Verdict → Bool
 unbroken Verdict.Broken = false
@@ -29,26 +29,26 @@ chosen true true = refl
 chosen true false = refl
 chosen false c = refl
 
-pub asked-whole : (ρ : Rules) (t : ℕ) (o : Option Tree) → unbroken (asked ρ t o) ≡ is_whole o
-asked-whole ρ t none = refl
-asked-whole ρ t (some m) = chosen (textsFine ρ t m) (numbersFine ρ t m)
+pub asked_whole : (ρ : Rules) (t : ℕ) (o : Option Tree) → unbroken (asked ρ t o) ≡ is_whole o
+asked_whole ρ t none = refl
+asked_whole ρ t (some m) = chosen (texts_fine ρ t m) (numbers_fine ρ t m)
 
 module _ {A : Type 0} (d : A) (f : Tree → A) where
-  none-broken : (o : Option Tree) → is_whole o ≡ false → d ≡ ofWhole d f o
-  none-broken none w = refl
-  none-broken (some m) w = absurd (let z : ◌≡◌ {A = ℕ} 0 1 = cc in omega arith)
+  none_broken : (o : Option Tree) → is_whole o ≡ false → d ≡ of_whole d f o
+  none_broken none w = refl
+  none_broken (some m) w = absurd (let z : ◌≡◌ {A = ℕ} 0 1 = cc in omega arith)
 
-  some-whole : (o : Option Tree) {r : A} → is_whole o ≡ true → ((m : Tree) → o ≡ some m → r ≡ f m) → r ≡ ofWhole d f o
-  some-whole none w h = absurd (let z : ◌≡◌ {A = ℕ} 0 1 = cc in omega arith)
-  some-whole (some m) w h = h m refl
+  some_whole : (o : Option Tree) {r : A} → is_whole o ≡ true → ((m : Tree) → o ≡ some m → r ≡ f m) → r ≡ of_whole d f o
+  some_whole none w h = absurd (let z : ◌≡◌ {A = ℕ} 0 1 = cc in omega arith)
+  some_whole (some m) w h = h m refl
 
   -- of the message of type t in the bytes s
-  pub of-broken : (t : ℕ) (s : List ℕ) → is_whole (tree feed t s) ≡ false → d ≡ ofWhole d f (tree feed t s)
-  of-broken t s = none-broken (tree feed t s)
+  pub of_broken : (t : ℕ) (s : List ℕ) → is_whole (tree feed t s) ≡ false → d ≡ of_whole d f (tree feed t s)
+  of_broken t s = none_broken (tree feed t s)
 
-  pub of-whole : (t : ℕ) (s : List ℕ) {r : A} → is_whole (tree feed t s) ≡ true
-      → ((m : Tree) → tree feed t s ≡ some m → r ≡ f m) → r ≡ ofWhole d f (tree feed t s)
-  of-whole t s = some-whole (tree feed t s)
+  pub of_whole_holds : (t : ℕ) (s : List ℕ) {r : A} → is_whole (tree feed t s) ≡ true
+      → ((m : Tree) → tree feed t s ≡ some m → r ≡ f m) → r ≡ of_whole d f (tree feed t s)
+  of_whole_holds t s = some_whole (tree feed t s)
 
 -- a message in all of the bytes
 pub all_of : (t : ℕ) {m : Tree} (s : List ℕ) → tree feed t s ≡ some m → tree feed t (take (length s) s) ≡ some m
@@ -56,7 +56,7 @@ all_of t s e = ap (tree feed t) (take-length s) ∙ e
 
 -- three texts of a trip compared
 module _ (s x y z : List ℕ) where
-  pub texts-read : (t : Trip) {v : TripView} {a b c : Bool} → a ≡ same (partIn s t.time) x
-      → b ≡ same (partIn s t.date) y → c ≡ same (partIn s t.route) z → viewTrip s t ≡ v
-      → (a && b) && c ≡ textsAre v x y z
-  texts-read t p q r h = (λ j. (p j && q j) && r j) ∙ ap (λ v. textsAre v x y z) h
+  pub texts_read : (t : Trip) {v : TripView} {a b c : Bool} → a ≡ same (part_in s t.time) x
+      → b ≡ same (part_in s t.date) y → c ≡ same (part_in s t.route) z → view_trip s t ≡ v
+      → (a && b) && c ≡ texts_are v x y z
+  texts_read t p q r h = (λ j. (p j && q j) && r j) ∙ ap (λ v. texts_are v x y z) h

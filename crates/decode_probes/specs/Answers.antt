@@ -13,60 +13,60 @@ use Rattle.decode_probes.specs.declared.StopNumbers.{StopNumbers}
 use Rattle.basics.specs.Options.{is_some}
 
 -- the number of the question that has the answer no, else 0
-abbrev pub questionOf : Verdict → ℕ
-questionOf Verdict.Fine = 0
-questionOf Verdict.Broken = 4
-questionOf Verdict.Text = 5
-questionOf Verdict.Time = 6
+abbrev pub question_of : Verdict → ℕ
+question_of Verdict.Fine = 0
+question_of Verdict.Broken = 4
+question_of Verdict.Text = 5
+question_of Verdict.Time = 6
 
-abbrev pub orNought : Option ℤ → ℤ
-orNought none = pos 0
-orNought (some n) = n
+abbrev pub or_nought : Option ℤ → ℤ
+or_nought none = pos 0
+or_nought (some n) = n
 
 -- what a message says; of a broken one, d
-abbrev pub ofWhole : {A : Type 0} → A → (Tree → A) → Option Tree → A
-ofWhole d f none = d
-ofWhole d f (some m) = f m
+abbrev pub of_whole : {A : Type 0} → A → (Tree → A) → Option Tree → A
+of_whole d f none = d
+of_whole d f (some m) = f m
 
-abbrev pub headerNumbers : HeaderView → HeaderNumbers
-headerNumbers h =
+abbrev pub header_numbers : HeaderView → HeaderNumbers
+header_numbers h =
     record { differential = h.differential; timed = is_some h.timestamp; timestamp = or_zero h.timestamp }
 
 abbrev pub no_header : HeaderNumbers
 no_header = record { differential = false; timed = false; timestamp = 0 }
 
-abbrev pub tripNumbers : Bool → Option ℕ → Option ℤ → TripNumbers
-tripNumbers c d l =
-    record { cancelled = c; directed = is_some d; direction = or_zero d; delayed = is_some l; delay = orNought l }
+abbrev pub trip_numbers : Bool → Option ℕ → Option ℤ → TripNumbers
+trip_numbers c d l =
+    record { cancelled = c; directed = is_some d; direction = or_zero d; delayed = is_some l; delay = or_nought l }
 
-abbrev pub tripNumbersOf : TripView → TripNumbers
-tripNumbersOf t = tripNumbers t.cancelled t.direction t.delay
+abbrev pub trip_numbers_of : TripView → TripNumbers
+trip_numbers_of t = trip_numbers t.cancelled t.direction t.delay
 
-abbrev pub noTrip : TripNumbers
-noTrip = tripNumbers false none none
+abbrev pub no_trip : TripNumbers
+no_trip = trip_numbers false none none
 
 -- whether the start time, the start date and the route are these
-abbrev pub textsAre : TripView → List ℕ → List ℕ → List ℕ → Bool
-textsAre t x y z = (same t.time x && same t.date y) && same t.route z
+abbrev pub texts_are : TripView → List ℕ → List ℕ → List ℕ → Bool
+texts_are t x y z = (same t.time x && same t.date y) && same t.route z
 
-abbrev pub eventNumbers : EventView → EventNumbers
-eventNumbers e =
+abbrev pub event_numbers : EventView → EventNumbers
+event_numbers e =
     record {
       delayed = is_some e.delay;
-      delay = orNought e.delay;
+      delay = or_nought e.delay;
       timed = is_some e.time;
-      time = orNought
+      time = or_nought
           e.time;
     }
 
-abbrev pub stopNumbers : ℕ → Bool → EventView → EventView → StopNumbers
-stopNumbers n s a d = record { sequence = n; skipped = s; arrival = eventNumbers a; departure = eventNumbers d }
+abbrev pub stop_numbers : ℕ → Bool → EventView → EventView → StopNumbers
+stop_numbers n s a d = record { sequence = n; skipped = s; arrival = event_numbers a; departure = event_numbers d }
 
-abbrev pub stopNumbersOf : StopView → StopNumbers
-stopNumbersOf u = stopNumbers u.sequence u.skipped u.arrival u.departure
+abbrev pub stop_numbers_of : StopView → StopNumbers
+stop_numbers_of u = stop_numbers u.sequence u.skipped u.arrival u.departure
 
-abbrev pub noEvent : EventView
-noEvent = record { delay = none; time = none }
+abbrev pub no_event : EventView
+no_event = record { delay = none; time = none }
 
-abbrev pub noStop : StopNumbers
-noStop = stopNumbers 0 false noEvent noEvent
+abbrev pub no_stop : StopNumbers
+no_stop = stop_numbers 0 false no_event no_event

@@ -2,75 +2,75 @@
 -- leaves.
 use Rattle.std.specs.Prelude.{ℕ, zero, suc, ◌-◌, Bool, false, ◌&&◌, cond, List, [], eqb, leb, ltb, length}
 use Rattle.std.proofs.Math.Option.{Option, none, some}
-use Rattle.decode.specs.Sizes.{mostTrips, mostUpdates, mostFeed, mostMessage}
-use Rattle.decode.specs.Sizes.{keysLength, marksLength, orderLength, mostOld}
+use Rattle.decode.specs.Sizes.{most_trips, most_updates, most_feed, most_message}
+use Rattle.decode.specs.Sizes.{keys_length, marks_length, order_length, most_old}
 use Rattle.formats.specs.Format.{list, read}
-use Rattle.formats_judge.specs.Judged.{judgeTo}
+use Rattle.formats_judge.specs.Judged.{judge_to}
 use Rattle.formats_judge.specs.declared.Judge.{Judge}
 use Rattle.realtime.specs.Tree.{tree}
-use Rattle.realtime.specs.Schema.{feedMessage, feedEntity}
+use Rattle.realtime.specs.Schema.{feed_message, feed_entity}
 use Rattle.realtime.specs.Schema as schema
 use Rattle.realtime.specs.Judge.{asked, rules}
-use Rattle.decode.specs.Trip.{StopUpdate, tripEntry}
+use Rattle.decode.specs.Trip.{StopUpdate, trip_entry}
 use Rattle.maps.specs.Map.{puts}
 use Rattle.maps.specs.Order.{texts}
-use Rattle.decode.specs.Record.{updatesIn}
+use Rattle.decode.specs.Record.{updates_in}
 use Rattle.decode.specs.Leaves.{Trips, leaves}
-use Rattle.decode_index.specs.Message.{messageTree}
-use Rattle.decode_index.specs.Leaving.{Leaving, manyTrips, manyUpdates, trips, leaving}
-use Rattle.decode_probes.specs.Answers.{questionOf, ofWhole}
+use Rattle.decode_index.specs.Message.{message_tree}
+use Rattle.decode_index.specs.Leaving.{Leaving, many_trips, many_updates, trips, leaving}
+use Rattle.decode_probes.specs.Answers.{question_of, of_whole}
 
 -- the lengths of the working slices
 abbrev pub sized : ℕ → ℕ → ℕ → Bool
-sized keys marks order = (eqb keys keysLength && eqb marks marksLength) && eqb order orderLength
+sized keys marks order = (eqb keys keys_length && eqb marks marks_length) && eqb order order_length
 
 abbrev pub unfailed : Judge → Bool
 unfailed Judge.Broken = false
 unfailed (Judge.At p x) = eqb x 0
 
 -- the trips with which bytes begin
-abbrev pub tripsRead : Option (Trips × List ℕ) → Trips
-tripsRead none = []
-tripsRead (some x) = x.0
+abbrev pub trips_read : Option (Trips × List ℕ) → Trips
+trips_read none = []
+trips_read (some x) = x.0
 
-abbrev pub oldTrips : List ℕ → Trips
-oldTrips o = tripsRead (read (list mostTrips tripEntry) o)
+abbrev pub old_trips : List ℕ → Trips
+old_trips o = trips_read (read (list most_trips trip_entry) o)
 
 -- they are within questions 5 to 7
-abbrev pub areOld : List ℕ → Bool
-areOld o = leb (length o) mostOld && unfailed (judgeTo (list mostTrips tripEntry) o 0)
+abbrev pub are_old : List ℕ → Bool
+are_old o = leb (length o) most_old && unfailed (judge_to (list most_trips trip_entry) o 0)
 
 -- question 5 asks for the feed's id, too
-abbrev pub judgedQuestion : Bool → ℕ → ℕ
-judgedQuestion short q = cond (eqb q 4) 4 (cond short q 5)
+abbrev pub judged_question : Bool → ℕ → ℕ
+judged_question short q = cond (eqb q 4) 4 (cond short q 5)
 
-abbrev pub messageQuestion : List ℕ → List ℕ → ℕ
-messageQuestion feed s =
-    cond (leb (length s) mostMessage)
-    (judgedQuestion (leb (length feed) mostFeed)
-    (questionOf (asked rules feedMessage (tree schema.feed feedMessage s)))) 3
+abbrev pub message_question : List ℕ → List ℕ → ℕ
+message_question feed s =
+    cond (leb (length s) most_message)
+    (judged_question (leb (length feed) most_feed)
+    (question_of (asked rules feed_message (tree schema.feed feed_message s)))) 3
 
 abbrev pub question : Bool → List ℕ → List ℕ → List ℕ → ℕ
-question fit feed s old = cond fit (cond (areOld old) (messageQuestion feed s) 2) 1
+question fit feed s old = cond fit (cond (are_old old) (message_question feed s) 2) 1
 
 -- A QUESTION with the answer no, or what is left
 pub data IndexOutcome (A : Type 0) : Type 0 where
   refused : ℕ → IndexOutcome A
   left : A → IndexOutcome A
 
-abbrev pub sevenOf : Leaving → IndexOutcome Trips
-sevenOf manyTrips = refused 7
-sevenOf manyUpdates = refused 7
-sevenOf (trips t) = left t
+abbrev pub seven_of : Leaving → IndexOutcome Trips
+seven_of many_trips = refused 7
+seven_of many_updates = refused 7
+seven_of (trips t) = left t
 
-abbrev pub unlessAsked : ℕ → IndexOutcome Trips → IndexOutcome Trips
-unlessAsked zero x = x
-unlessAsked (suc n) x = refused (suc n)
+abbrev pub unless_asked : ℕ → IndexOutcome Trips → IndexOutcome Trips
+unless_asked zero x = x
+unless_asked (suc n) x = refused (suc n)
 
 abbrev pub outcome : Bool → List ℕ → List ℕ → List ℕ → IndexOutcome Trips
 outcome fit feed s old =
-    unlessAsked (question fit feed s old)
-    (sevenOf (leaving (leaves feed (messageTree s) (puts texts (oldTrips old) []))))
+    unless_asked (question fit feed s old)
+    (seven_of (leaving (leaves feed (message_tree s) (puts texts (old_trips old) []))))
 
 -- what the answer says, where n slots or lines hold t n
 abbrev pub answered : {A : Type 0} → (ℕ → A) → ℕ → IndexOutcome A
@@ -78,9 +78,9 @@ answered t r = cond (ltb r 16) (refused r) (left (t (r - 16)))
 
 -- The updates of an entity: more than 128 are refused
 abbrev pub limited : List (ℕ × StopUpdate) → IndexOutcome (List (ℕ × StopUpdate))
-limited l = cond (ltb mostUpdates (length l)) (refused 7) (left l)
+limited l = cond (ltb most_updates (length l)) (refused 7) (left l)
 
-abbrev pub updatesOutcome : Bool → List ℕ → IndexOutcome (List (ℕ × StopUpdate))
-updatesOutcome fit e =
-    cond fit (cond (leb (length e) mostMessage)
-    (ofWhole (refused 4) (λ m. limited (updatesIn m)) (tree schema.feed feedEntity e)) (refused 3)) (refused 1)
+abbrev pub updates_outcome : Bool → List ℕ → IndexOutcome (List (ℕ × StopUpdate))
+updates_outcome fit e =
+    cond fit (cond (leb (length e) most_message)
+    (of_whole (refused 4) (λ m. limited (updates_in m)) (tree schema.feed feed_entity e)) (refused 3)) (refused 1)

@@ -1,3 +1,3 @@
 pub mod Answers
 pub mod Indexing
-pub mod promises
+pub mod Promises

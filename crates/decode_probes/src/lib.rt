@@ -5,26 +5,26 @@ mod table;
 ghost use Rattle.std.specs.Prelude.{◌≡◌, false, eqb, length};
 ghost use Rattle.basics.specs.Texts.{same};
 ghost use Rattle.formats.specs.Format.{list};
-ghost use Rattle.formats_judge.specs.Judged.{judgeTo};
+ghost use Rattle.formats_judge.specs.Judged.{judge_to};
 ghost use Rattle.realtime.specs.Tree.{tree};
-ghost use Rattle.realtime.specs.Schema.{feed, feedMessage, feedEntity, stopTimeUpdate};
+ghost use Rattle.realtime.specs.Schema.{feed, feed_message, feed_entity, stop_time_update};
 ghost use Rattle.realtime.specs.Judge.{asked, rules};
 ghost use Rattle.realtime.specs.Typed.{or_zero};
-ghost use Rattle.realtime.specs.Views.{header, stopUpdate, trip};
-ghost use Rattle.realtime_views.specs.promises.Views.{PartInside, partIn, viewDelay, viewDirection, viewEvent};
-ghost use Rattle.realtime_views.specs.promises.Views.{viewHeader, viewTime, viewTimestamp};
-ghost use Rattle.decode.specs.Sizes.{mostTrips, updatesLength};
-ghost use Rattle.decode.specs.Trip.{tripEntry};
+ghost use Rattle.realtime.specs.Views.{header, stop_update, trip};
+ghost use Rattle.realtime_views.specs.Promises.Views.{PartInside, part_in, view_delay, view_direction, view_event};
+ghost use Rattle.realtime_views.specs.Promises.Views.{view_header, view_time, view_timestamp};
+ghost use Rattle.decode.specs.Sizes.{most_trips, updates_length};
+ghost use Rattle.decode.specs.Trip.{trip_entry};
 ghost use Rattle.decode_slots.specs.Index.{index};
 ghost use Rattle.decode_slots.specs.Places as places;
 ghost use Rattle.decode_updates.specs.Line.{laid};
-ghost use Rattle.decode_updates.specs.Updates.{updatesAt};
-ghost use Rattle.decode_probes.specs.Indexing.{sized, unfailed, areOld, messageQuestion, question, answered};
-ghost use Rattle.decode_probes.specs.Indexing.{outcome, updatesOutcome};
-ghost use Rattle.decode_probes.specs.Answers.{questionOf, orNought, ofWhole, headerNumbers};
-ghost use Rattle.decode_probes.specs.Answers.{no_header, tripNumbers, tripNumbersOf, noTrip, eventNumbers};
-ghost use Rattle.decode_probes.specs.Answers.{stopNumbers, stopNumbersOf, noStop, textsAre};
-ghost use Rattle.decode_probes.specs.promises.Answers.{is_whole};
+ghost use Rattle.decode_updates.specs.Updates.{updates_at};
+ghost use Rattle.decode_probes.specs.Indexing.{sized, unfailed, are_old, message_question, question, answered};
+ghost use Rattle.decode_probes.specs.Indexing.{outcome, updates_outcome};
+ghost use Rattle.decode_probes.specs.Answers.{question_of, or_nought, of_whole, header_numbers};
+ghost use Rattle.decode_probes.specs.Answers.{no_header, trip_numbers, trip_numbers_of, no_trip, event_numbers};
+ghost use Rattle.decode_probes.specs.Answers.{stop_numbers, stop_numbers_of, no_stop, texts_are};
+ghost use Rattle.decode_probes.specs.Promises.Answers.{is_whole};
 ghost use Rattle.basics.specs.Options.{is_some};
 
 use decode::sizes::{
@@ -44,7 +44,7 @@ use table::{DEPTH, LIST, TRIPS};
 const FOUND: usize = 16;
 
 fn question_of(v: Verdict) -> u32
-    ensures { result ≡ questionOf v }
+    ensures { result ≡ question_of v }
 {
     match v {
         Verdict::Fine => 0,
@@ -57,7 +57,7 @@ fn question_of(v: Verdict) -> u32
 // The first of the questions 4 to 6 that a message fails, else 0.
 #[unsafe(no_mangle)]
 pub extern "C" fn trips_judge(s: &[u8]) -> u32
-    ensures { result ≡ questionOf (asked rules feedMessage (tree feed feedMessage s.now)) }
+    ensures { result ≡ question_of (asked rules feed_message (tree feed feed_message s.now)) }
 {
     question_of(realtime_read::judge(s, FEED_MESSAGE, ID_LIMIT))
 }
@@ -75,7 +75,7 @@ fn is_whole(s: &[u8], message: u64) -> bool
 }
 
 fn has_timestamp(t: Timestamp) -> bool
-    ensures { result ≡ is_some (viewTimestamp t) }
+    ensures { result ≡ is_some (view_timestamp t) }
 {
     match t {
         Timestamp::Given(_) => true,
@@ -84,7 +84,7 @@ fn has_timestamp(t: Timestamp) -> bool
 }
 
 fn timestamp_or_zero(t: Timestamp) -> u64
-    ensures { result ≡ or_zero (viewTimestamp t) }
+    ensures { result ≡ or_zero (view_timestamp t) }
 {
     match t {
         Timestamp::Given(n) => n,
@@ -93,7 +93,7 @@ fn timestamp_or_zero(t: Timestamp) -> u64
 }
 
 fn has_direction(d: Direction) -> bool
-    ensures { result ≡ is_some (viewDirection d) }
+    ensures { result ≡ is_some (view_direction d) }
 {
     match d {
         Direction::Given(_) => true,
@@ -102,7 +102,7 @@ fn has_direction(d: Direction) -> bool
 }
 
 fn direction_or_zero(d: Direction) -> u32
-    ensures { result ≡ or_zero (viewDirection d) }
+    ensures { result ≡ or_zero (view_direction d) }
 {
     match d {
         Direction::Given(n) => n,
@@ -111,7 +111,7 @@ fn direction_or_zero(d: Direction) -> u32
 }
 
 fn has_delay(d: Delay) -> bool
-    ensures { result ≡ is_some (viewDelay d) }
+    ensures { result ≡ is_some (view_delay d) }
 {
     match d {
         Delay::Given(_) => true,
@@ -120,7 +120,7 @@ fn has_delay(d: Delay) -> bool
 }
 
 fn delay_or_zero(d: Delay) -> i32
-    ensures { result ≡ orNought (viewDelay d) }
+    ensures { result ≡ or_nought (view_delay d) }
 {
     match d {
         Delay::Given(n) => n,
@@ -129,7 +129,7 @@ fn delay_or_zero(d: Delay) -> i32
 }
 
 fn has_time(t: Time) -> bool
-    ensures { result ≡ is_some (viewTime t) }
+    ensures { result ≡ is_some (view_time t) }
 {
     match t {
         Time::Given(_) => true,
@@ -138,7 +138,7 @@ fn has_time(t: Time) -> bool
 }
 
 fn time_or_zero(t: Time) -> i64
-    ensures { result ≡ orNought (viewTime t) }
+    ensures { result ≡ or_nought (view_time t) }
 {
     match t {
         Time::Given(n) => n,
@@ -156,7 +156,7 @@ pub struct HeaderNumbers {
 }
 
 fn header_numbers(h: Header) -> HeaderNumbers
-    ensures { result ≡ headerNumbers (viewHeader h) }
+    ensures { result ≡ header_numbers (view_header h) }
 {
     let timestamp = h.timestamp;
     HeaderNumbers {
@@ -168,7 +168,7 @@ fn header_numbers(h: Header) -> HeaderNumbers
 
 #[unsafe(no_mangle)]
 pub extern "C" fn trips_header(s: &[u8]) -> HeaderNumbers
-    ensures { result ≡ ofWhole no_header (λ m. headerNumbers (header m)) (tree feed feedMessage s.now) }
+    ensures { result ≡ of_whole no_header (λ m. header_numbers (header m)) (tree feed feed_message s.now) }
 {
     if is_whole(s, FEED_MESSAGE) {
         return header_numbers(realtime_views::header_of(s));
@@ -192,7 +192,7 @@ pub struct TripNumbers {
 }
 
 fn trip_numbers(t: Trip) -> TripNumbers
-    ensures { result ≡ tripNumbers t.cancelled (viewDirection t.direction) (viewDelay t.delay) }
+    ensures { result ≡ trip_numbers t.cancelled (view_direction t.direction) (view_delay t.delay) }
 {
     let direction = t.direction;
     let delay = t.delay;
@@ -207,7 +207,7 @@ fn trip_numbers(t: Trip) -> TripNumbers
 
 #[unsafe(no_mangle)]
 pub extern "C" fn trips_trip(e: &[u8]) -> TripNumbers
-    ensures { result ≡ ofWhole noTrip (λ m. tripNumbersOf (trip m)) (tree feed feedEntity e.now) }
+    ensures { result ≡ of_whole no_trip (λ m. trip_numbers_of (trip m)) (tree feed feed_entity e.now) }
 {
     if is_whole(e, FEED_ENTITY) {
         return trip_numbers(realtime_views::trip_of(e, 0, e.len()));
@@ -224,7 +224,7 @@ pub extern "C" fn trips_trip(e: &[u8]) -> TripNumbers
 // Whether a text of s is x.
 fn reads(s: &[u8], p: TextPart, x: &[u8]) -> bool
     requires { PartInside (length s.now) p }
-    ensures { result ≡ same (partIn s.now p) x.now }
+    ensures { result ≡ same (part_in s.now p) x.now }
 {
     slices::same(slices::part(s, p.start, p.len), x)
 }
@@ -232,8 +232,8 @@ fn reads(s: &[u8], p: TextPart, x: &[u8]) -> bool
 // Whether the start time, the start date and the route of an entity's trip are these.
 #[unsafe(no_mangle)]
 pub extern "C" fn trips_texts(e: &[u8], time: &[u8], date: &[u8], route: &[u8]) -> bool
-    ensures { result ≡ ofWhole false (λ m. textsAre (trip m) time.now date.now
-        route.now) (tree feed feedEntity e.now) }
+    ensures { result ≡ of_whole false (λ m. texts_are (trip m) time.now date.now
+        route.now) (tree feed feed_entity e.now) }
 {
     if is_whole(e, FEED_ENTITY) {
         let t = realtime_views::trip_of(e, 0, e.len());
@@ -265,7 +265,7 @@ pub struct StopNumbers {
 }
 
 fn event_numbers(e: Event) -> EventNumbers
-    ensures { result ≡ eventNumbers (viewEvent e) }
+    ensures { result ≡ event_numbers (view_event e) }
 {
     let delay = e.delay;
     let time = e.time;
@@ -278,7 +278,7 @@ fn event_numbers(e: Event) -> EventNumbers
 }
 
 fn stop_numbers(u: StopUpdate) -> StopNumbers
-    ensures { result ≡ stopNumbers u.sequence u.skipped (viewEvent u.arrival) (viewEvent u.departure) }
+    ensures { result ≡ stop_numbers u.sequence u.skipped (view_event u.arrival) (view_event u.departure) }
 {
     StopNumbers {
         sequence: u.sequence,
@@ -290,8 +290,8 @@ fn stop_numbers(u: StopUpdate) -> StopNumbers
 
 #[unsafe(no_mangle)]
 pub extern "C" fn trips_stop(u: &[u8]) -> StopNumbers
-    ensures { result ≡ ofWhole noStop (λ m. stopNumbersOf (stopUpdate m))
-        (tree feed stopTimeUpdate u.now) }
+    ensures { result ≡ of_whole no_stop (λ m. stop_numbers_of (stop_update m))
+        (tree feed stop_time_update u.now) }
 {
     if is_whole(u, STOP_TIME_UPDATE) {
         return stop_numbers(realtime_views::stop_of(u, 0, u.len()));
@@ -313,8 +313,8 @@ pub extern "C" fn trips_stop(u: &[u8]) -> StopNumbers
 // Whether the stop id of a stop time update is this.
 #[unsafe(no_mangle)]
 pub extern "C" fn trips_stop_text(u: &[u8], stop: &[u8]) -> bool
-    ensures { result ≡ ofWhole false (λ m. same (stopUpdate m).stop stop.now)
-        (tree feed stopTimeUpdate u.now) }
+    ensures { result ≡ of_whole false (λ m. same (stop_update m).stop stop.now)
+        (tree feed stop_time_update u.now) }
 {
     if is_whole(u, STOP_TIME_UPDATE) {
         let r = realtime_views::stop_of(u, 0, u.len());
@@ -328,8 +328,8 @@ pub extern "C" fn trips_stop_text(u: &[u8], stop: &[u8]) -> bool
 // and 7 with the answer no, or 16 and how many they are.
 #[unsafe(no_mangle)]
 pub extern "C" fn trips_updates(updates: &mut [u32], e: &[u8]) -> usize
-    ensures { answered (λ n. updatesAt e.now (laid n updates.new)) result
-        ≡ updatesOutcome (eqb (length updates.old) updatesLength) e.now }
+    ensures { answered (λ n. updates_at e.now (laid n updates.new)) result
+        ≡ updates_outcome (eqb (length updates.old) updates_length) e.now }
 {
     if updates.len() != UPDATES_LENGTH {
         return 1;
@@ -349,7 +349,7 @@ pub extern "C" fn trips_updates(updates: &mut [u32], e: &[u8]) -> usize
 
 // The end of the trips with which old begins, and the first of the questions 5 to 7 that they fail.
 fn judge_old(old: &[u8]) -> Judge
-    ensures { result ≡ judgeTo (list mostTrips tripEntry) old.now 0 }
+    ensures { result ≡ judge_to (list most_trips trip_entry) old.now 0 }
 {
     formats_judge::judge_value(&TRIPS, DEPTH, LIST, old, 0)
 }
@@ -365,7 +365,7 @@ fn is_unfailed(j: Judge) -> bool
 
 // Whether old begins with trips that a feed may have.
 fn are_old(old: &[u8]) -> bool
-    ensures { result ≡ areOld old.now }
+    ensures { result ≡ are_old old.now }
 {
     if old.len() > MOST_OLD {
         return false;
@@ -381,7 +381,7 @@ fn is_sized(keys: usize, marks: usize, order: usize) -> bool
 
 // The first of the questions 3 to 6 that a message fails, else 0.
 fn message_question(feed: &[u8], s: &[u8]) -> u32
-    ensures { result ≡ messageQuestion feed.now s.now }
+    ensures { result ≡ message_question feed.now s.now }
 {
     if s.len() > MOST_MESSAGE {
         return 3;

@@ -1,9 +1,9 @@
 // Quick passes over the records of trips, as formats_skip has them over leaves.
 ghost use Rattle.std.specs.Prelude.{◌+◌, ◌≤◌, length};
 ghost use Rattle.formats.specs.Format.{small, list, optional, ◌&◌};
-ghost use Rattle.decode.specs.Trip.{delay, instant, number32, stopUpdate, trip, tripEntry};
-ghost use Rattle.decode.specs.Sizes.{mostTrips, mostUpdates};
-ghost use Rattle.formats_skip.specs.promises.Passes.{Passes, Leads};
+ghost use Rattle.decode.specs.Trip.{delay, instant, number32, stop_update, trip, trip_entry};
+ghost use Rattle.decode.specs.Sizes.{most_trips, most_updates};
+ghost use Rattle.formats_skip.specs.Promises.Passes.{Passes, Leads};
 
 // Room for the longest numbers behind a stop's id: four optional ones and a flag.
 const NUMBERS: usize = 54;
@@ -23,7 +23,7 @@ fn past_numbers(s: &[u8], at: usize) -> usize
 
 // A stop update.
 pub fn past_update(s: &[u8], at: usize) -> usize
-    ensures { Passes stopUpdate s.now at result }
+    ensures { Passes stop_update s.now at result }
 {
     let a = formats_skip::past_text(s, at);
     if a <= s.len() {
@@ -40,7 +40,7 @@ pub fn past_update(s: &[u8], at: usize) -> usize
 
 // A stop update with its sequence in front.
 pub fn past_numbered(s: &[u8], at: usize) -> usize
-    ensures { Passes (number32 & stopUpdate) s.now at result }
+    ensures { Passes (number32 & stop_update) s.now at result }
 {
     let p = formats_skip::past_number(s, at);
     past_update(s, p)
@@ -48,7 +48,7 @@ pub fn past_numbered(s: &[u8], at: usize) -> usize
 
 // The updates of a trip.
 pub fn past_updates(s: &[u8], at: usize) -> usize
-    ensures { Passes (list mostUpdates (number32 & stopUpdate)) s.now at result }
+    ensures { Passes (list most_updates (number32 & stop_update)) s.now at result }
 {
     let n = formats_read::number(s, at);
     let mut p = n.next;
@@ -90,7 +90,7 @@ pub fn past_trip(s: &[u8], at: usize) -> usize
 
 // A record with its key in front.
 pub fn past_entry(s: &[u8], at: usize) -> usize
-    ensures { Passes tripEntry s.now at result }
+    ensures { Passes trip_entry s.now at result }
 {
     let p = formats_skip::past_text(s, at);
     past_trip(s, p)
@@ -98,7 +98,7 @@ pub fn past_entry(s: &[u8], at: usize) -> usize
 
 // The trips of a feed.
 pub fn past_trips(s: &[u8], at: usize) -> usize
-    ensures { Passes (list mostTrips tripEntry) s.now at result }
+    ensures { Passes (list most_trips trip_entry) s.now at result }
 {
     let n = formats_read::number(s, at);
     let mut p = n.next;

@@ -9,75 +9,75 @@ use lib.ListN.{length, get_or, take, drop, set, length-set}
 use lib.Seq.{get_or-take, length-take-le, get_or-set_same, get_or-set_other, ext_get_or}
 use borrow.Author.Tests.{ltb-true, ltb-false, eqb-true, eqb-false, lt-ltb}
 use Rattle.basics.specs.Lists.{All}
-use Rattle.slices.specs.Lists.{lexOf}
+use Rattle.slices.specs.Lists.{lex_of}
 use Rattle.slices.specs.declared.Order.{Order}
 use Rattle.slices.specs.declared.Order.TheVariants.{Less, Same, More}
 use Rattle.maps.specs.Map.{Ordered, by_order, put, ascending}
-use Rattle.maps.specs.promises.Order.{isSame}
+use Rattle.maps.specs.Promises.Order.{is_same}
 use Rattle.maps.specs.Order.{texts}
-use Rattle.maps.specs.laws.Order.{texts-order, lex-itself, lex-same}
-use Rattle.maps.specs.laws.Map.{put-ascending}
-use Rattle.basics.specs.laws.Booleans.{both_true}
-use Rattle.decode_slots.specs.Index.{Place, slotKey, slotPlace, slotEntry, slotted, index}
-use Rattle.slices.specs.promises.Inserted.{inserted}
-use Rattle.decode_slots.specs.promises.Index.{keyIn, SoundIndex, Settled, rank_of, remarked}
-use Rattle.slices.proofs.Gaps.{gap-front, gap_length}
-use Rattle.decode_slots.specs.laws.Slots.{slotted-length, index-length}
-use Rattle.decode_slots.proofs.Ranks.{at, ascending-at, slotted-at, index_at, slot-below, rank-within, nowhere}
+use Rattle.maps.specs.Laws.Order.{texts_order, lex_itself, lex_same}
+use Rattle.maps.specs.Laws.Map.{put_ascending}
+use Rattle.basics.specs.Laws.Booleans.{both_true}
+use Rattle.decode_slots.specs.Index.{Place, slot_key, slot_place, slot_entry, slotted, index}
+use Rattle.slices.specs.Promises.Inserted.{inserted}
+use Rattle.decode_slots.specs.Promises.Index.{key_in, SoundIndex, Settled, rank_of, remarked}
+use Rattle.slices.proofs.Gaps.{gap_front, gap_length}
+use Rattle.decode_slots.specs.Laws.Slots.{slotted_length, index_length}
+use Rattle.decode_slots.proofs.Ranks.{at, ascending_at, slotted_at, index_at, slot_below, rank_within, nowhere}
 
-pub is_same : (o : Order) → isSame o ≡ true → o ≡ Same
-is_same Less e = absurd (let z : ◌≡◌ {A = ℕ} 0 1 = cc in omega arith)
-is_same Same e = refl
-is_same More e = absurd (let z : ◌≡◌ {A = ℕ} 0 1 = cc in omega arith)
+pub is_same_means : (o : Order) → is_same o ≡ true → o ≡ Same
+is_same_means Less e = absurd (let z : ◌≡◌ {A = ℕ} 0 1 = cc in omega arith)
+is_same_means Same e = refl
+is_same_means More e = absurd (let z : ◌≡◌ {A = ℕ} 0 1 = cc in omega arith)
 
 module _ {K : Type 0} (O : Ordered K) {A : Type 0} (d : K × A) where
   -- a put is a store at the rank, or goes in there
-  pub put-over : (k : K) (v : A) (m : List (K × A)) → rank_of O k m < length m
-      → isSame (O.compare k (at O d m (rank_of O k m))) ≡ true → put O k v m ≡ set m (rank_of O k m) (k, v)
-  put-over k v [] l h = absurd (omega arith)
-  put-over k v (e ∷ m) l h = go (O.compare k e.0) refl l h (put-over k v m)
+  pub put_over : (k : K) (v : A) (m : List (K × A)) → rank_of O k m < length m
+      → is_same (O.compare k (at O d m (rank_of O k m))) ≡ true → put O k v m ≡ set m (rank_of O k m) (k, v)
+  put_over k v [] l h = absurd (omega arith)
+  put_over k v (e ∷ m) l h = go (O.compare k e.0) refl l h (put_over k v m)
     where
       go : (o : Order) → O.compare k e.0 ≡ o → by_order o 0 0 (suc (rank_of O k m)) < suc (length m)
-          → isSame (O.compare k (at O d (e ∷ m) (by_order o 0 0 (suc (rank_of O k m))))) ≡ true
-          → (rank_of O k m < length m → isSame (O.compare k (at O d m (rank_of O k m))) ≡ true → put O k v m ≡ set m
+          → is_same (O.compare k (at O d (e ∷ m) (by_order o 0 0 (suc (rank_of O k m))))) ≡ true
+          → (rank_of O k m < length m → is_same (O.compare k (at O d m (rank_of O k m))) ≡ true → put O k v m ≡ set m
           (rank_of O k m) (k, v))
           → by_order o ((k, v) ∷ e ∷ m) ((k, v) ∷ m) (e ∷ put O k v m) ≡ set (e ∷ m)
           (by_order o 0 0 (suc (rank_of O k m))) (k, v)
       go Less p l h i =
           absurd (let z : Less ≡ Same = sym p
-          ∙ is_same (O.compare k e.0) h in let z : ◌≡◌ {A = ℕ} 0 1 = cc in omega arith)
+          ∙ is_same_means (O.compare k e.0) h in let z : ◌≡◌ {A = ℕ} 0 1 = cc in omega arith)
       go Same p l h i = refl
       go More p l h i = ap (λ x. e ∷ x) (i (omega arith) h)
 
-  pub put-into : (k : K) (v : A) (m : List (K × A))
-      → (rank_of O k m < length m → isSame (O.compare k (at O d m (rank_of O k m))) ≡ false)
+  pub put_into : (k : K) (v : A) (m : List (K × A))
+      → (rank_of O k m < length m → is_same (O.compare k (at O d m (rank_of O k m))) ≡ false)
       → put O k v m ≡ take (rank_of O k m) m ++ (k, v) ∷ drop (rank_of O k m) m
-  put-into k v [] h = refl
-  put-into k v (e ∷ m) h = go (O.compare k e.0) refl h (put-into k v m)
+  put_into k v [] h = refl
+  put_into k v (e ∷ m) h = go (O.compare k e.0) refl h (put_into k v m)
     where
       go : (o : Order) → O.compare k e.0 ≡ o
-          → (by_order o 0 0 (suc (rank_of O k m)) < suc (length m) → isSame
+          → (by_order o 0 0 (suc (rank_of O k m)) < suc (length m) → is_same
           (O.compare k (at O d (e ∷ m) (by_order o 0 0 (suc (rank_of O k m))))) ≡ false)
-          → ((rank_of O k m < length m → isSame (O.compare k (at O d m (rank_of O k m))) ≡ false) → put O k v m ≡ take
+          → ((rank_of O k m < length m → is_same (O.compare k (at O d m (rank_of O k m))) ≡ false) → put O k v m ≡ take
           (rank_of O k m) m ++ (k, v) ∷ drop (rank_of O k m) m)
           → by_order o ((k, v) ∷ e ∷ m) ((k, v) ∷ m) (e ∷ put O k v m)
           ≡ take (by_order o 0 0 (suc (rank_of O k m))) (e ∷ m) ++ (k, v) ∷ drop (by_order o 0 0 (suc (rank_of O k m)))
           (e ∷ m)
       go Less p h i = refl
       go Same p h i =
-          absurd (let z : true ≡ false = sym (ap isSame p)
+          absurd (let z : true ≡ false = sym (ap is_same p)
           ∙ h (omega arith) in let z : ◌≡◌ {A = ℕ} 0 1 = cc in omega arith)
       go More p h i = ap (λ x. e ∷ x) (i (λ l. h (omega arith)))
 
 -- the length of a key stays, and the place of another slot
-pub length-kept : (marks : List ℕ) (j slot from to : ℕ)
+pub length_kept : (marks : List ℕ) (j slot from to : ℕ)
     → get_or (remarked marks slot from to) (3 * j) 0 ≡ get_or marks (3 * j) 0
-length-kept marks j slot from to =
+length_kept marks j slot from to =
     get_or-set_other (set marks (3 * slot + 1) from) (3 * slot + 2) (3 * j) to 0 (λ e. omega arith)
     ∙ get_or-set_other marks (3 * slot + 1) (3 * j) from 0 (λ e. omega arith)
 
 pub place_other : (marks : List ℕ) (j slot from to : ℕ) → (j ≡ slot → ⊥)
-    → slotPlace (remarked marks slot from to) j ≡ slotPlace marks j
+    → slot_place (remarked marks slot from to) j ≡ slot_place marks j
 place_other marks j slot from to h =
     rw (
       get_or-set_other (set marks (3 * slot + 1) from) (3 * slot + 2) (3 * j + 1) to 0 (λ e. omega arith),
@@ -86,9 +86,9 @@ place_other marks j slot from to h =
       get_or-set_other marks (3 * slot + 1) (3 * j + 2) from 0 (λ e. omega arith),
     )
 
-pub place-own : (marks : List ℕ) (slot from to : ℕ) → 3 * slot + 3 ≤ length marks
-    → slotPlace (remarked marks slot from to) slot ≡ (from, to)
-place-own marks slot from to h =
+pub place_own : (marks : List ℕ) (slot from to : ℕ) → 3 * slot + 3 ≤ length marks
+    → slot_place (remarked marks slot from to) slot ≡ (from, to)
+place_own marks slot from to h =
     rw (
       get_or-set_other (set marks (3 * slot + 1) from) (3 * slot + 2) (3 * slot + 1) to 0 (λ e. omega arith),
       get_or-set_same marks (3 * slot + 1) from 0 (omega arith),
@@ -97,47 +97,47 @@ place-own marks slot from to h =
     )
 
 entry_other : (keys marks : List ℕ) (j slot from to : ℕ) → (j ≡ slot → ⊥)
-    → slotEntry keys (remarked marks slot from to) j ≡ slotEntry keys marks j
-entry_other keys marks j slot from to h = rw (length-kept marks j slot from to, place_other marks j slot from to h)
+    → slot_entry keys (remarked marks slot from to) j ≡ slot_entry keys marks j
+entry_other keys marks j slot from to h = rw (length_kept marks j slot from to, place_other marks j slot from to h)
 
-entry-own : (keys marks : List ℕ) (slot from to : ℕ) → 3 * slot + 3 ≤ length marks
-    → slotEntry keys (remarked marks slot from to) slot ≡ (slotKey keys marks slot, (from, to))
-entry-own keys marks slot from to h = rw (length-kept marks slot slot from to, place-own marks slot from to h)
+entry_own : (keys marks : List ℕ) (slot from to : ℕ) → 3 * slot + 3 ≤ length marks
+    → slot_entry keys (remarked marks slot from to) slot ≡ (slot_key keys marks slot, (from, to))
+entry_own keys marks slot from to h = rw (length_kept marks slot slot from to, place_own marks slot from to h)
 
-pub marks-length : (marks : List ℕ) (j from to : ℕ) → length (remarked marks j from to) ≡ length marks
-marks-length marks j from to =
+pub marks_length : (marks : List ℕ) (j from to : ℕ) → length (remarked marks j from to) ≡ length marks
+marks_length marks j from to =
     length-set (set marks (3 * j + 1) from) (3 * j + 2) to ∙ length-set marks (3 * j + 1) from
 
-slotted-append : (keys marks a b : List ℕ) → slotted keys marks (a ++ b) ≡ slotted keys marks a ++ slotted keys marks b
-slotted-append keys marks [] b = refl
-slotted-append keys marks (j ∷ a) b = ap (λ x. slotEntry keys marks j ∷ x) (slotted-append keys marks a b)
+slotted_append : (keys marks a b : List ℕ) → slotted keys marks (a ++ b) ≡ slotted keys marks a ++ slotted keys marks b
+slotted_append keys marks [] b = refl
+slotted_append keys marks (j ∷ a) b = ap (λ x. slot_entry keys marks j ∷ x) (slotted_append keys marks a b)
 
-slotted-take : (keys marks : List ℕ) (r : ℕ) (l : List ℕ)
+slotted_take : (keys marks : List ℕ) (r : ℕ) (l : List ℕ)
     → slotted keys marks (take r l) ≡ take r (slotted keys marks l)
-slotted-take keys marks zero l = refl
-slotted-take keys marks (suc r) [] = refl
-slotted-take keys marks (suc r) (j ∷ l) = ap (λ x. slotEntry keys marks j ∷ x) (slotted-take keys marks r l)
+slotted_take keys marks zero l = refl
+slotted_take keys marks (suc r) [] = refl
+slotted_take keys marks (suc r) (j ∷ l) = ap (λ x. slot_entry keys marks j ∷ x) (slotted_take keys marks r l)
 
-slotted-drop : (keys marks : List ℕ) (r : ℕ) (l : List ℕ)
+slotted_drop : (keys marks : List ℕ) (r : ℕ) (l : List ℕ)
     → slotted keys marks (drop r l) ≡ drop r (slotted keys marks l)
-slotted-drop keys marks zero l = refl
-slotted-drop keys marks (suc r) [] = refl
-slotted-drop keys marks (suc r) (j ∷ l) = slotted-drop keys marks r l
+slotted_drop keys marks zero l = refl
+slotted_drop keys marks (suc r) [] = refl
+slotted_drop keys marks (suc r) (j ∷ l) = slotted_drop keys marks r l
 
 -- slots below n don't see what slot n becomes
-slotted-below : (keys marks l : List ℕ) (n len from to : ℕ) → All (λ j. j < n) l
+slotted_below : (keys marks l : List ℕ) (n len from to : ℕ) → All (λ j. j < n) l
     → slotted keys (remarked (set marks (3 * n) len) n from to) l ≡ slotted keys marks l
-slotted-below keys marks [] n len from to h = refl
-slotted-below keys marks (j ∷ l) n len from to h =
+slotted_below keys marks [] n len from to h = refl
+slotted_below keys marks (j ∷ l) n len from to h =
     let d : j ≡ n → ⊥ = λ e. omega (arith, h.0) in
-    let a : slotEntry keys (remarked (set marks (3 * n) len) n from to) j ≡ slotEntry keys marks j =
+    let a : slot_entry keys (remarked (set marks (3 * n) len) n from to) j ≡ slot_entry keys marks j =
     entry_other keys (set marks (3 * n) len) j n from to d
     ∙ rw (
       get_or-set_other marks (3 * n) (3 * j) len 0 (λ e. d (omega arith)),
       get_or-set_other marks (3 * n) (3 * j + 1) len 0 (λ e. omega arith),
       get_or-set_other marks (3 * n) (3 * j + 2) len 0 (λ e. omega arith),
     ) in
-    let b = slotted-below keys marks l n len from to h.1 in
+    let b = slotted_below keys marks l n len from to h.1 in
     λ t. a t ∷ b t
 
 below_more : (n : ℕ) (l : List ℕ) → All (λ j. j < n) l → All (λ j. j < n + 1) l
@@ -154,37 +154,37 @@ module _ (keys marks order : List ℕ) (n len from to : ℕ) (S : SoundIndex key
   map = index keys marks order n
 
   abbrev rank : ℕ
-  rank = rank_of texts (keyIn keys n len) map
+  rank = rank_of texts (key_in keys n len) map
 
   -- the slots of an index are different
   apart : (i j : ℕ) → i < j → j < n → get_or order i 0 ≡ get_or order j 0 → ⊥
   apart i j h g e =
-      let l : lexOf (at texts nowhere map i) (at texts nowhere map j) ≡ Less = ascending-at texts-order nowhere map i
-      j S.ascends h (omega (arith, index-length keys marks order n S)) in
+      let l : lex_of (at texts nowhere map i) (at texts nowhere map j) ≡ Less = ascending_at texts_order nowhere map i
+      j S.ascends h (omega (arith, index_length keys marks order n S)) in
       let s : at texts nowhere map i ≡ at texts nowhere map j =
-      ap (λ x. x.0) (index_at keys marks order n S i (omega arith)) ∙ ap (slotKey keys marks) e
+      ap (λ x. x.0) (index_at keys marks order n S i (omega arith)) ∙ ap (slot_key keys marks) e
       ∙ ap (λ x. x.0) (sym (index_at keys marks order n S j g)) in
-      let t : lexOf (at texts nowhere map i) (at texts nowhere map j) ≡ Same = ap
-      (λ x. lexOf x (at texts nowhere map j)) s ∙ lex-itself (at texts nowhere map j) in
+      let t : lex_of (at texts nowhere map i) (at texts nowhere map j) ≡ Same = ap
+      (λ x. lex_of x (at texts nowhere map j)) s ∙ lex_itself (at texts nowhere map j) in
       let z : Less ≡ Same = sym l ∙ t in
       let z : ◌≡◌ {A = ℕ} 0 1 = cc in omega arith
 
   -- another place for the slot at rank r
-  over-at : (r : ℕ) (k : List ℕ) (i : ℕ) → r < n → k ≡ slotKey keys marks (get_or order r 0) → i < n
-      → slotEntry keys (remarked marks (get_or order r 0) from to) (get_or order i 0) ≡ get_or (set map r (k, (from, to))) i
+  over_at : (r : ℕ) (k : List ℕ) (i : ℕ) → r < n → k ≡ slot_key keys marks (get_or order r 0) → i < n
+      → slot_entry keys (remarked marks (get_or order r 0) from to) (get_or order i 0) ≡ get_or (set map r (k, (from, to))) i
       nowhere
-  over-at r k i h e g = go (eqb i r) refl
+  over_at r k i h e g = go (eqb i r) refl
     where
       long : r < length map
-      long = omega (arith, index-length keys marks order n S)
+      long = omega (arith, index_length keys marks order n S)
 
       go : (b : Bool) → eqb i r ≡ b
-          → slotEntry keys (remarked marks (get_or order r 0) from to) (get_or order i 0) ≡ get_or
+          → slot_entry keys (remarked marks (get_or order r 0) from to) (get_or order i 0) ≡ get_or
           (set map r (k, (from, to))) i nowhere
       go true p =
           let q : i ≡ r = eqb-true i r p in
-          rw q (entry-own keys marks (get_or order r 0) from to
-          (omega (arith, slot-below keys marks order n S r h, S.marked, S.counted))
+          rw q (entry_own keys marks (get_or order r 0) from to
+          (omega (arith, slot_below keys marks order n S r h, S.marked, S.counted))
           ∙ ap {B = List ℕ × Place} (λ x. (x, (from, to))) (sym e)
           ∙ sym (get_or-set_same map r (k, (from, to)) nowhere long))
       go false p =
@@ -197,16 +197,16 @@ module _ (keys marks order : List ℕ) (n len from to : ℕ) (S : SoundIndex key
           other false p q s = apart r i (omega (arith, ltb-false i r p)) g (sym s)
 
   -- another place for the slot at rank r
-  over-map : (r : ℕ) (k : List ℕ) → r < n → k ≡ slotKey keys marks (get_or order r 0)
+  over_map : (r : ℕ) (k : List ℕ) → r < n → k ≡ slot_key keys marks (get_or order r 0)
       → index keys (remarked marks (get_or order r 0) from to) order n ≡ set map r (k, (from, to))
-  over-map r k h e =
+  over_map r k h e =
       ext_get_or nowhere (index keys marks' order n) (set map r (k, (from, to)))
-      (slotted-length keys marks' (take n order)
-      ∙ sym (length-set map r (k, (from, to)) ∙ slotted-length keys marks (take n order)))
-      (λ i g. slotted-at keys marks' (take n order) i (omega (arith, slotted-length keys marks' (take n order)))
-      ∙ ap (slotEntry keys marks') (get_or-take n order i 0
-      (omega (arith, slotted-length keys marks' (take n order), long)))
-      ∙ over-at r k i h e (omega (arith, slotted-length keys marks' (take n order), long)))
+      (slotted_length keys marks' (take n order)
+      ∙ sym (length-set map r (k, (from, to)) ∙ slotted_length keys marks (take n order)))
+      (λ i g. slotted_at keys marks' (take n order) i (omega (arith, slotted_length keys marks' (take n order)))
+      ∙ ap (slot_entry keys marks') (get_or-take n order i 0
+      (omega (arith, slotted_length keys marks' (take n order), long)))
+      ∙ over_at r k i h e (omega (arith, slotted_length keys marks' (take n order), long)))
     where
       marks' : List ℕ
       marks' = remarked marks (get_or order r 0) from to
@@ -214,52 +214,52 @@ module _ (keys marks order : List ℕ) (n len from to : ℕ) (S : SoundIndex key
       long : length (take n order) ≡ n
       long = length-take-le n order (omega (arith, S.ordered, S.counted))
 
-  pub settled-over : rank < n → isSame (lexOf (keyIn keys n len) (slotKey keys marks (get_or order rank 0))) ≡ true
+  pub settled_over : rank < n → is_same (lex_of (key_in keys n len) (slot_key keys marks (get_or order rank 0))) ≡ true
       → Settled keys marks order n len from to (remarked marks (get_or order rank 0) from to) order n
-  settled-over h g =
+  settled_over h g =
       let slot = get_or order rank 0 in
-      let below : slot < n = slot-below keys marks order n S rank h in
-      let e : keyIn keys n len ≡ slotKey keys marks slot = lex-same (keyIn keys n len) (slotKey keys marks slot)
-      (is_same (lexOf (keyIn keys n len) (slotKey keys marks slot)) g) in
-      let p : index keys (remarked marks slot from to) order n ≡ put texts (keyIn keys n len) (from, to) map =
-      over-map rank (keyIn keys n len) h e
-      ∙ sym (put-over texts nowhere (keyIn keys n len) (from, to) map
-      (omega (arith, index-length keys marks order n S))
-      (ap (λ x. isSame (lexOf (keyIn keys n len) x.0)) (index_at keys marks order n S rank h) ∙ g)) in
+      let below : slot < n = slot_below keys marks order n S rank h in
+      let e : key_in keys n len ≡ slot_key keys marks slot = lex_same (key_in keys n len) (slot_key keys marks slot)
+      (is_same_means (lex_of (key_in keys n len) (slot_key keys marks slot)) g) in
+      let p : index keys (remarked marks slot from to) order n ≡ put texts (key_in keys n len) (from, to) map =
+      over_map rank (key_in keys n len) h e
+      ∙ sym (put_over texts nowhere (key_in keys n len) (from, to) map
+      (omega (arith, index_length keys marks order n S))
+      (ap (λ x. is_same (lex_of (key_in keys n len) x.0)) (index_at keys marks order n S rank h) ∙ g)) in
       record {
         map = p;
         sound = record {
           counted = S.counted;
           ordered = S.ordered;
-          marked = marks-length marks slot from to ∙ S.marked;
+          marked = marks_length marks slot from to ∙ S.marked;
           keyed = S.keyed;
           slots = S.slots;
-          lengths = λ j l. omega (arith, S.lengths j l, length-kept marks j slot from to);
-          ascends = ap (ascending texts) p ∙ put-ascending texts-order (keyIn keys n len) (from, to) map S.ascends;
+          lengths = λ j l. omega (arith, S.lengths j l, length_kept marks j slot from to);
+          ascends = ap (ascending texts) p ∙ put_ascending texts_order (key_in keys n len) (from, to) map S.ascends;
         };
       }
 
   -- the key in slot n, with its place
   own : length marks ≡ 6147 → n ≤ 2048
-      → slotEntry keys (remarked (set marks (3 * n) len) n from to) n ≡ (keyIn keys n len, (from, to))
+      → slot_entry keys (remarked (set marks (3 * n) len) n from to) n ≡ (key_in keys n len, (from, to))
   own h g =
-      entry-own keys (set marks (3 * n) len) n from to (omega (arith, length-set marks (3 * n) len))
+      entry_own keys (set marks (3 * n) len) n from to (omega (arith, length-set marks (3 * n) len))
       ∙ ap {B = List ℕ × Place} (λ l. (take l (drop (137 * n) keys), (from, to)))
       (get_or-set_same marks (3 * n) len 0 (omega arith))
 
-  into-map : (r : ℕ) → r ≤ n → n ≤ 2048
+  into_map : (r : ℕ) → r ≤ n → n ≤ 2048
       → index keys (remarked (set marks (3 * n) len) n from to) (inserted order r n n) (n + 1) ≡ take r map
-      ++ (keyIn keys n len, (from, to)) ∷ drop r map
-  into-map r h g =
+      ++ (key_in keys n len, (from, to)) ∷ drop r map
+  into_map r h g =
       let marks' = remarked (set marks (3 * n) len) n from to in
       let l = take n order in
-      let k : slotEntry keys marks' n ≡ (keyIn keys n len, (from, to)) = own S.marked g in
+      let k : slot_entry keys marks' n ≡ (key_in keys n len, (from, to)) = own S.marked g in
       let a : slotted keys marks' (take r l) ≡ take r map =
-      slotted-take keys marks' r l ∙ ap (take r) (slotted-below keys marks l n len from to S.slots) in
+      slotted_take keys marks' r l ∙ ap (take r) (slotted_below keys marks l n len from to S.slots) in
       let b : slotted keys marks' (drop r l) ≡ drop r map =
-      slotted-drop keys marks' r l ∙ ap (drop r) (slotted-below keys marks l n len from to S.slots) in
-      ap (slotted keys marks') (gap-front order r n n h (omega (arith, S.ordered)))
-      ∙ slotted-append keys marks' (take r l) (n ∷ drop r l)
+      slotted_drop keys marks' r l ∙ ap (drop r) (slotted_below keys marks l n len from to S.slots) in
+      ap (slotted keys marks') (gap_front order r n n h (omega (arith, S.ordered)))
+      ∙ slotted_append keys marks' (take r l) (n ∷ drop r l)
       ∙ (λ t. a t ++ k t ∷ b t)
 
   short : len ≤ 137 → (j : ℕ) → j < n + 1 → n ≤ 2048 → (b : Bool) → eqb j n ≡ b
@@ -268,8 +268,8 @@ module _ (keys marks order : List ℕ) (n len from to : ℕ) (S : SoundIndex key
       let q : j ≡ n = eqb-true j n e in
       omega (
         arith,
-        length-kept (set marks (3 * n) len) n n from to,
-        length-kept (set marks (3 * n) len) j n from to,
+        length_kept (set marks (3 * n) len) n n from to,
+        length_kept (set marks (3 * n) len) j n from to,
         get_or-set_same marks (3 * n) len 0 (omega (arith, S.marked)),
         ap
             (λ i. get_or (set marks (3 * n) len) (3 * i) 0) q,
@@ -278,61 +278,61 @@ module _ (keys marks order : List ℕ) (n len from to : ℕ) (S : SoundIndex key
       let q : j ≡ n → ⊥ = eqb-false j n e in
       omega (
         arith,
-        length-kept (set marks (3 * n) len) j n from to,
+        length_kept (set marks (3 * n) len) j n from to,
         get_or-set_other marks (3 * n) (3 * j) len 0
             (λ x. q (omega arith)),
         S.lengths j (omega arith),
       )
 
-  pub settled-into : n ≤ 2048 → len ≤ 137
-      → (rank < n → isSame (lexOf (keyIn keys n len) (slotKey keys marks (get_or order rank 0))) ≡ false)
+  pub settled_into : n ≤ 2048 → len ≤ 137
+      → (rank < n → is_same (lex_of (key_in keys n len) (slot_key keys marks (get_or order rank 0))) ≡ false)
       → Settled keys marks order n len from to (remarked (set marks (3 * n) len) n from to) (inserted order rank n n)
       (n + 1)
-  settled-into g g' h =
+  settled_into g g' h =
       let marks' = remarked (set marks (3 * n) len) n from to in
-      let within = rank-within keys marks order n S (keyIn keys n len) in
-      let p : index keys marks' (inserted order rank n n) (n + 1) ≡ put texts (keyIn keys n len) (from, to) map =
-      into-map rank within g
-      ∙ sym (put-into texts nowhere (keyIn keys n len) (from, to) map
-      (λ l. let l' : rank < n = omega (arith, index-length keys marks order n S) in ap
-      (λ x. isSame (lexOf (keyIn keys n len) x.0)) (index_at keys marks order n S rank l') ∙ h l')) in
+      let within = rank_within keys marks order n S (key_in keys n len) in
+      let p : index keys marks' (inserted order rank n n) (n + 1) ≡ put texts (key_in keys n len) (from, to) map =
+      into_map rank within g
+      ∙ sym (put_into texts nowhere (key_in keys n len) (from, to) map
+      (λ l. let l' : rank < n = omega (arith, index_length keys marks order n S) in ap
+      (λ x. is_same (lex_of (key_in keys n len) x.0)) (index_at keys marks order n S rank l') ∙ h l')) in
       record {
         map = p;
         sound = record {
           counted = omega arith;
           ordered = gap_length order rank n n within (omega (arith, S.ordered)) ∙ S.ordered;
-          marked = marks-length (set marks (3 * n) len) n from to ∙ length-set marks (3 * n) len ∙ S.marked;
+          marked = marks_length (set marks (3 * n) len) n from to ∙ length-set marks (3 * n) len ∙ S.marked;
           keyed = S.keyed;
-          slots = rw (gap-front order rank n n within (omega (arith, S.ordered)))
+          slots = rw (gap_front order rank n n within (omega (arith, S.ordered)))
               (below_in n rank (take n order) S.slots);
           lengths = λ j l. short g' j l g (eqb j n) refl;
-          ascends = ap (ascending texts) p ∙ put-ascending texts-order (keyIn keys n len) (from, to) map S.ascends;
+          ascends = ap (ascending texts) p ∙ put_ascending texts_order (key_in keys n len) (from, to) map S.ascends;
         };
       }
 
   -- as the code finds them: r is the rank, and b says whether the key stands there
   module _ (r : ℕ) (b : Bool) (e : r ≡ rank)
-      (f : b ≡ (ltb r n && isSame (lexOf (keyIn keys n len) (slotKey keys marks (get_or order r 0))))) where
+      (f : b ≡ (ltb r n && is_same (lex_of (key_in keys n len) (slot_key keys marks (get_or order r 0))))) where
     pub stood : b ≡ true
-        → (rank < n) × (isSame (lexOf (keyIn keys n len) (slotKey keys marks (get_or order rank 0))) ≡ true)
+        → (rank < n) × (is_same (lex_of (key_in keys n len) (slot_key keys marks (get_or order rank 0))) ≡ true)
     stood t =
-        let h = both_true (ltb r n) (isSame (lexOf (keyIn keys n len) (slotKey keys marks (get_or order r 0))))
+        let h = both_true (ltb r n) (is_same (lex_of (key_in keys n len) (slot_key keys marks (get_or order r 0))))
         (sym f ∙ t) in
         (rw e at (ltb-true r n h.0), rw e at h.1)
 
-    missed : b ≡ false → rank < n → isSame (lexOf (keyIn keys n len) (slotKey keys marks (get_or order rank 0))) ≡ false
+    missed : b ≡ false → rank < n → is_same (lex_of (key_in keys n len) (slot_key keys marks (get_or order rank 0))) ≡ false
     missed t l = rw (← e) (rw (lt-ltb r n (omega arith)) at (sym f ∙ t))
 
-    pub settles-over : (slot : ℕ) (marks' : List ℕ) → b ≡ true → slot ≡ get_or order r 0
+    pub settles_over : (slot : ℕ) (marks' : List ℕ) → b ≡ true → slot ≡ get_or order r 0
         → marks' ≡ remarked marks slot from to → Settled keys marks order n len from to marks' order n
-    settles-over slot marks' t s m =
+    settles_over slot marks' t s m =
         let x : marks' ≡ remarked marks (get_or order rank 0) from to = m
         ∙ ap (λ j. remarked marks j from to) (s ∙ ap (λ i. get_or order i 0) e) in
-        rw x (settled-over (stood t).0 (stood t).1)
+        rw x (settled_over (stood t).0 (stood t).1)
 
-    pub settles-into : (marks' order' : List ℕ) → n ≤ 2048 → len ≤ 137 → b ≡ false
+    pub settles_into : (marks' order' : List ℕ) → n ≤ 2048 → len ≤ 137 → b ≡ false
         → marks' ≡ remarked (set marks (3 * n) len) n from to → order' ≡ inserted order r n n
         → Settled keys marks order n len from to marks' order' (n + 1)
-    settles-into marks' order' g g' t m o =
+    settles_into marks' order' g g' t m o =
         let y : order' ≡ inserted order rank n n = o ∙ ap (λ i. inserted order i n n) e in
-        rw (m, y) (settled-into g g' (missed t))
+        rw (m, y) (settled_into g g' (missed t))

@@ -1,4 +1,4 @@
 pub mod Index
 pub mod Places
-pub mod promises
-pub mod laws
+pub mod Promises
+pub mod Laws

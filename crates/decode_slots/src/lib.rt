@@ -1,18 +1,18 @@
 // A sorted index in lent slices: keys, each with a place, found by halving.
 ghost use Rattle.std.specs.Prelude.{◌≡◌, ◌+◌, ◌*◌, ◌≤◌, ◌<◌, ◌&&◌, ltb, length, get_or, set};
-ghost use Rattle.slices.specs.Lists.{lexOf};
-ghost use Rattle.slices.specs.promises.Inserted.{inserted};
-ghost use Rattle.maps.specs.promises.Order.{isSame, isMore};
+ghost use Rattle.slices.specs.Lists.{lex_of};
+ghost use Rattle.slices.specs.Promises.Inserted.{inserted};
+ghost use Rattle.maps.specs.Promises.Order.{is_same, is_more};
 ghost use Rattle.maps.specs.Order.{texts};
-ghost use Rattle.decode.specs.Sizes.{mostTrips, keyBytes, marksLength, orderLength};
-ghost use Rattle.decode_slots.specs.Index.{slotKey, index};
-ghost use Rattle.decode_slots.specs.promises.Index.{keyIn, SoundIndex, Settled, rank_of, remarked};
+ghost use Rattle.decode.specs.Sizes.{most_trips, key_bytes, marks_length, order_length};
+ghost use Rattle.decode_slots.specs.Index.{slot_key, index};
+ghost use Rattle.decode_slots.specs.Promises.Index.{key_in, SoundIndex, Settled, rank_of, remarked};
 
 use decode::sizes::KEY_BYTES;
 use slices::Order;
 
 pub fn is_more(o: Order) -> bool
-    ensures { result ≡ isMore o }
+    ensures { result ≡ is_more o }
 {
     match o {
         Order::Less => false,
@@ -22,7 +22,7 @@ pub fn is_more(o: Order) -> bool
 }
 
 pub fn is_same(o: Order) -> bool
-    ensures { result ≡ isSame o }
+    ensures { result ≡ is_same o }
 {
     match o {
         Order::Less => false,
@@ -33,11 +33,11 @@ pub fn is_same(o: Order) -> bool
 
 // The order of the key that stands in slot n, `len` long, and the key of a slot.
 fn key_order(keys: &[u8], marks: &[u32], n: usize, len: usize, slot: usize) -> Order
-    requires len_in_bounds { keyBytes * n + len ≤ length keys.now }
+    requires len_in_bounds { key_bytes * n + len ≤ length keys.now }
     requires slot_in_bounds { 3 * slot < length marks.now }
-    requires slot_in_bounds_2 { keyBytes * slot + get_or marks.now (3 * slot) 0 ≤ length keys.now }
+    requires slot_in_bounds_2 { key_bytes * slot + get_or marks.now (3 * slot) 0 ≤ length keys.now }
     ensures { result ≡
-        lexOf (keyIn keys.now n len) (slotKey keys.now marks.now slot) }
+        lex_of (key_in keys.now n len) (slot_key keys.now marks.now slot) }
 {
     let known = slices::word(marks, 3 * slot);
     slices::compare(
@@ -60,8 +60,8 @@ fn probe(lo: usize, hi: usize, n: usize) -> usize
 // How many keys stand before the key in slot n: found by halving.
 fn rank(keys: &[u8], marks: &[u32], order: &[u32], n: usize, len: usize) -> usize
     requires sound_index { SoundIndex keys.now marks.now order.now n }
-    requires n_le_most_trips { (n ≤ mostTrips) × (len ≤ keyBytes) }
-    ensures { result ≡ rank_of texts (keyIn keys.now n len)
+    requires n_le_most_trips { (n ≤ most_trips) × (len ≤ key_bytes) }
+    ensures { result ≡ rank_of texts (key_in keys.now n len)
         (index keys.now marks.now order.now n) }
 {
     let mut lo: usize = 0;
@@ -81,9 +81,9 @@ fn rank(keys: &[u8], marks: &[u32], order: &[u32], n: usize, len: usize) -> usiz
 // Whether the key at rank r is the key in slot n.
 fn stands(keys: &[u8], marks: &[u32], order: &[u32], n: usize, len: usize, r: usize) -> bool
     requires sound_index { SoundIndex keys.now marks.now order.now n }
-    requires n_le_most_trips { (n ≤ mostTrips) × (len ≤ keyBytes) }
-    ensures { result ≡ (ltb r n && isSame (lexOf (keyIn keys.now n len)
-        (slotKey keys.now marks.now (get_or order.now r 0)))) }
+    requires n_le_most_trips { (n ≤ most_trips) × (len ≤ key_bytes) }
+    ensures { result ≡ (ltb r n && is_same (lex_of (key_in keys.now n len)
+        (slot_key keys.now marks.now (get_or order.now r 0)))) }
 {
     if r >= n {
         return false;
@@ -102,8 +102,8 @@ pub fn mark(marks: &mut [u32], slot: usize, from: u32, to: u32)
 
 // Slot n is in use from now on, at rank r.
 fn enter(marks: &mut [u32], order: &mut [u32], n: usize, r: usize, len: usize, from: u32, to: u32)
-    requires n_le_most_trips { (n ≤ mostTrips) × (r ≤ n) × (len ≤ keyBytes) }
-    requires marks_len { (length marks.old ≡ marksLength) × (length order.old ≡ orderLength) }
+    requires n_le_most_trips { (n ≤ most_trips) × (r ≤ n) × (len ≤ key_bytes) }
+    requires marks_len { (length marks.old ≡ marks_length) × (length order.old ≡ order_length) }
     ensures marks_after { marks.new ≡ remarked (set marks.old (3 * n) len) n from to }
     ensures order_after { order.new ≡ inserted order.old r n n }
 {
@@ -123,7 +123,7 @@ pub fn settle(
     to: u32,
 ) -> usize
     requires sound_index { SoundIndex keys.now marks.old order.old n }
-    requires n_le_most_trips { (n ≤ mostTrips) × (len ≤ keyBytes) }
+    requires n_le_most_trips { (n ≤ most_trips) × (len ≤ key_bytes) }
     ensures { Settled keys.now marks.old order.old n len from to
         marks.new order.new result }
 {

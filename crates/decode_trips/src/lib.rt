@@ -1,16 +1,16 @@
 // The trips that a message leaves, written: keys and records in the order of the keys.
 ghost use Rattle.std.specs.Prelude.{◌≡◌, false, ◌≤◌, length, take};
 ghost use Rattle.basics.specs.Lists.{All};
-ghost use Rattle.formats.specs.Readers.{manyW};
+ghost use Rattle.formats.specs.Readers.{many_w};
 ghost use Rattle.formats.specs.Format.{list, write};
-ghost use Rattle.formats_write.specs.promises.Adds.{Adds};
-ghost use Rattle.decode.specs.Trip.{trip, tripEntry};
-ghost use Rattle.decode.specs.Sizes.{mostMessage, mostTrips};
+ghost use Rattle.formats_write.specs.Promises.Adds.{Adds};
+ghost use Rattle.decode.specs.Trip.{trip, trip_entry};
+ghost use Rattle.decode.specs.Sizes.{most_message, most_trips};
 ghost use Rattle.decode_slots.specs.Index.{index};
 ghost use Rattle.decode_slots.specs.Places.{crowded, held, held_at};
-ghost use Rattle.decode_index.specs.promises.Message.{Fit};
-ghost use Rattle.decode_write.specs.promises.Slots.{GoodSlot, Writable};
-ghost use Rattle.decode_trips.specs.promises.Again.{place_of, Ready, IsLast, Again, EntryPut};
+ghost use Rattle.decode_index.specs.Promises.Message.{Fit};
+ghost use Rattle.decode_write.specs.Promises.Slots.{GoodSlot, Writable};
+ghost use Rattle.decode_trips.specs.Promises.Again.{place_of, Ready, IsLast, Again, EntryPut};
 
 use decode::sizes::KEY_BYTES;
 use formats_write::Put;
@@ -88,7 +88,7 @@ fn write_next(
     to: usize,
     last: Last,
 ) -> Put
-    requires message_len_bound { length message.now ≤ mostMessage }
+    requires message_len_bound { length message.now ≤ most_message }
     requires fit { Fit message.now old.now (from, to)
         × (crowded (held_at message.now old.now (from, to)) ≡ false) }
     requires ready { Ready message.now old.now out.old w last }
@@ -119,7 +119,7 @@ fn write_entry(
     old: &[u8],
     last: Last,
 ) -> Entered
-    requires message_len_bound { length message.now ≤ mostMessage }
+    requires message_len_bound { length message.now ≤ most_message }
     requires good_slot { GoodSlot message.now old.now keys.now marks.now slot }
     requires ready { Ready message.now old.now out.old w last }
     ensures { EntryPut message.now old.now keys.now marks.now slot
@@ -155,11 +155,11 @@ fn put_entries(
     message: &[u8],
     old: &[u8],
 ) -> Put
-    requires message_len_bound { length message.now ≤ mostMessage }
+    requires message_len_bound { length message.now ≤ most_message }
     requires n_in_bounds { n ≤ length order.now }
     requires all { All (GoodSlot message.now old.now keys.now marks.now) (take n order.now) }
     ensures { Adds out.old w out.new result
-        (manyW (write tripEntry) (held message.now old.now
+        (many_w (write trip_entry) (held message.now old.now
         (index keys.now marks.now order.now n))) }
 {
     let Put::At(at) = w else {
@@ -198,10 +198,10 @@ pub fn write_trips(
     message: &[u8],
     old: &[u8],
 ) -> Put
-    requires message_len_bound { length message.now ≤ mostMessage }
+    requires message_len_bound { length message.now ≤ most_message }
     requires writable { Writable message.now old.now keys.now marks.now order.now n }
     ensures { Adds out.old w out.new result
-        (write (list mostTrips tripEntry) (held message.now old.now
+        (write (list most_trips trip_entry) (held message.now old.now
         (index keys.now marks.now order.now n))) }
 {
     let q = formats_write::number(out, w, n as u64);

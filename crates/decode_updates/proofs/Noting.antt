@@ -9,57 +9,57 @@ use lib.Dec.{ltb, eqb}
 use lib.ListN.{length, get_or, take, drop, set, length-set, length-append, length-drop, take-append-drop}
 use lib.Seq.{get_or-drop, ext_get_or, get_or-set_same, get_or-set_other, drop-drop, drop-cons, take_at, drop_at, length-take-le}
 use borrow.Author.Tests.{lt-ltb, le-ltb, ltb-true, eqb-true, eqb-false}
-use Rattle.slices.specs.Lists.{lexOf}
+use Rattle.slices.specs.Lists.{lex_of}
 use Rattle.slices.specs.declared.Order.{Order}
 use Rattle.slices.specs.declared.Order.TheVariants.{Less, Same, More}
 use Rattle.maps.specs.Map.{put, ascending}
-use Rattle.maps.specs.promises.Order.{isSame, isMore}
+use Rattle.maps.specs.Promises.Order.{is_same, is_more}
 use Rattle.maps.specs.Order.{numbers}
-use Rattle.maps.specs.laws.Order.{numbers-order, heads, lex-itself, lex-same, cons-behind}
-use Rattle.maps.specs.laws.Map.{put-ascending}
-use Rattle.basics.specs.laws.Booleans.{both_true}
-use Rattle.decode_slots.specs.Index.{Place, slotPlace}
-use Rattle.slices.specs.promises.Inserted.{inserted}
-use Rattle.decode_slots.specs.promises.Index.{rank_of, remarked}
+use Rattle.maps.specs.Laws.Order.{numbers_order, heads, lex_itself, lex_same, cons_behind}
+use Rattle.maps.specs.Laws.Map.{put_ascending}
+use Rattle.basics.specs.Laws.Booleans.{both_true}
+use Rattle.decode_slots.specs.Index.{Place, slot_place}
+use Rattle.slices.specs.Promises.Inserted.{inserted}
+use Rattle.decode_slots.specs.Promises.Index.{rank_of, remarked}
 use Rattle.decode_updates.specs.Line.{laid}
-use Rattle.decode_updates.specs.laws.Line.{laid-length}
-use Rattle.decode_updates.specs.promises.Line.{three, Lined, Noted}
-use Rattle.slices.proofs.Gaps.{inserted-at, gap_length}
-use Rattle.decode_slots.proofs.Ranks.{rank-length, rank-behind, rank-before}
-use Rattle.decode_slots.proofs.Settling.{put-over, put-into, place-own, place_other, length-kept, marks-length}
+use Rattle.decode_updates.specs.Laws.Line.{laid_length}
+use Rattle.decode_updates.specs.Promises.Line.{three, Lined, Noted}
+use Rattle.slices.proofs.Gaps.{inserted_at, gap_length}
+use Rattle.decode_slots.proofs.Ranks.{rank_length, rank_behind, rank_before}
+use Rattle.decode_slots.proofs.Settling.{put_over, put_into, place_own, place_other, length_kept, marks_length}
 
 -- an update that stands for no other
 abbrev pub nothing : ℕ × Place
 nothing = (0, (0, 0))
 
-pub laid-at : (n : ℕ) (u : List ℕ) (i : ℕ) → i < n → get_or (laid n u) i nothing ≡ (get_or u (3 * i) 0, slotPlace u i)
-laid-at zero u i h = absurd (omega arith)
-laid-at (suc n) u zero h = refl
-laid-at (suc n) u (suc i) h =
+pub laid_at : (n : ℕ) (u : List ℕ) (i : ℕ) → i < n → get_or (laid n u) i nothing ≡ (get_or u (3 * i) 0, slot_place u i)
+laid_at zero u i h = absurd (omega arith)
+laid_at (suc n) u zero h = refl
+laid_at (suc n) u (suc i) h =
     let a : 3 + 3 * i ≡ 3 * suc i = omega arith in
     let b : 3 + (3 * i + 1) ≡ 3 * suc i + 1 = omega arith in
     let c : 3 + (3 * i + 2) ≡ 3 * suc i + 2 = omega arith in
-    laid-at n (drop 3 u) i (omega arith)
+    laid_at n (drop 3 u) i (omega arith)
     ∙ rw (get_or-drop 3 u (3 * i) 0, get_or-drop 3 u (3 * i + 1) 0, get_or-drop 3 u (3 * i + 2) 0, a, b, c)
 
 -- the order of two numbers
-not_more : (x y : ℕ) → x ≤ y → isMore (lexOf (x ∷ []) (y ∷ [])) ≡ false
-unfolding lexOf
+not_more : (x y : ℕ) → x ≤ y → is_more (lex_of (x ∷ []) (y ∷ [])) ≡ false
+unfolding lex_of
 not_more x y h = go (ltb x y) (ltb y x) (le-ltb y x h)
   where
-    go : (a b : Bool) → b ≡ false → isMore (cond a Less (cond b More Same)) ≡ false
+    go : (a b : Bool) → b ≡ false → is_more (cond a Less (cond b More Same)) ≡ false
     go true b e = refl
     go false b e = rw e
 
-pub same_number : (x y : ℕ) → x ≡ y → isSame (lexOf (x ∷ []) (y ∷ [])) ≡ true
-same_number x y e = rw e (ap isSame (lex-itself (y ∷ [])))
+pub same_number : (x y : ℕ) → x ≡ y → is_same (lex_of (x ∷ []) (y ∷ [])) ≡ true
+same_number x y e = rw e (ap is_same (lex_itself (y ∷ [])))
 
-pub other-number : (x y : ℕ) → (x ≡ y → ⊥) → isSame (lexOf (x ∷ []) (y ∷ [])) ≡ false
-other-number x y h = go (lexOf (x ∷ []) (y ∷ [])) refl
+pub other_number : (x y : ℕ) → (x ≡ y → ⊥) → is_same (lex_of (x ∷ []) (y ∷ [])) ≡ false
+other_number x y h = go (lex_of (x ∷ []) (y ∷ [])) refl
   where
-    go : (o : Order) → lexOf (x ∷ []) (y ∷ []) ≡ o → isSame o ≡ false
+    go : (o : Order) → lex_of (x ∷ []) (y ∷ []) ≡ o → is_same o ≡ false
     go Less e = refl
-    go Same e = absurd (h (heads (lex-same (x ∷ []) (y ∷ []) e)))
+    go Same e = absurd (h (heads (lex_same (x ∷ []) (y ∷ []) e)))
     go More e = refl
 
 module _ (u : List ℕ) (n : ℕ) (L : Lined u n) (q : ℕ) where
@@ -67,90 +67,90 @@ module _ (u : List ℕ) (n : ℕ) (L : Lined u n) (q : ℕ) where
   rank = rank_of numbers q (laid n u)
 
   pub rank_most : rank ≤ n
-  rank_most = omega (arith, rank-length numbers-order nothing q (laid n u), laid-length n u)
+  rank_most = omega (arith, rank_length numbers_order nothing q (laid n u), laid_length n u)
 
   -- a step of the search
   pub rank_down : (i : ℕ) → i < n → q ≤ get_or u (3 * i) 0 → rank ≤ i
   rank_down i h g =
-      rank-before numbers-order nothing q (laid n u) i (omega (arith, laid-length n u))
-      (ap (λ e. isMore (lexOf (q ∷ []) (e.0 ∷ []))) (laid-at n u i h) ∙ not_more q (get_or u (3 * i) 0) g)
+      rank_before numbers_order nothing q (laid n u) i (omega (arith, laid_length n u))
+      (ap (λ e. is_more (lex_of (q ∷ []) (e.0 ∷ []))) (laid_at n u i h) ∙ not_more q (get_or u (3 * i) 0) g)
 
   pub rank_up : (i : ℕ) → i < n → get_or u (3 * i) 0 < q → i < rank
   rank_up i h g =
-      rank-behind numbers-order nothing q (laid n u) i L.ascends (omega (arith, laid-length n u))
-      (ap (λ e. lexOf (q ∷ []) (e.0 ∷ [])) (laid-at n u i h) ∙ cons-behind q (get_or u (3 * i) 0) [] [] g)
+      rank_behind numbers_order nothing q (laid n u) i L.ascends (omega (arith, laid_length n u))
+      (ap (λ e. lex_of (q ∷ []) (e.0 ∷ [])) (laid_at n u i h) ∙ cons_behind q (get_or u (3 * i) 0) [] [] g)
 
   -- behind the last
-  pub rank-all : 0 < n → get_or u (3 * (n - 1)) 0 < q → n ≡ rank
-  rank-all h g = omega (arith, rank_most, rank_up (n - 1) (omega arith) g)
+  pub rank_all : 0 < n → get_or u (3 * (n - 1)) 0 < q → n ≡ rank
+  rank_all h g = omega (arith, rank_most, rank_up (n - 1) (omega arith) g)
 
-  over-at : (r from to i : ℕ) → r < n → q ≡ get_or u (3 * r) 0 → i < n
-      → ◌≡◌ {A = ℕ × Place} (get_or (remarked u r from to) (3 * i) 0, slotPlace (remarked u r from to) i)
+  over_at : (r from to i : ℕ) → r < n → q ≡ get_or u (3 * r) 0 → i < n
+      → ◌≡◌ {A = ℕ × Place} (get_or (remarked u r from to) (3 * i) 0, slot_place (remarked u r from to) i)
       (get_or (set (laid n u) r (q, (from, to))) i nothing)
-  over-at r from to i h e g = go (eqb i r) refl
+  over_at r from to i h e g = go (eqb i r) refl
     where
       go : (b : Bool) → eqb i r ≡ b
-          → ◌≡◌ {A = ℕ × Place} (get_or (remarked u r from to) (3 * i) 0, slotPlace (remarked u r from to) i)
+          → ◌≡◌ {A = ℕ × Place} (get_or (remarked u r from to) (3 * i) 0, slot_place (remarked u r from to) i)
           (get_or (set (laid n u) r (q, (from, to))) i nothing)
       go true p =
           let s : i ≡ r = eqb-true i r p in
           rw (
             s,
-            get_or-set_same (laid n u) r (q, (from, to)) nothing (omega (arith, laid-length n u)),
-            length-kept u r
+            get_or-set_same (laid n u) r (q, (from, to)) nothing (omega (arith, laid_length n u)),
+            length_kept u r
                 r from to,
-            place-own u r from to (omega (arith, L.long, L.counted)),
+            place_own u r from to (omega (arith, L.long, L.counted)),
             ← e,
           )
       go false p =
           rw (
             get_or-set_other (laid n u) r i (q, (from, to)) nothing (eqb-false i r p),
-            length-kept u i r from to,
+            length_kept u i r from to,
             place_other u i r from to (eqb-false i r p),
           )
-          (sym (laid-at n u i g))
+          (sym (laid_at n u i g))
 
-  over-map : (r from to : ℕ) → r < n → q ≡ get_or u (3 * r) 0
+  over_map : (r from to : ℕ) → r < n → q ≡ get_or u (3 * r) 0
       → laid n (remarked u r from to) ≡ set (laid n u) r (q, (from, to))
-  over-map r from to h e =
+  over_map r from to h e =
       ext_get_or nothing (laid n (remarked u r from to)) (set (laid n u) r (q, (from, to)))
-      (laid-length n (remarked u r from to) ∙ sym (length-set (laid n u) r (q, (from, to)) ∙ laid-length n u))
-      (λ i g. let g' : i < n = omega (arith, laid-length n (remarked u r from to)) in laid-at n (remarked u r from to)
-      i g' ∙ over-at r from to i h e g')
+      (laid_length n (remarked u r from to) ∙ sym (length-set (laid n u) r (q, (from, to)) ∙ laid_length n u))
+      (λ i g. let g' : i < n = omega (arith, laid_length n (remarked u r from to)) in laid_at n (remarked u r from to)
+      i g' ∙ over_at r from to i h e g')
 
-  pub notes-over : (r from to : ℕ) (b : Bool) (u' : List ℕ) → r ≡ rank → b ≡ (ltb r n && eqb (get_or u (3 * r) 0) q)
+  pub notes_over : (r from to : ℕ) (b : Bool) (u' : List ℕ) → r ≡ rank → b ≡ (ltb r n && eqb (get_or u (3 * r) 0) q)
       → b ≡ true → u' ≡ remarked u r from to → Noted u n q from to u' n
-  notes-over r from to b u' e f t m =
+  notes_over r from to b u' e f t m =
       let c = both_true (ltb r n) (eqb (get_or u (3 * r) 0) q) (sym f ∙ t) in
       let h : r < n = ltb-true r n c.0 in
       let g : get_or u (3 * r) 0 ≡ q = eqb-true (get_or u (3 * r) 0) q c.1 in
-      let k : rank < length (laid n u) = omega (arith, laid-length n u) in
-      let same : isSame (lexOf (q ∷ []) ((get_or (laid n u) rank nothing).0 ∷ [])) ≡ true =
-      ap (λ i. isSame (lexOf (q ∷ []) ((get_or (laid n u) i nothing).0 ∷ []))) (sym e)
-      ∙ ap (λ x. isSame (lexOf (q ∷ []) (x.0 ∷ []))) (laid-at n u r h)
+      let k : rank < length (laid n u) = omega (arith, laid_length n u) in
+      let same : is_same (lex_of (q ∷ []) ((get_or (laid n u) rank nothing).0 ∷ [])) ≡ true =
+      ap (λ i. is_same (lex_of (q ∷ []) ((get_or (laid n u) i nothing).0 ∷ []))) (sym e)
+      ∙ ap (λ x. is_same (lex_of (q ∷ []) (x.0 ∷ []))) (laid_at n u r h)
       ∙ same_number q (get_or u (3 * r) 0) (sym g) in
       let p : laid n u' ≡ put numbers q (from, to) (laid n u) =
-      ap (laid n) m ∙ over-map r from to h (sym g) ∙ ap (λ i. set (laid n u) i (q, (from, to))) e
-      ∙ sym (put-over numbers nothing q (from, to) (laid n u) k same) in
+      ap (laid n) m ∙ over_map r from to h (sym g) ∙ ap (λ i. set (laid n u) i (q, (from, to))) e
+      ∙ sym (put_over numbers nothing q (from, to) (laid n u) k same) in
       record {
         map = p;
         lined = record {
           counted = L.counted;
-          long = ap length m ∙ marks-length u r from to ∙ L.long;
-          ascends = ap (ascending numbers) p ∙ put-ascending numbers-order q (from, to) (laid n u) L.ascends;
+          long = ap length m ∙ marks_length u r from to ∙ L.long;
+          ascends = ap (ascending numbers) p ∙ put_ascending numbers_order q (from, to) (laid n u) L.ascends;
         };
       }
 
 -- updates of two lists, one behind the other
-laid-split : (r c : ℕ) (x y : List ℕ) → length x ≡ 3 * r → laid (r + c) (x ++ y) ≡ laid r x ++ laid c y
-laid-split zero c [] y h = let n : 0 + c ≡ c = omega arith in ap (λ k. laid k y) n
-laid-split zero c (a ∷ x) y h = absurd (omega arith)
-laid-split (suc r) c [] y h = absurd (omega arith)
-laid-split (suc r) c (a ∷ []) y h = absurd (omega arith)
-laid-split (suc r) c (a ∷ b ∷ []) y h = absurd (omega arith)
-laid-split (suc r) c (a ∷ b ∷ d ∷ x) y h =
+laid_split : (r c : ℕ) (x y : List ℕ) → length x ≡ 3 * r → laid (r + c) (x ++ y) ≡ laid r x ++ laid c y
+laid_split zero c [] y h = let n : 0 + c ≡ c = omega arith in ap (λ k. laid k y) n
+laid_split zero c (a ∷ x) y h = absurd (omega arith)
+laid_split (suc r) c [] y h = absurd (omega arith)
+laid_split (suc r) c (a ∷ []) y h = absurd (omega arith)
+laid_split (suc r) c (a ∷ b ∷ []) y h = absurd (omega arith)
+laid_split (suc r) c (a ∷ b ∷ d ∷ x) y h =
     let n : suc r + c ≡ suc (r + c) = omega arith in
-    rw n (ap (λ l. (a, (b, d)) ∷ l) (laid-split r c x y (omega arith)))
+    rw n (ap (λ l. (a, (b, d)) ∷ l) (laid_split r c x y (omega arith)))
 
 module _ (u : List ℕ) (r n : ℕ) (h : r ≤ n) (g : 3 * n + 3 ≤ length u) where
   abbrev front : List ℕ
@@ -162,8 +162,8 @@ module _ (u : List ℕ) (r n : ℕ) (h : r ≤ n) (g : 3 * n + 3 ≤ length u) w
   front_length : length front ≡ 3 * r
   front_length = length-take-le (3 * r) u (omega arith)
 
-  middle-length : length middle ≡ 3 * n - 3 * r
-  middle-length = length-take-le (3 * n - 3 * r) (drop (3 * r) u) (omega (arith, length-drop (3 * r) u))
+  middle_length : length middle ≡ 3 * n - 3 * r
+  middle_length = length-take-le (3 * n - 3 * r) (drop (3 * r) u) (omega (arith, length-drop (3 * r) u))
 
   pieces : (back : List ℕ) → drop (3 * n) u ≡ back → u ≡ front ++ (middle ++ back)
   pieces back e =
@@ -172,58 +172,58 @@ module _ (u : List ℕ) (r n : ℕ) (h : r ≤ n) (g : 3 * n + 3 ≤ length u) w
       ∙ ap (λ l. front ++ l) (sym (take-append-drop (3 * n - 3 * r) (drop (3 * r) u))
       ∙ ap (λ l. middle ++ l) (drop-drop (3 * n - 3 * r) (3 * r) u ∙ ap (λ i. drop i u) k ∙ e))
 
-  three-pieces : (q from to : ℕ) (x y z : ℕ) (rest : List ℕ) → drop (3 * n) u ≡ x ∷ y ∷ z ∷ rest
+  three_pieces : (q from to : ℕ) (x y z : ℕ) (rest : List ℕ) → drop (3 * n) u ≡ x ∷ y ∷ z ∷ rest
       → three u r n q from to ≡ front ++ (q ∷ from ∷ to ∷ (middle ++ rest))
-  three-pieces q from to x y z rest e =
-      let m : length front + length middle ≡ 3 * n = omega (arith, front_length, middle-length) in
+  three_pieces q from to x y z rest e =
+      let m : length front + length middle ≡ 3 * n = omega (arith, front_length, middle_length) in
       let one : inserted u (3 * r) (3 * n) q ≡ (front ++ q ∷ []) ++ (middle ++ y ∷ z ∷ rest) =
       ap (λ l. inserted l (3 * r) (3 * n) q) (pieces (x ∷ y ∷ z ∷ rest) e)
-      ∙ inserted-at front middle (y ∷ z ∷ rest) x q (3 * r) (3 * n) (sym front_length) (sym m)
+      ∙ inserted_at front middle (y ∷ z ∷ rest) x q (3 * r) (3 * n) (sym front_length) (sym m)
       ∙ sym (append_assoc front (q ∷ []) (middle ++ y ∷ z ∷ rest)) in
       let two : inserted ((front ++ q ∷ []) ++ (middle ++ y ∷ z ∷ rest)) (3 * r + 1) (3 * n + 1) from
       ≡ (front ++ q ∷ from ∷ []) ++ (middle ++ z ∷ rest) =
-      inserted-at (front ++ q ∷ []) middle (z ∷ rest) y from (3 * r + 1) (3 * n + 1)
+      inserted_at (front ++ q ∷ []) middle (z ∷ rest) y from (3 * r + 1) (3 * n + 1)
       (omega (arith, front_length, length-append front (q ∷ []))) (omega (arith, m, length-append front (q ∷ [])))
       ∙ append_assoc front (q ∷ []) (from ∷ (middle ++ z ∷ rest))
       ∙ sym (append_assoc front (q ∷ from ∷ []) (middle ++ z ∷ rest)) in
       let all : inserted ((front ++ q ∷ from ∷ []) ++ (middle ++ z ∷ rest)) (3 * r + 2) (3 * n + 2) to ≡ front
       ++ (q ∷ from ∷ to ∷ (middle ++ rest)) =
-      inserted-at (front ++ q ∷ from ∷ []) middle rest z to (3 * r + 2) (3 * n + 2)
+      inserted_at (front ++ q ∷ from ∷ []) middle rest z to (3 * r + 2) (3 * n + 2)
       (omega (arith, front_length, length-append front (q ∷ from ∷ [])))
       (omega (arith, m, length-append front (q ∷ from ∷ [])))
       ∙ append_assoc front (q ∷ from ∷ []) (to ∷ (middle ++ rest)) in
       ap (λ l. inserted (inserted l (3 * r + 1) (3 * n + 1) from) (3 * r + 2) (3 * n + 2) to) one
       ∙ ap (λ l. inserted l (3 * r + 2) (3 * n + 2) to) two ∙ all
 
-  middle-laid : (back : List ℕ) → laid (n - r) (middle ++ back) ≡ laid (n - r) middle ++ []
-  middle-laid back =
+  middle_laid : (back : List ℕ) → laid (n - r) (middle ++ back) ≡ laid (n - r) middle ++ []
+  middle_laid back =
       let k : n - r ≡ n - r + 0 = omega arith in
-      ap (λ i. laid i (middle ++ back)) k ∙ laid-split (n - r) 0 middle back (omega (arith, middle-length))
+      ap (λ i. laid i (middle ++ back)) k ∙ laid_split (n - r) 0 middle back (omega (arith, middle_length))
 
-  whole-laid : laid n u ≡ laid r front ++ (laid (n - r) middle ++ [])
-  whole-laid =
+  whole_laid : laid n u ≡ laid r front ++ (laid (n - r) middle ++ [])
+  whole_laid =
       let k : n ≡ r + (n - r) = omega arith in
       ap (λ i. laid i u) k ∙ ap (laid (r + (n - r))) (pieces (drop (3 * n) u) refl)
-      ∙ laid-split r (n - r) front (middle ++ drop (3 * n) u) front_length
-      ∙ ap (λ l. laid r front ++ l) (middle-laid (drop (3 * n) u))
+      ∙ laid_split r (n - r) front (middle ++ drop (3 * n) u) front_length
+      ∙ ap (λ l. laid r front ++ l) (middle_laid (drop (3 * n) u))
 
-  three-laid : (q from to : ℕ) (rest : List ℕ)
+  three_laid : (q from to : ℕ) (rest : List ℕ)
       → laid (n + 1) (front ++ (q ∷ from ∷ to ∷ (middle ++ rest))) ≡ take r (laid n u) ++ (q, (from, to)) ∷ drop r
       (laid n u)
-  three-laid q from to rest =
+  three_laid q from to rest =
       let k : n + 1 ≡ r + suc (n - r) = omega arith in
       let y = q ∷ from ∷ to ∷ (middle ++ rest) in
       let back = laid (n - r) middle ++ [] in
       let a : laid r front ≡ take r (laid n u) = sym
-      (ap (take r) whole-laid ∙ take_at (laid r front) back r (laid-length r front)) in
-      let b : laid (n - r) (middle ++ rest) ≡ drop r (laid n u) = middle-laid rest
-      ∙ sym (ap (drop r) whole-laid ∙ drop_at (laid r front) back r (laid-length r front)) in
-      ap (λ i. laid i (front ++ y)) k ∙ laid-split r (suc (n - r)) front y front_length
+      (ap (take r) whole_laid ∙ take_at (laid r front) back r (laid_length r front)) in
+      let b : laid (n - r) (middle ++ rest) ≡ drop r (laid n u) = middle_laid rest
+      ∙ sym (ap (drop r) whole_laid ∙ drop_at (laid r front) back r (laid_length r front)) in
+      ap (λ i. laid i (front ++ y)) k ∙ laid_split r (suc (n - r)) front y front_length
       ∙ (λ i. a i ++ (q, (from, to)) ∷ b i)
 
-drop-three : (u : List ℕ) (k : ℕ) → k + 3 ≤ length u
+drop_three : (u : List ℕ) (k : ℕ) → k + 3 ≤ length u
     → drop k u ≡ get_or u k 0 ∷ get_or u (k + 1) 0 ∷ get_or u (k + 2) 0 ∷ drop (k + 3) u
-drop-three u k h =
+drop_three u k h =
     let a : suc k ≡ k + 1 = omega arith in
     let b : suc (k + 1) ≡ k + 2 = omega arith in
     let c : suc (k + 2) ≡ k + 3 = omega arith in
@@ -236,9 +236,9 @@ drop-three u k h =
       c,
     )
 
-pub three-length : (u : List ℕ) (r n q from to : ℕ) → r ≤ n → 3 * n + 3 ≤ length u
+pub three_length : (u : List ℕ) (r n q from to : ℕ) → r ≤ n → 3 * n + 3 ≤ length u
     → length (three u r n q from to) ≡ length u
-three-length u r n q from to h l =
+three_length u r n q from to h l =
     let v = inserted u (3 * r) (3 * n) q in
     let w = inserted v (3 * r + 1) (3 * n + 1) from in
     let a : length v ≡ length u = gap_length u (3 * r) (3 * n) q (omega arith) (omega arith) in
@@ -246,10 +246,10 @@ three-length u r n q from to h l =
     gap_length w (3 * r + 2) (3 * n + 2) to (omega arith) (omega arith) ∙ b ∙ a
 
 module _ (u : List ℕ) (n : ℕ) (L : Lined u n) (q from to : ℕ) where
-  pub notes-into : (r : ℕ) (b : Bool) (u' : List ℕ) → r ≡ rank_of numbers q (laid n u)
+  pub notes_into : (r : ℕ) (b : Bool) (u' : List ℕ) → r ≡ rank_of numbers q (laid n u)
       → b ≡ (ltb r n && eqb (get_or u (3 * r) 0) q) → b ≡ false → n ≤ 128 → u' ≡ three u r n q from to
       → Noted u n q from to u' (n + 1)
-  notes-into r b u' e f t g m =
+  notes_into r b u' e f t g m =
       let d : r < n → get_or u (3 * r) 0 ≡ q → ⊥ = λ k. eqb-false (get_or u (3 * r) 0) q
       (rw (lt-ltb r n k) at (sym f ∙ t)) in
       let rank = rank_of numbers q (laid n u) in
@@ -259,22 +259,22 @@ module _ (u : List ℕ) (n : ℕ) (L : Lined u n) (q from to : ℕ) where
       let y = get_or u (3 * n + 1) 0 in
       let z = get_or u (3 * n + 2) 0 in
       let back : drop (3 * n) u ≡ x ∷ y ∷ z ∷ drop (3 * n + 3) u =
-      drop-three u (3 * n) l in
-      let other : rank < length (laid n u) → isSame (lexOf (q ∷ []) ((get_or (laid n u) rank nothing).0 ∷ [])) ≡ false =
+      drop_three u (3 * n) l in
+      let other : rank < length (laid n u) → is_same (lex_of (q ∷ []) ((get_or (laid n u) rank nothing).0 ∷ [])) ≡ false =
       λ k.
-      let k' : rank < n = omega (arith, laid-length n u) in
-      ap (λ x. isSame (lexOf (q ∷ []) (x.0 ∷ []))) (laid-at n u rank k')
-      ∙ other-number q (get_or u (3 * rank) 0) (λ s. d (omega arith) (ap (λ i. get_or u (3 * i) 0) e ∙ sym s)) in
+      let k' : rank < n = omega (arith, laid_length n u) in
+      ap (λ x. is_same (lex_of (q ∷ []) (x.0 ∷ []))) (laid_at n u rank k')
+      ∙ other_number q (get_or u (3 * rank) 0) (λ s. d (omega arith) (ap (λ i. get_or u (3 * i) 0) e ∙ sym s)) in
       let p : laid (n + 1) u' ≡ put numbers q (from, to) (laid n u) =
-      ap (laid (n + 1)) (m ∙ three-pieces u r n h l q from to x y z (drop (3 * n + 3) u) back)
-      ∙ three-laid u r n h l q from to (drop (3 * n + 3) u)
+      ap (laid (n + 1)) (m ∙ three_pieces u r n h l q from to x y z (drop (3 * n + 3) u) back)
+      ∙ three_laid u r n h l q from to (drop (3 * n + 3) u)
       ∙ ap (λ i. take i (laid n u) ++ (q, (from, to)) ∷ drop i (laid n u)) e
-      ∙ sym (put-into numbers nothing q (from, to) (laid n u) other) in
+      ∙ sym (put_into numbers nothing q (from, to) (laid n u) other) in
       record {
         map = p;
         lined = record {
           counted = omega arith;
-          long = ap length m ∙ three-length u r n q from to h l ∙ L.long;
-          ascends = ap (ascending numbers) p ∙ put-ascending numbers-order q (from, to) (laid n u) L.ascends;
+          long = ap length m ∙ three_length u r n q from to h l ∙ L.long;
+          ascends = ap (ascending numbers) p ∙ put_ascending numbers_order q (from, to) (laid n u) L.ascends;
         };
       }

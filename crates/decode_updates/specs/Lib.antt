@@ -1,4 +1,4 @@
 pub mod Line
 pub mod Updates
-pub mod promises
-pub mod laws
+pub mod Promises
+pub mod Laws

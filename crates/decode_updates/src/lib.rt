@@ -2,12 +2,12 @@
 ghost use Rattle.std.specs.Prelude.{◌≡◌, ◌+◌, ◌*◌, ◌≤◌, false, ◌&&◌, ltb, eqb, length, take, get_or};
 ghost use Rattle.basics.specs.Lists.{All};
 ghost use Rattle.maps.specs.Order.{numbers};
-ghost use Rattle.decode.specs.Sizes.{mostTrips, mostUpdates, mostMessage, marksLength, orderLength, updatesLength};
-ghost use Rattle.decode_updates.specs.promises.Line.{mostLines, three, Lined, Noted};
-ghost use Rattle.decode_slots.specs.promises.Index.{rank_of};
+ghost use Rattle.decode.specs.Sizes.{most_trips, most_updates, most_message, marks_length, order_length, updates_length};
+ghost use Rattle.decode_updates.specs.Promises.Line.{most_lines, three, Lined, Noted};
+ghost use Rattle.decode_slots.specs.Promises.Index.{rank_of};
 ghost use Rattle.decode_updates.specs.Line.{laid};
-ghost use Rattle.decode_updates.specs.promises.Updates.{ListedUpdates, Counted, CrowdedRead, ReadableSlot};
-ghost use Rattle.decode_updates.specs.promises.Updates.{ReadableNew, crowdedAt, crowdedIn};
+ghost use Rattle.decode_updates.specs.Promises.Updates.{ListedUpdates, Counted, CrowdedRead, ReadableSlot};
+ghost use Rattle.decode_updates.specs.Promises.Updates.{ReadableNew, crowded_at, crowded_in};
 
 use decode::sizes::{BEYOND, MOST_UPDATES, UPDATES_LENGTH};
 use realtime_views::Item;
@@ -45,7 +45,7 @@ fn place_of(updates: &[u32], n: usize, sequence: u32) -> usize
 
 // Whether the update at rank r has the sequence.
 fn is_at(updates: &[u32], n: usize, r: usize, sequence: u32) -> bool
-    requires { (n ≤ mostLines) × (length updates.now ≡ updatesLength) }
+    requires { (n ≤ most_lines) × (length updates.now ≡ updates_length) }
     ensures { result ≡ (ltb r n && eqb (get_or updates.now (3 * r) 0) sequence) }
 {
     if r >= n {
@@ -56,7 +56,7 @@ fn is_at(updates: &[u32], n: usize, r: usize, sequence: u32) -> bool
 
 // Three numbers go in at rank r.
 fn line(updates: &mut [u32], n: usize, r: usize, sequence: u32, from: u32, to: u32)
-    requires { (r ≤ n) × (n ≤ mostUpdates) × (length updates.old ≡ updatesLength) }
+    requires { (r ≤ n) × (n ≤ most_updates) × (length updates.old ≡ updates_length) }
     ensures { updates.new ≡ three updates.old r n sequence from to }
 {
     slices::insert(updates, 3 * r, 3 * n, sequence);
@@ -67,7 +67,7 @@ fn line(updates: &mut [u32], n: usize, r: usize, sequence: u32, from: u32, to: u
 // An update goes in at its sequence, over an old one: how many are in use then.
 pub fn note(updates: &mut [u32], n: usize, sequence: u32, from: u32, to: u32) -> usize
     requires lined { Lined updates.old n }
-    requires n_le_most_updates { n ≤ mostUpdates }
+    requires n_le_most_updates { n ≤ most_updates }
     ensures { Noted updates.old n sequence from to updates.new result }
 {
     let r = place_of(updates, n, sequence);
@@ -82,8 +82,8 @@ pub fn note(updates: &mut [u32], n: usize, sequence: u32, from: u32, to: u32) ->
 // The places of an entity's updates by their sequences, a later one over an earlier one: how many they are. The first
 // above 128 is the last that is noted.
 pub fn updates_of(updates: &mut [u32], message: &[u8], start: usize, len: usize) -> usize
-    requires updates_len { length updates.old ≡ updatesLength }
-    requires len_in_bounds { (start + len ≤ length message.now) × (length message.now ≤ mostMessage) }
+    requires updates_len { length updates.old ≡ updates_length }
+    requires len_in_bounds { (start + len ≤ length message.now) × (length message.now ≤ most_message) }
     ensures { ListedUpdates message.now start len updates.new result }
 {
     let end = start + len;
@@ -134,7 +134,7 @@ fn count_updates(message: &[u8], start: usize, len: usize) -> usize
 
 // Whether the record of an entity has more than 128. Few records do, and counting tells of nearly all others.
 fn is_crowded(message: &[u8], start: usize, len: usize) -> bool
-    requires { (start + len ≤ length message.now) × (length message.now ≤ mostMessage) }
+    requires { (start + len ≤ length message.now) × (length message.now ≤ most_message) }
     ensures { CrowdedRead message.now start len result }
 {
     if count_updates(message, start, len) <= MOST_UPDATES {
@@ -146,10 +146,10 @@ fn is_crowded(message: &[u8], start: usize, len: usize) -> bool
 
 // Whether the record at a place is of the message, and has more than 128; that at another place has not.
 fn place_crowded(message: &[u8], other_from: usize, other_to: usize, from: usize, to: usize) -> bool
-    requires message_len_bound { length message.now ≤ mostMessage }
-    requires other_to_value { crowdedAt message.now (other_from, other_to) ≡ false }
+    requires message_len_bound { length message.now ≤ most_message }
+    requires other_to_value { crowded_at message.now (other_from, other_to) ≡ false }
     requires readable_new { ReadableNew message.now (from, to) }
-    ensures { result ≡ crowdedAt message.now (from, to) }
+    ensures { result ≡ crowded_at message.now (from, to) }
 {
     if from >= BEYOND {
         return false;
@@ -165,10 +165,10 @@ fn place_crowded(message: &[u8], other_from: usize, other_to: usize, from: usize
 // Whether one of the first n slots has such a record: the first that is found ends the search. A dated record has two
 // slots, one after the other as a rule, and is asked once then.
 pub fn any_crowded(marks: &[u32], order: &[u32], n: usize, message: &[u8]) -> bool
-    requires marks_len { (length marks.now ≡ marksLength) × (length order.now ≡ orderLength) }
-    requires n_le_most_trips { (n ≤ mostTrips) × (length message.now ≤ mostMessage) }
+    requires marks_len { (length marks.now ≡ marks_length) × (length order.now ≡ order_length) }
+    requires n_le_most_trips { (n ≤ most_trips) × (length message.now ≤ most_message) }
     requires all { All (ReadableSlot message.now marks.now) (take n order.now) }
-    ensures { result ≡ crowdedIn message.now marks.now (take n order.now) }
+    ensures { result ≡ crowded_in message.now marks.now (take n order.now) }
 {
     let mut from = BEYOND;
     let mut to = BEYOND;

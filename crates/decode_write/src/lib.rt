@@ -3,29 +3,29 @@
 ghost use Rattle.std.specs.Prelude.{◌≡◌, false, List, ℕ, ◌+◌, ◌-◌, ◌≤◌, ◌<◌, length, take, drop};
 ghost use Rattle.basics.specs.Lists.{All};
 ghost use Rattle.basics.specs.Options.{maybe};
-ghost use Rattle.formats.specs.Number.{groupsW, numberW};
-ghost use Rattle.formats.specs.promises.Number.{top};
-ghost use Rattle.formats.specs.Readers.{manyW};
+ghost use Rattle.formats.specs.Number.{groups_w, number_w};
+ghost use Rattle.formats.specs.Promises.Number.{top};
+ghost use Rattle.formats.specs.Readers.{many_w};
 ghost use Rattle.formats.specs.Format.{◌&◌, write};
 ghost use Rattle.formats_write.specs.declared.Put.TheVariants.{At};
-ghost use Rattle.formats_write.specs.promises.Adds.{Adds};
-ghost use Rattle.formats_write.specs.promises.Given.{givenNumber, givenSigned, optionalW, textW};
-ghost use Rattle.realtime.specs.Schema.{feedEntity, stopTimeUpdate};
-ghost use Rattle.realtime_views.specs.promises.Views.{PartInside, partIn, viewDelay, viewDirection, viewEvent};
-ghost use Rattle.realtime_views.specs.promises.Views.{viewStop, viewTime, viewTrip};
+ghost use Rattle.formats_write.specs.Promises.Adds.{Adds};
+ghost use Rattle.formats_write.specs.Promises.Given.{given_number, given_signed, optional_w, text_w};
+ghost use Rattle.realtime.specs.Schema.{feed_entity, stop_time_update};
+ghost use Rattle.realtime_views.specs.Promises.Views.{PartInside, part_in, view_delay, view_direction, view_event};
+ghost use Rattle.realtime_views.specs.Promises.Views.{view_stop, view_time, view_trip};
 ghost use Rattle.decode.specs.Record.{bit};
-ghost use Rattle.decode.specs.Trip.{number32, stopUpdate, trip};
-ghost use Rattle.decode.specs.Leaves.{countWithoutAt, hasByte};
-ghost use Rattle.decode.specs.Sizes.{mostMessage, mostUpdates, updatesLength};
-ghost use Rattle.decode_slots.specs.Index.{index, slotKey};
-ghost use Rattle.decode_slots.specs.Places.{crowded, held, held_at, recordAt, updateAt};
-ghost use Rattle.decode_slots.specs.promises.Index.{SoundIndex};
-ghost use Rattle.decode_slots.specs.promises.Places.{Readable};
+ghost use Rattle.decode.specs.Trip.{number32, stop_update, trip};
+ghost use Rattle.decode.specs.Leaves.{count_without_at, has_byte};
+ghost use Rattle.decode.specs.Sizes.{most_message, most_updates, updates_length};
+ghost use Rattle.decode_slots.specs.Index.{index, slot_key};
+ghost use Rattle.decode_slots.specs.Places.{crowded, held, held_at, record_at, update_at};
+ghost use Rattle.decode_slots.specs.Promises.Index.{SoundIndex};
+ghost use Rattle.decode_slots.specs.Promises.Places.{Readable};
 ghost use Rattle.decode_updates.specs.Line.{laid};
-ghost use Rattle.decode_updates.specs.Updates.{updatesAt};
-ghost use Rattle.decode_index.specs.promises.Message.{Fit};
-ghost use Rattle.decode_write.specs.promises.Slots.{KeyLies, plainKeys};
-ghost use Rattle.decode_write.specs.promises.Written.{TextsLie, eventW, headW, signedW, updateOf};
+ghost use Rattle.decode_updates.specs.Updates.{updates_at};
+ghost use Rattle.decode_index.specs.Promises.Message.{Fit};
+ghost use Rattle.decode_write.specs.Promises.Slots.{KeyLies, plain_keys};
+ghost use Rattle.decode_write.specs.Promises.Written.{TextsLie, event_w, head_w, signed_w, update_of};
 
 use decode::sizes::{BEYOND, KEY_BYTES, UPDATES_LENGTH};
 use formats::{OptionalNumber, OptionalSigned};
@@ -35,7 +35,7 @@ use realtime_views::{Delay, Direction, Event, StopUpdate, TextPart, Time, Trip};
 // A number of at most k + 1 groups, where there is room for them: the next place.
 fn add_groups(k: u32, out: &mut [u8], at: usize, n: u64) -> usize
     requires { (n < top k) × (at + k < length out.old) }
-    ensures { Adds out.old (At at) out.new (At result) (groupsW k n) }
+    ensures { Adds out.old (At at) out.new (At result) (groups_w k n) }
 {
     if n < 128 {
         out[at] = n as u8;
@@ -48,7 +48,7 @@ fn add_groups(k: u32, out: &mut [u8], at: usize, n: u64) -> usize
 // A number of five groups, as times have: no test stands between them.
 fn add_five(out: &mut [u8], at: usize, n: u64) -> usize
     requires { (268435456 ≤ n) × (n < 34359738368) × (at + 9 < length out.old) }
-    ensures { Adds out.old (At at) out.new (At result) (numberW n) }
+    ensures { Adds out.old (At at) out.new (At result) (number_w n) }
 {
     let a = n / 128;
     let b = a / 128;
@@ -65,7 +65,7 @@ fn add_five(out: &mut [u8], at: usize, n: u64) -> usize
 // The number at `at`, where there is room for ten bytes.
 fn add_number(out: &mut [u8], at: usize, n: u64) -> usize
     requires { at + 9 < length out.old }
-    ensures { Adds out.old (At at) out.new (At result) (numberW n) }
+    ensures { Adds out.old (At at) out.new (At result) (number_w n) }
 {
     if n < 128 {
         out[at] = n as u8;
@@ -82,7 +82,7 @@ fn add_number(out: &mut [u8], at: usize, n: u64) -> usize
 
 // A number takes ten bytes at most: where there are so many, its groups are not tested for room one by one.
 fn put_number(out: &mut [u8], w: Put, n: u64) -> Put
-    ensures { Adds out.old w out.new result (numberW n) }
+    ensures { Adds out.old w out.new result (number_w n) }
 {
     let Put::At(at) = w else {
         return Put::Full;
@@ -99,14 +99,14 @@ fn put_number(out: &mut [u8], w: Put, n: u64) -> Put
 // A text of s. An absent one is empty.
 fn put_text(out: &mut [u8], w: Put, message: &[u8], t: TextPart) -> Put
     requires { PartInside (length message.now) t }
-    ensures { Adds out.old w out.new result (textW (partIn message.now t)) }
+    ensures { Adds out.old w out.new result (text_w (part_in message.now t)) }
 {
     let q = put_number(out, w, t.len as u64);
     formats_write::stretch(out, q, message, t.start, t.start + t.len)
 }
 
 fn put_flag(out: &mut [u8], w: Put, b: bool) -> Put
-    ensures { Adds out.old w out.new result (numberW (bit b)) }
+    ensures { Adds out.old w out.new result (number_w (bit b)) }
 {
     if b {
         return formats_write::byte(out, w, 1);
@@ -116,7 +116,7 @@ fn put_flag(out: &mut [u8], w: Put, b: bool) -> Put
 
 // What was read, as what is written.
 fn from_delay(d: Delay) -> OptionalSigned
-    ensures { givenSigned result ≡ maybe (viewDelay d) }
+    ensures { given_signed result ≡ maybe (view_delay d) }
 {
     match d {
         Delay::Given(z) => OptionalSigned::Present(z as i64),
@@ -125,7 +125,7 @@ fn from_delay(d: Delay) -> OptionalSigned
 }
 
 fn from_time(t: Time) -> OptionalSigned
-    ensures { givenSigned result ≡ maybe (viewTime t) }
+    ensures { given_signed result ≡ maybe (view_time t) }
 {
     match t {
         Time::Given(z) => OptionalSigned::Present(z),
@@ -134,7 +134,7 @@ fn from_time(t: Time) -> OptionalSigned
 }
 
 fn from_direction(d: Direction) -> OptionalNumber
-    ensures { givenNumber result ≡ maybe (viewDirection d) }
+    ensures { given_number result ≡ maybe (view_direction d) }
 {
     match d {
         Direction::Given(n) => OptionalNumber::Present(n as u64),
@@ -143,7 +143,7 @@ fn from_direction(d: Direction) -> OptionalNumber
 }
 
 fn put_signed(out: &mut [u8], w: Put, v: OptionalSigned) -> Put
-    ensures { Adds out.old w out.new result (optionalW signedW (givenSigned v)) }
+    ensures { Adds out.old w out.new result (optional_w signed_w (given_signed v)) }
 {
     match v {
         OptionalSigned::Absent => formats_write::byte(out, w, 0),
@@ -155,26 +155,26 @@ fn put_signed(out: &mut [u8], w: Put, v: OptionalSigned) -> Put
 }
 
 fn put_delay(out: &mut [u8], w: Put, d: Delay) -> Put
-    ensures { Adds out.old w out.new result (optionalW signedW (maybe (viewDelay d))) }
+    ensures { Adds out.old w out.new result (optional_w signed_w (maybe (view_delay d))) }
 {
     put_signed(out, w, from_delay(d))
 }
 
 fn put_time(out: &mut [u8], w: Put, t: Time) -> Put
-    ensures { Adds out.old w out.new result (optionalW signedW (maybe (viewTime t))) }
+    ensures { Adds out.old w out.new result (optional_w signed_w (maybe (view_time t))) }
 {
     put_signed(out, w, from_time(t))
 }
 
 fn put_direction(out: &mut [u8], w: Put, d: Direction) -> Put
-    ensures { Adds out.old w out.new result (optionalW numberW (maybe (viewDirection d))) }
+    ensures { Adds out.old w out.new result (optional_w number_w (maybe (view_direction d))) }
 {
     formats_write::optional_number(out, w, from_direction(d))
 }
 
 // Delay and time of an arrival or a departure.
 fn put_event(out: &mut [u8], w: Put, e: Event) -> Put
-    ensures { Adds out.old w out.new result (eventW (viewEvent e)) }
+    ensures { Adds out.old w out.new result (event_w (view_event e)) }
 {
     let delay = e.delay;
     let time = e.time;
@@ -186,7 +186,7 @@ fn put_event(out: &mut [u8], w: Put, e: Event) -> Put
 fn put_update(out: &mut [u8], w: Put, sequence: u32, message: &[u8], u: StopUpdate) -> Put
     requires { PartInside (length message.now) u.stop }
     ensures { Adds out.old w out.new result
-        (write (number32 & stopUpdate) (sequence, updateOf (viewStop message.now u))) }
+        (write (number32 & stop_update) (sequence, update_of (view_stop message.now u))) }
 {
     let stop = u.stop;
     let arrival = u.arrival;
@@ -207,9 +207,9 @@ fn write_update(
     from: usize,
     to: usize,
 ) -> Put
-    requires { Readable stopTimeUpdate message.now (from, to) }
+    requires { Readable stop_time_update message.now (from, to) }
     ensures { Adds out.old w out.new result
-        (write (number32 & stopUpdate) (sequence, updateAt message.now (from, to))) }
+        (write (number32 & stop_update) (sequence, update_at message.now (from, to))) }
 {
     let u = realtime_views::stop_of(message, from, to - from);
     put_update(out, w, sequence, message, u)
@@ -218,7 +218,7 @@ fn write_update(
 // A trip's record up to its updates: delay, cancelled, start date, route, direction, start time.
 fn put_head(out: &mut [u8], w: Put, message: &[u8], t: Trip) -> Put
     requires { TextsLie (length message.now) t }
-    ensures { Adds out.old w out.new result (headW (viewTrip message.now t)) }
+    ensures { Adds out.old w out.new result (head_w (view_trip message.now t)) }
 {
     let delay = t.delay;
     let date = t.date;
@@ -235,10 +235,10 @@ fn put_head(out: &mut [u8], w: Put, message: &[u8], t: Trip) -> Put
 
 // The updates of the first n lines.
 fn put_updates(out: &mut [u8], w: Put, updates: &[u32], n: usize, message: &[u8]) -> Put
-    requires n_le_most_updates { (n ≤ mostUpdates) × (length updates.now ≡ updatesLength) }
-    requires all { All (λ x. Readable stopTimeUpdate message.now x.1) (laid n updates.now) }
+    requires n_le_most_updates { (n ≤ most_updates) × (length updates.now ≡ updates_length) }
+    requires all { All (λ x. Readable stop_time_update message.now x.1) (laid n updates.now) }
     ensures { Adds out.old w out.new result
-        (manyW (write (number32 & stopUpdate)) (updatesAt message.now (laid n updates.now))) }
+        (many_w (write (number32 & stop_update)) (updates_at message.now (laid n updates.now))) }
 {
     let mut q = w;
     let mut i: usize = 0;
@@ -254,11 +254,11 @@ fn put_updates(out: &mut [u8], w: Put, updates: &[u32], n: usize, message: &[u8]
 
 // The record of the message's entity that stands from `from` up to `to`.
 fn write_record(out: &mut [u8], w: Put, message: &[u8], from: usize, to: usize) -> Put
-    requires message_len_bound { length message.now ≤ mostMessage }
-    requires readable { Readable feedEntity message.now (from, to)
-        × (crowded (recordAt message.now (from, to)) ≡ false) }
+    requires message_len_bound { length message.now ≤ most_message }
+    requires readable { Readable feed_entity message.now (from, to)
+        × (crowded (record_at message.now (from, to)) ≡ false) }
     ensures { Adds out.old w out.new result
-        (write trip (recordAt message.now (from, to))) }
+        (write trip (record_at message.now (from, to))) }
 {
     let len = to - from;
     let mut updates = [0u32; UPDATES_LENGTH];
@@ -271,7 +271,7 @@ fn write_record(out: &mut [u8], w: Put, message: &[u8], from: usize, to: usize) 
 
 // The record at a place: made from the message, or copied from the old overlay.
 pub fn write_held(out: &mut [u8], w: Put, message: &[u8], old: &[u8], from: usize, to: usize) -> Put
-    requires message_len_bound { length message.now ≤ mostMessage }
+    requires message_len_bound { length message.now ≤ most_message }
     requires fit { Fit message.now old.now (from, to)
         × (crowded (held_at message.now old.now (from, to)) ≡ false) }
     ensures { Adds out.old w out.new result
@@ -286,7 +286,7 @@ pub fn write_held(out: &mut [u8], w: Put, message: &[u8], old: &[u8], from: usiz
 // Whether '@' is in the bytes of s from `from` up to `to`.
 fn has_at(message: &[u8], from: usize, to: usize) -> bool
     requires { (from ≤ to) × (to ≤ length message.now) }
-    ensures { result ≡ hasByte 64 (take (to - from) (drop from message.now)) }
+    ensures { result ≡ has_byte 64 (take (to - from) (drop from message.now)) }
 {
     let mut i = from;
     while i < to {
@@ -301,7 +301,7 @@ fn has_at(message: &[u8], from: usize, to: usize) -> bool
 // Whether it is in a slot's key.
 fn key_has_at(keys: &[u8], marks: &[u32], slot: usize) -> bool
     requires { KeyLies keys.now marks.now slot }
-    ensures { result ≡ hasByte 64 (slotKey keys.now marks.now slot) }
+    ensures { result ≡ has_byte 64 (slot_key keys.now marks.now slot) }
 {
     let start = KEY_BYTES * slot;
     let len = slices::word(marks, 3 * slot);
@@ -312,7 +312,7 @@ fn key_has_at(keys: &[u8], marks: &[u32], slot: usize) -> bool
 fn count_plain(keys: &[u8], marks: &[u32], order: &[u32], n: usize) -> usize
     requires n_in_bounds { n ≤ length order.now }
     requires all { All (KeyLies keys.now marks.now) (take n order.now) }
-    ensures { result ≡ plainKeys (index keys.now marks.now order.now n) }
+    ensures { result ≡ plain_keys (index keys.now marks.now order.now n) }
 {
     let mut count: usize = 0;
     let mut i: usize = 0;
@@ -328,7 +328,7 @@ fn count_plain(keys: &[u8], marks: &[u32], order: &[u32], n: usize) -> usize
 // The count of a feed after a message: its keys without '@', the feed's id included.
 pub fn count_left(feed: &[u8], keys: &[u8], marks: &[u32], order: &[u32], n: usize) -> usize
     requires { SoundIndex keys.now marks.now order.now n }
-    ensures { (s o : List ℕ) → result ≡ countWithoutAt feed.now
+    ensures { (s o : List ℕ) → result ≡ count_without_at feed.now
         (held s o (index keys.now marks.now order.now n)) }
 {
     if has_at(feed, 0, feed.len()) {

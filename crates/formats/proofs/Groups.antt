@@ -12,21 +12,21 @@ use borrow.Author.Tests.{lt-ltb, le-ltb, ne_eqb, eqb-true, eqb-false}
 use mir.Syntax.{w64}
 use mir.Val.{Fits}
 use Rattle.formats.specs.Readers.{bind}
-use Rattle.formats.specs.Number.{groupsR}
-use Rattle.formats.specs.promises.Number.{top, moreR, Rest}
-use Rattle.formats.specs.promises.Outcome.{numbered}
+use Rattle.formats.specs.Number.{groups_r}
+use Rattle.formats.specs.Promises.Number.{top, more_r, Rest}
+use Rattle.formats.specs.Promises.Outcome.{numbered}
 use Rattle.formats.specs.declared.Numeral.{Numeral}
 use Rattle.formats.specs.declared.Numeral.TheVariants.{Got, Bad}
 use Rattle.formats.proofs.Numbers.{place, opened}
 
-top-two : (k : ℕ) → 2 ≤ top k
-top-two zero = omega arith
-top-two (suc k) = omega (arith, top-two k)
+top_two : (k : ℕ) → 2 ≤ top k
+top_two zero = omega arith
+top_two (suc k) = omega (arith, top_two k)
 
 -- a group that another follows
 onward : (k b n unit : ℕ) (s : List ℕ) → 128 ≤ b → b < 256
-    → moreR (suc k) n unit (b ∷ s) ≡ moreR k (n + unit * (b - 128)) (unit * 128) s
-onward k b n unit s l u = rw (le-ltb b 128 l, lt-ltb b 256 u) (go (groupsR k s))
+    → more_r (suc k) n unit (b ∷ s) ≡ more_r k (n + unit * (b - 128)) (unit * 128) s
+onward k b n unit s l u = rw (le-ltb b 128 l, lt-ltb b 256 u) (go (groups_r k s))
   where
     value : (h : ℕ) → n + unit * (b - 128 + 128 * h) ≡ n + unit * (b - 128) + unit * 128 * h
     value h = rw (mul-add unit (b - 128) (128 * h), mul_assoc unit 128 h) (omega arith)
@@ -48,13 +48,13 @@ onward k b n unit s l u = rw (le-ltb b 128 l, lt-ltb b 256 u) (go (groupsR k s))
 pub begins : (s : List ℕ) (at low : ℕ) → low < 128 → Rest s at low at low 128 8
 begins s at low h = record { same = refl; below = h; room = refl }
 
-nothing : (k n unit : ℕ) → moreR k n unit [] ≡ none
+nothing : (k n unit : ℕ) → more_r k n unit [] ≡ none
 nothing zero n unit = refl
 nothing (suc k) n unit = refl
 
 module _ {s : List ℕ} {at low p n unit left : ℕ} (R : Rest s at low p n unit left) where
   abbrev Answer : Numeral → Type 0
-  Answer r = r ≡ numbered s (moreR 8 low 128 (drop at s))
+  Answer r = r ≡ numbered s (more_r 8 low 128 (drop at s))
 
   pub ends : length s ≤ p → Answer Bad
   ends h = rw (R.same, drop_of_length-le s h, nothing left n unit) refl
@@ -64,56 +64,56 @@ module _ {s : List ℕ} {at low p n unit left : ℕ} (R : Rest s at low p n unit
   last_fits z = let room : unit * 2 ≡ 2 ^ 64 = rw z at R.room in omega (arith, R.below)
 
   module _ (z : left ≡ 0 → ⊥) where
-    unit-most : unit * 128 ≤ 2 ^ 63
-    unit-most =
+    unit_most : unit * 128 ≤ 2 ^ 63
+    unit_most =
         let i : left ≡ suc (left - 1) = omega arith in
         let room : unit * (128 * top (left - 1)) ≡ 2 ^ 64 = rw i at R.room in
-        let half : unit * 128 * 2 ≤ unit * 128 * top (left - 1) = mul-le-mul_left (unit * 128) (top-two (left - 1)) in
+        let half : unit * 128 * 2 ≤ unit * 128 * top (left - 1) = mul-le-mul_left (unit * 128) (top_two (left - 1)) in
         omega (arith, mul_assoc unit 128 (top (left - 1)))
 
-    pub unit-fits : Fits w64 (unit * 128)
-    unit-fits = omega (arith, unit-most)
+    pub unit_fits : Fits w64 (unit * 128)
+    unit_fits = omega (arith, unit_most)
 
     module _ (d : ℕ) (h : d ≤ 127) where
       most : n + unit * d < 2 ^ 63
-      most = omega (arith, R.below, unit-most, mul-le-mul_left unit h)
+      most = omega (arith, R.below, unit_most, mul-le-mul_left unit h)
 
-      part-fits : Fits w64 (unit * d)
-      part-fits = omega (arith, most)
+      part_fits : Fits w64 (unit * d)
+      part_fits = omega (arith, most)
 
-      whole-fits : Fits w64 (n + unit * d)
-      whole-fits = omega (arith, most)
+      whole_fits : Fits w64 (n + unit * d)
+      whole_fits = omega (arith, most)
 
     module _ {b : ℕ} where
-      pub end-part-fits : b < 128 → Fits w64 (unit * b)
-      end-part-fits h = part-fits b (omega arith)
+      pub end_part_fits : b < 128 → Fits w64 (unit * b)
+      end_part_fits h = part_fits b (omega arith)
 
       pub end_fits : b < 128 → Fits w64 (n + unit * b)
-      end_fits h = whole-fits b (omega arith)
+      end_fits h = whole_fits b (omega arith)
 
-      pub next-part-fits : b < 256 → Fits w64 (unit * (b - 128))
-      next-part-fits h = part-fits (b - 128) (omega arith)
+      pub next_part_fits : b < 256 → Fits w64 (unit * (b - 128))
+      next_part_fits h = part_fits (b - 128) (omega arith)
 
       pub next_fits : b < 256 → Fits w64 (n + unit * (b - 128))
-      next_fits h = whole-fits (b - 128) (omega arith)
+      next_fits h = whole_fits (b - 128) (omega arith)
 
   -- a byte is there
   module _ (h : p < length s) {b : ℕ} (e : b ≡ get_or s p 0) where
-    answers : {r : Numeral} → r ≡ numbered s (moreR left n unit (b ∷ drop (p + 1) s)) → Answer r
-    answers f = f ∙ sym (ap (numbered s) (R.same ∙ ap (moreR left n unit) (opened s p b h e)))
+    answers : {r : Numeral} → r ≡ numbered s (more_r left n unit (b ∷ drop (p + 1) s)) → Answer r
+    answers f = f ∙ sym (ap (numbered s) (R.same ∙ ap (more_r left n unit) (opened s p b h e)))
 
-    got-it : (m : ℕ) → Got m (p + 1) ≡ numbered s (some (m, drop (p + 1) s))
-    got-it m = rw (place s (p + 1) (omega arith)) refl
+    got_it : (m : ℕ) → Got m (p + 1) ≡ numbered s (some (m, drop (p + 1) s))
+    got_it m = rw (place s (p + 1) (omega arith)) refl
 
     -- the tenth
     module _ (z : left ≡ 0) where
-      pub last-good : b ≡ 1 → Answer (Got (n + unit) (p + 1))
-      last-good i = answers (rw (z, i, mul-one unit) (got-it (n + unit)))
+      pub last_good : b ≡ 1 → Answer (Got (n + unit) (p + 1))
+      last_good i = answers (rw (z, i, mul-one unit) (got_it (n + unit)))
 
-      pub last-bad : (b ≡ 1 → ⊥) → Answer Bad
-      last-bad i = answers (rw z (go (eqb b 0) refl))
+      pub last_bad : (b ≡ 1 → ⊥) → Answer Bad
+      last_bad i = answers (rw z (go (eqb b 0) refl))
         where
-          go : (t : Bool) → eqb b 0 ≡ t → Bad ≡ numbered s (moreR 0 n unit (b ∷ drop (p + 1) s))
+          go : (t : Bool) → eqb b 0 ≡ t → Bad ≡ numbered s (more_r 0 n unit (b ∷ drop (p + 1) s))
           go true f = let j : b ≡ 0 = eqb-true b 0 f in rw j refl
           go false f = let j = eqb-false b 0 f in rw (le-ltb b 2 (omega arith)) refl
 
@@ -122,16 +122,16 @@ module _ {s : List ℕ} {at low p n unit left : ℕ} (R : Rest s at low p n unit
       earlier : left ≡ suc (left - 1)
       earlier = omega arith
 
-      pub zero-bad : b ≡ 0 → Answer Bad
-      zero-bad i = answers (rw (earlier, i) refl)
+      pub zero_bad : b ≡ 0 → Answer Bad
+      zero_bad i = answers (rw (earlier, i) refl)
 
-      pub one-good : b < 128 → (b ≡ 0 → ⊥) → Answer (Got (n + unit * b) (p + 1))
-      one-good l i = answers (rw (earlier, lt-ltb b 128 l, ne_eqb b 0 i) (got-it (n + unit * b)))
+      pub one_good : b < 128 → (b ≡ 0 → ⊥) → Answer (Got (n + unit * b) (p + 1))
+      one_good l i = answers (rw (earlier, lt-ltb b 128 l, ne_eqb b 0 i) (got_it (n + unit * b)))
 
       pub goes_on : 128 ≤ b → b < 256 → Rest s at low (p + 1) (n + unit * (b - 128)) (unit * 128) (left - 1)
       goes_on l u = record {
-        same = R.same ∙ ap (moreR left n unit) (opened s p b h e)
-            ∙ ap (λ k. moreR k n unit (b ∷ drop (p + 1) s)) earlier ∙ onward (left - 1) b n unit (drop (p + 1) s) l u;
+        same = R.same ∙ ap (more_r left n unit) (opened s p b h e)
+            ∙ ap (λ k. more_r k n unit (b ∷ drop (p + 1) s)) earlier ∙ onward (left - 1) b n unit (drop (p + 1) s) l u;
         below = let i : b - 128 ≤ 127 = omega arith in omega (arith, R.below, mul-le-mul_left unit i);
         room = mul_assoc unit 128 (top (left - 1)) ∙ (rw earlier at R.room);
       }

@@ -10,12 +10,12 @@ use lib.ListN.{length, drop, get_or, length-drop, drop_of_length-le}
 use lib.Seq.{drop-cons}
 use borrow.Author.Tests.{lt-ltb, le-ltb}
 use Rattle.formats.specs.Readers.{Reader, bind}
-use Rattle.formats.specs.laws.Law.{Law}
-use Rattle.formats.specs.Number.{numberR, littleR}
-use Rattle.formats.specs.promises.Number.{moreR}
-use Rattle.formats.specs.laws.Number.{littleLaw}
-use Rattle.formats.specs.laws.Outcome.{suffix}
-use Rattle.formats.specs.promises.Outcome.{numbered}
+use Rattle.formats.specs.Laws.Law.{Law}
+use Rattle.formats.specs.Number.{number_r, little_r}
+use Rattle.formats.specs.Promises.Number.{more_r}
+use Rattle.formats.specs.Laws.Number.{little_law}
+use Rattle.formats.specs.Laws.Outcome.{suffix}
+use Rattle.formats.specs.Promises.Outcome.{numbered}
 use Rattle.formats.specs.declared.Numeral.{Numeral}
 use Rattle.formats.specs.declared.Numeral.TheVariants.{Got, Bad}
 
@@ -24,12 +24,12 @@ pub place : (s : List ℕ) (at : ℕ) → at ≤ length s → length s - length 
 place s at h = rw length-drop (omega arith)
 
 -- an answer taken apart
-bad-got : {C : Type 0} {n q : ℕ} → Bad ≡ Got n q → C
-bad-got e = absurd (let z : ◌≡◌ {A = ℕ} 0 1 = cc in omega arith)
+bad_got : {C : Type 0} {n q : ℕ} → Bad ≡ Got n q → C
+bad_got e = absurd (let z : ◌≡◌ {A = ℕ} 0 1 = cc in omega arith)
 
-pub bad-none : (s : List ℕ) (o : Option (ℕ × List ℕ)) (r : Numeral) → r ≡ numbered s o → r ≡ Bad → o ≡ none
-bad-none s none r e h = refl
-bad-none s (some x) r e h = bad-got (sym h ∙ e)
+pub bad_none : (s : List ℕ) (o : Option (ℕ × List ℕ)) (r : Numeral) → r ≡ numbered s o → r ≡ Bad → o ≡ none
+bad_none s none r e h = refl
+bad_none s (some x) r e h = bad_got (sym h ∙ e)
 
 -- what was got: what is left is the whole past the place
 pub record NumberGot (r : Reader ℕ) (s : List ℕ) (at n q : ℕ) : Type 0 where
@@ -37,9 +37,9 @@ pub record NumberGot (r : Reader ℕ) (s : List ℕ) (at n q : ℕ) : Type 0 whe
   pub within : q ≤ length s
 
 module _ {w : ℕ → List ℕ} {r : Reader ℕ} {ok : ℕ → Type 0} (l : Law w r ok) (s : List ℕ) (at : ℕ) where
-  got-go : (o : Option (ℕ × List ℕ)) → r (drop at s) ≡ o → (n q : ℕ) → Got n q ≡ numbered s o → NumberGot r s at n q
-  got-go none e n q h = bad-got (sym h)
-  got-go (some x) e n q h =
+  got_go : (o : Option (ℕ × List ℕ)) → r (drop at s) ≡ o → (n q : ℕ) → Got n q ≡ numbered s o → NumberGot r s at n q
+  got_go none e n q h = bad_got (sym h)
+  got_go (some x) e n q h =
       let i : n ≡ x.0 = cc in
       let j : q ≡ length s - length x.1 = cc in
       record {
@@ -51,23 +51,23 @@ module _ {w : ℕ → List ℕ} {r : Reader ℕ} {ok : ℕ → Type 0} (l : Law 
       }
 
   pub got : (n q : ℕ) (o : Numeral) → o ≡ numbered s (r (drop at s)) → o ≡ Got n q → NumberGot r s at n q
-  got n q o e h = got-go (r (drop at s)) refl n q (sym h ∙ e)
+  got n q o e h = got_go (r (drop at s)) refl n q (sym h ∙ e)
 
-  got-fits : (n q : ℕ) → NumberGot r s at n q → ok n
-  got-fits n q f = (l.back (drop at s) n (drop q s) f.reads).1
+  got_fits : (n q : ℕ) → NumberGot r s at n q → ok n
+  got_fits n q f = (l.back (drop at s) n (drop q s) f.reads).1
 
-pub at-end : (s : List ℕ) (at : ℕ) → length s ≤ at → Bad ≡ numbered s (numberR (drop at s))
-at-end s at h = rw (drop_of_length-le s h) refl
+pub at_end : (s : List ℕ) (at : ℕ) → length s ≤ at → Bad ≡ numbered s (number_r (drop at s))
+at_end s at h = rw (drop_of_length-le s h) refl
 
-pub little-end : (k : ℕ) (s : List ℕ) (at : ℕ) → (k ≡ 0 → ⊥) → length s ≤ at → Bad ≡ numbered s (littleR k (drop at s))
-little-end zero s at z h = absurd (z refl)
-little-end (suc k) s at z h = rw (drop_of_length-le s h) refl
+pub little_end : (k : ℕ) (s : List ℕ) (at : ℕ) → (k ≡ 0 → ⊥) → length s ≤ at → Bad ≡ numbered s (little_r k (drop at s))
+little_end zero s at z h = absurd (z refl)
+little_end (suc k) s at z h = rw (drop_of_length-le s h) refl
 
-pub float-end : (s : List ℕ) (at : ℕ) → length s ≤ at → Bad ≡ numbered s (littleR 8 (drop at s))
-float-end s at h = little-end 8 s at (λ z. omega arith) h
+pub float_end : (s : List ℕ) (at : ℕ) → length s ≤ at → Bad ≡ numbered s (little_r 8 (drop at s))
+float_end s at h = little_end 8 s at (λ z. omega arith) h
 
-pub little-none : (k : ℕ) (s : List ℕ) (at : ℕ) → k ≡ 0 → at ≤ length s → Got 0 at ≡ numbered s (littleR k (drop at s))
-little-none k s at z h = rw (z, place s at h) refl
+pub little_none : (k : ℕ) (s : List ℕ) (at : ℕ) → k ≡ 0 → at ≤ length s → Got 0 at ≡ numbered s (little_r k (drop at s))
+little_none k s at z h = rw (z, place s at h) refl
 
 -- a byte is there
 module _ (s : List ℕ) (at b : ℕ) (h : at < length s) (e : b ≡ get_or s at 0) where
@@ -77,32 +77,32 @@ module _ (s : List ℕ) (at b : ℕ) (h : at < length s) (e : b ≡ get_or s at 
   alone : Got b (at + 1) ≡ numbered s (some (b, drop (at + 1) s))
   alone = rw (place s (at + 1) (omega arith)) refl
 
-  pub front-good : b < 128 → Got b (at + 1) ≡ numbered s (numberR (drop at s))
-  front-good l = rw (opened, lt-ltb b 128 l) alone
+  pub front_good : b < 128 → Got b (at + 1) ≡ numbered s (number_r (drop at s))
+  front_good l = rw (opened, lt-ltb b 128 l) alone
 
-  pub front-more : 128 ≤ b → b < 256 → (r : Numeral) → r ≡ numbered s (moreR 8 (b - 128) 128 (drop (at + 1) s))
-      → r ≡ numbered s (numberR (drop at s))
-  front-more l u r f =
-      let g : numberR (drop at s) ≡ moreR 8 (b - 128) 128 (drop (at + 1) s) =
+  pub front_more : 128 ≤ b → b < 256 → (r : Numeral) → r ≡ numbered s (more_r 8 (b - 128) 128 (drop (at + 1) s))
+      → r ≡ numbered s (number_r (drop at s))
+  front_more l u r f =
+      let g : number_r (drop at s) ≡ more_r 8 (b - 128) 128 (drop (at + 1) s) =
       rw (opened, le-ltb b 128 l, lt-ltb b 256 u) refl in
       f ∙ sym (ap (numbered s) g)
 
   -- another byte follows
   module _ (k : ℕ) (z : k ≡ 0 → ⊥) (u : b < 256) (o : Numeral)
-      (r : o ≡ numbered s (littleR (k - 1) (drop (at + 1) s))) where
-    next : littleR k (drop at s) ≡ bind (littleR (k - 1) (drop (at + 1) s)) (λ h t. some (b + 256 * h, t))
-    next = let i : k ≡ suc (k - 1) = omega arith in ap (λ k. littleR k (drop at s)) i ∙ rw (opened, lt-ltb b 256 u) refl
+      (r : o ≡ numbered s (little_r (k - 1) (drop (at + 1) s))) where
+    next : little_r k (drop at s) ≡ bind (little_r (k - 1) (drop (at + 1) s)) (λ h t. some (b + 256 * h, t))
+    next = let i : k ≡ suc (k - 1) = omega arith in ap (λ k. little_r k (drop at s)) i ∙ rw (opened, lt-ltb b 256 u) refl
 
-    pub little-bad : o ≡ Bad → Bad ≡ numbered s (littleR k (drop at s))
-    little-bad f = rw (next, bad-none s (littleR (k - 1) (drop (at + 1) s)) o r f) refl
+    pub little_bad : o ≡ Bad → Bad ≡ numbered s (little_r k (drop at s))
+    little_bad f = rw (next, bad_none s (little_r (k - 1) (drop (at + 1) s)) o r f) refl
 
     module _ (n q : ℕ) (f : o ≡ Got n q) where
-      others : NumberGot (littleR (k - 1)) s (at + 1) n q
-      others = got (littleLaw (k - 1)) s (at + 1) n q o r f
+      others : NumberGot (little_r (k - 1)) s (at + 1) n q
+      others = got (little_law (k - 1)) s (at + 1) n q o r f
 
-      pub little-good : Got (b + 256 * n) q ≡ numbered s (littleR k (drop at s))
-      little-good = rw (next, others.reads, place s q others.within) refl
+      pub little_good : Got (b + 256 * n) q ≡ numbered s (little_r k (drop at s))
+      little_good = rw (next, others.reads, place s q others.within) refl
 
-      pub little-below : k ≤ 8 → n < 2 ^ 56
-      little-below h = let i : k - 1 ≤ 7 = omega arith in let p : 256 ^ (k - 1) ≤ 256 ^ 7 =
-          pow-le-pow_right (omega arith) i in omega (arith, got-fits (littleLaw (k - 1)) s (at + 1) n q others)
+      pub little_below : k ≤ 8 → n < 2 ^ 56
+      little_below h = let i : k - 1 ≤ 7 = omega arith in let p : 256 ^ (k - 1) ≤ 256 ^ 7 =
+          pow-le-pow_right (omega arith) i in omega (arith, got_fits (little_law (k - 1)) s (at + 1) n q others)

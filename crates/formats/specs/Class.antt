@@ -21,8 +21,8 @@ abbrev pub trail : Range
 trail = (0x80, 0xBF)
 
 -- table 3-7: each row has the range of the first byte, the second, the third and the fourth
-abbrev pub utf8Rows : List (List Range)
-utf8Rows =
+abbrev pub utf8_rows : List (List Range)
+utf8_rows =
     ((0x00, 0x7F) ∷ [])  -- U+0000..U+007F
     ∷ ((0xC2, 0xDF) ∷ trail ∷ [])  -- U+0080..U+07FF
     ∷ ((0xE0, 0xE0) ∷ (0xA0, 0xBF) ∷ trail ∷ [])  -- U+0800..U+0FFF
@@ -42,18 +42,18 @@ due ((r ∷ rest) ∷ more) b = cond (inside r b) (some rest) (due more b)
 
 -- what is due after a byte, where it is to be the first of these
 abbrev pub next : List Range → ℕ → Option (List Range)
-next [] b = due utf8Rows b
+next [] b = due utf8_rows b
 next (r ∷ rest) b = cond (inside r b) (some rest) none
 
-abbrev pub goesOn : Option (List Range) → (List Range → Bool) → Bool
-goesOn none k = false
-goesOn (some rest) k = k rest
+abbrev pub goes_on : Option (List Range) → (List Range → Bool) → Bool
+goes_on none k = false
+goes_on (some rest) k = k rest
 
 -- whether bytes are what is due, and whole sequences after it
 abbrev pub sequences : List ℕ → List Range → Bool
 sequences [] [] = true
 sequences [] (r ∷ rest) = false
-sequences (b ∷ s) rest = goesOn (next rest b) (λ rest. sequences s rest)
+sequences (b ∷ s) rest = goes_on (next rest b) (λ rest. sequences s rest)
 
 -- a byte of a class that is judged byte by byte
 abbrev pub allowed : Class → ℕ → Bool
@@ -62,9 +62,9 @@ allowed printable b = inside (32, 126) b
 allowed token b = inside (33, 126) b && not (eqb b 58)
 allowed utf8 b = true
 
-abbrev pub inClass : Class → List ℕ → Bool
-inClass any v = true
-inClass printable v = all (allowed printable) v
-inClass token [] = false
-inClass token (b ∷ v) = all (allowed token) (b ∷ v)
-inClass utf8 v = sequences v []
+abbrev pub in_class : Class → List ℕ → Bool
+in_class any v = true
+in_class printable v = all (allowed printable) v
+in_class token [] = false
+in_class token (b ∷ v) = all (allowed token) (b ∷ v)
+in_class utf8 v = sequences v []

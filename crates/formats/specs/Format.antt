@@ -2,10 +2,10 @@
 -- Ranges, limits and classes are annotations: they stand in a format, and are judged beside the form.
 use Rattle.std.specs.Prelude.{◌≡◌, List, [], ◌∷◌, ◌++◌, ◌⊎◌, Bool, true, ℕ, ◌^◌, ◌<◌, ℤ, length, leb, ltb}
 use Rattle.std.proofs.Math.Option.{none, some}
-use Rattle.formats.specs.Readers.{Reader, pairW, pairR, map_r, onlyR, constR, choiceW, choiceR, choiceOk, bytesR}
-use Rattle.formats.specs.Readers.{manyW, manyR, countedR}
+use Rattle.formats.specs.Readers.{Reader, pair_w, pair_r, map_r, only_r, const_r, choice_w, choice_r, choice_ok, bytes_r}
+use Rattle.formats.specs.Readers.{many_w, many_r, counted_r}
 use Rattle.basics.specs.Lists.{All}
-use Rattle.formats.specs.Number.{numberW, numberR, zig, zag, littleW, littleR}
+use Rattle.formats.specs.Number.{number_w, number_r, zig, zag, little_w, little_r}
 use Rattle.formats.specs.Class.{Class}
 
 infixr 5 ◌&◌
@@ -41,15 +41,15 @@ Value (a & b) = Value a × Value b
 abbrev pub write : (f : Format) → Value f → List ℕ
 write never = λ v. []
 write empty = λ v. []
-write (number lo hi) = numberW
-write (signed lo hi) = λ v. numberW (zig v)
-write (small k) = numberW
-write (text l c) = λ v. numberW (length v) ++ v
-write float = littleW 8
+write (number lo hi) = number_w
+write (signed lo hi) = λ v. number_w (zig v)
+write (small k) = number_w
+write (text l c) = λ v. number_w (length v) ++ v
+write float = little_w 8
 write (constant c) = λ v. c ∷ []
-write (list l f) = λ v. numberW (length v) ++ manyW (write f) v
-write (choice a b) = choiceW (write a) (write b)
-write (a & b) = pairW (write a) (write b)
+write (list l f) = λ v. number_w (length v) ++ many_w (write f) v
+write (choice a b) = choice_w (write a) (write b)
+write (a & b) = pair_w (write a) (write b)
 
 -- whether a value takes a byte: an element of a list has to, so that a list has no more values than bytes
 abbrev pub takes : (f : Format) → Value f → Bool
@@ -58,15 +58,15 @@ takes f v = ltb 0 (length (write f v))
 abbrev pub read : (f : Format) → Reader (Value f)
 read never = λ s. none
 read empty = λ s. some (tt, s)
-read (number lo hi) = numberR
-read (signed lo hi) = map_r zag numberR
-read (small k) = onlyR (λ n. leb n k) numberR
-read (text l c) = countedR numberR bytesR
-read float = littleR 8
-read (constant c) = constR c
-read (list l f) = countedR numberR (manyR (onlyR (takes f) (read f)))
-read (choice a b) = choiceR (read a) (read b)
-read (a & b) = pairR (read a) (read b)
+read (number lo hi) = number_r
+read (signed lo hi) = map_r zag number_r
+read (small k) = only_r (λ n. leb n k) number_r
+read (text l c) = counted_r number_r bytes_r
+read float = little_r 8
+read (constant c) = const_r c
+read (list l f) = counted_r number_r (many_r (only_r (takes f) (read f)))
+read (choice a b) = choice_r (read a) (read b)
+read (a & b) = pair_r (read a) (read b)
 
 -- what has a writing
 abbrev pub Fits : (f : Format) → Value f → Type 0
@@ -79,5 +79,5 @@ Fits (text l c) = λ v. (length v < 2 ^ 64) × Unit {0}
 Fits float = λ n. n < 2 ^ 64
 Fits (constant c) = λ v. Unit {0}
 Fits (list l f) = λ v. (length v < 2 ^ 64) × All (λ x. Fits f x × (takes f x ≡ true)) v
-Fits (choice a b) = choiceOk (Fits a) (Fits b)
+Fits (choice a b) = choice_ok (Fits a) (Fits b)
 Fits (a & b) = λ v. Fits a v.0 × Fits b v.1

@@ -5,23 +5,23 @@ use Rattle.std.specs.Prelude.{List, [], ◌∷◌, cond, ℕ, zero, suc, ◌+◌
 use Rattle.std.proofs.Math.Option.{none, some}
 use Rattle.formats.specs.Readers.{Reader, bind}
 
-abbrev pub groupsW : ℕ → ℕ → List ℕ
-groupsW zero n = n ∷ []
-groupsW (suc k) n = cond (ltb n 128) (n ∷ []) ((128 + n % 128) ∷ groupsW k (n / 128))
+abbrev pub groups_w : ℕ → ℕ → List ℕ
+groups_w zero n = n ∷ []
+groups_w (suc k) n = cond (ltb n 128) (n ∷ []) ((128 + n % 128) ∷ groups_w k (n / 128))
 
-abbrev pub groupsR : ℕ → Reader ℕ
-groupsR zero [] = none
-groupsR zero (b ∷ s) = cond (ltb b 2) (some (b, s)) none
-groupsR (suc k) [] = none
-groupsR (suc k) (b ∷ s) =
+abbrev pub groups_r : ℕ → Reader ℕ
+groups_r zero [] = none
+groups_r zero (b ∷ s) = cond (ltb b 2) (some (b, s)) none
+groups_r (suc k) [] = none
+groups_r (suc k) (b ∷ s) =
     cond (ltb b 128) (some (b, s))
-    (cond (ltb b 256) (bind (groupsR k s) (λ h t. cond (eqb h 0) none (some (b - 128 + 128 * h, t)))) none)
+    (cond (ltb b 256) (bind (groups_r k s) (λ h t. cond (eqb h 0) none (some (b - 128 + 128 * h, t)))) none)
 
-abbrev pub numberW : ℕ → List ℕ
-numberW n = groupsW 9 n
+abbrev pub number_w : ℕ → List ℕ
+number_w n = groups_w 9 n
 
-abbrev pub numberR : Reader ℕ
-numberR s = groupsR 9 s
+abbrev pub number_r : Reader ℕ
+number_r s = groups_r 9 s
 
 -- signed n is 2n, or -2n-1 below zero
 abbrev pub zig : ℤ → ℕ
@@ -32,11 +32,11 @@ abbrev pub zag : ℕ → ℤ
 zag n = cond (eqb (n % 2) 0) (pos (n / 2)) (negsuc (n / 2))
 
 -- k bytes, low first
-abbrev pub littleW : ℕ → ℕ → List ℕ
-littleW zero n = []
-littleW (suc k) n = n % 256 ∷ littleW k (n / 256)
+abbrev pub little_w : ℕ → ℕ → List ℕ
+little_w zero n = []
+little_w (suc k) n = n % 256 ∷ little_w k (n / 256)
 
-abbrev pub littleR : ℕ → Reader ℕ
-littleR zero s = some (0, s)
-littleR (suc k) [] = none
-littleR (suc k) (b ∷ s) = cond (ltb b 256) (bind (littleR k s) (λ h t. some (b + 256 * h, t))) none
+abbrev pub little_r : ℕ → Reader ℕ
+little_r zero s = some (0, s)
+little_r (suc k) [] = none
+little_r (suc k) (b ∷ s) = cond (ltb b 256) (bind (little_r k s) (λ h t. some (b + 256 * h, t))) none

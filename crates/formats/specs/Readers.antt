@@ -11,52 +11,52 @@ bind none k = none
 bind (some p) k = k p.0 p.1
 
 -- one after the other
-abbrev pub pairW : {A B : Type 0} → (A → List ℕ) → (B → List ℕ) → (A × B) → List ℕ
-pairW wa wb v = wa v.0 ++ wb v.1
+abbrev pub pair_w : {A B : Type 0} → (A → List ℕ) → (B → List ℕ) → (A × B) → List ℕ
+pair_w wa wb v = wa v.0 ++ wb v.1
 
-abbrev pub pairR : {A B : Type 0} → Reader A → Reader B → Reader (A × B)
-pairR ra rb s = bind (ra s) (λ a t. bind (rb t) (λ b u. some ((a, b), u)))
+abbrev pub pair_r : {A B : Type 0} → Reader A → Reader B → Reader (A × B)
+pair_r ra rb s = bind (ra s) (λ a t. bind (rb t) (λ b u. some ((a, b), u)))
 
 -- the same bytes, with another value: A and B are one by `to` and `from`
 abbrev pub map_r : {A B : Type 0} → (A → B) → Reader A → Reader B
 map_r to r s = bind (r s) (λ a t. some (to a, t))
 
 -- only the values that pass a test
-abbrev pub onlyR : {A : Type 0} → (A → Bool) → Reader A → Reader A
-onlyR test r s = bind (r s) (λ a t. cond (test a) (some (a, t)) none)
+abbrev pub only_r : {A : Type 0} → (A → Bool) → Reader A → Reader A
+only_r test r s = bind (r s) (λ a t. cond (test a) (some (a, t)) none)
 
 -- a given byte
-abbrev pub constR : ℕ → Reader (Unit {0})
-constR c [] = none
-constR c (b ∷ s) = cond (eqb b c) (some (tt, s)) none
+abbrev pub const_r : ℕ → Reader (Unit {0})
+const_r c [] = none
+const_r c (b ∷ s) = cond (eqb b c) (some (tt, s)) none
 
 -- byte 0 and the one, or byte 1 and the other
-abbrev pub choiceW : {A B : Type 0} → (A → List ℕ) → (B → List ℕ) → (A ⊎ B) → List ℕ
-choiceW wa wb (inl a) = 0 ∷ wa a
-choiceW wa wb (inr b) = 1 ∷ wb b
+abbrev pub choice_w : {A B : Type 0} → (A → List ℕ) → (B → List ℕ) → (A ⊎ B) → List ℕ
+choice_w wa wb (inl a) = 0 ∷ wa a
+choice_w wa wb (inr b) = 1 ∷ wb b
 
-abbrev pub choiceR : {A B : Type 0} → Reader A → Reader B → Reader (A ⊎ B)
-choiceR ra rb [] = none
-choiceR ra rb (b ∷ s) =
+abbrev pub choice_r : {A B : Type 0} → Reader A → Reader B → Reader (A ⊎ B)
+choice_r ra rb [] = none
+choice_r ra rb (b ∷ s) =
     cond (eqb b 0) (bind (ra s) (λ a t. some (inl a, t))) (cond (eqb b 1) (bind (rb s) (λ b t. some (inr b, t))) none)
 
-abbrev pub choiceOk : {A B : Type 0} → (A → Type 0) → (B → Type 0) → (A ⊎ B) → Type 0
-choiceOk oka okb (inl a) = oka a
-choiceOk oka okb (inr b) = okb b
+abbrev pub choice_ok : {A B : Type 0} → (A → Type 0) → (B → Type 0) → (A ⊎ B) → Type 0
+choice_ok oka okb (inl a) = oka a
+choice_ok oka okb (inr b) = okb b
 
 -- n bytes as they are
-abbrev pub bytesR : ℕ → Reader (List ℕ)
-bytesR n s = cond (leb n (length s)) (some (take n s, drop n s)) none
+abbrev pub bytes_r : ℕ → Reader (List ℕ)
+bytes_r n s = cond (leb n (length s)) (some (take n s, drop n s)) none
 
 -- n of one kind
-abbrev pub manyW : {A : Type 0} → (A → List ℕ) → List A → List ℕ
-manyW w [] = []
-manyW w (a ∷ v) = w a ++ manyW w v
+abbrev pub many_w : {A : Type 0} → (A → List ℕ) → List A → List ℕ
+many_w w [] = []
+many_w w (a ∷ v) = w a ++ many_w w v
 
-abbrev pub manyR : {A : Type 0} → Reader A → ℕ → Reader (List A)
-manyR r zero s = some ([], s)
-manyR r (suc n) s = bind (r s) (λ a t. bind (manyR r n t) (λ v u. some (a ∷ v, u)))
+abbrev pub many_r : {A : Type 0} → Reader A → ℕ → Reader (List A)
+many_r r zero s = some ([], s)
+many_r r (suc n) s = bind (r s) (λ a t. bind (many_r r n t) (λ v u. some (a ∷ v, u)))
 
 -- a count, and then what it counts
-abbrev pub countedR : {A : Type 0} → Reader ℕ → (ℕ → Reader A) → Reader A
-countedR rn r s = bind (rn s) (λ n t. r n t)
+abbrev pub counted_r : {A : Type 0} → Reader ℕ → (ℕ → Reader A) → Reader A
+counted_r rn r s = bind (rn s) (λ n t. r n t)

@@ -1,10 +1,10 @@
 // Reading by a format: numbers, and an interpreter that passes over a value of the format that a table holds.
 ghost use Rattle.std.specs.Prelude.{◌≡◌, ◌+◌, ◌*◌, ◌<◌, ◌≤◌, length, get_or, drop};
-ghost use Rattle.formats.specs.Readers.{bytesR, constR};
-ghost use Rattle.formats.specs.Number.{numberR, littleR};
-ghost use Rattle.formats.specs.promises.Number.{moreR};
-ghost use Rattle.formats.specs.promises.Outcome.{numbered, skipped, skipTo, skipMany, formatAt, leafFormat};
-ghost use Rattle.formats.specs.promises.Outcome.{tag_at};
+ghost use Rattle.formats.specs.Readers.{bytes_r, const_r};
+ghost use Rattle.formats.specs.Number.{number_r, little_r};
+ghost use Rattle.formats.specs.Promises.Number.{more_r};
+ghost use Rattle.formats.specs.Promises.Outcome.{numbered, skipped, skip_to, skip_many, format_at, leaf_format};
+ghost use Rattle.formats.specs.Promises.Outcome.{tag_at};
 
 // The kinds of nodes in a table.
 pub mod kinds {
@@ -93,7 +93,7 @@ pub fn wide(b: u8) -> u64
 // before.
 fn more(s: &[u8], at: usize, low: u64) -> Numeral
     requires { low < 128 }
-    ensures { result ≡ numbered s.now (moreR 8 low 128 (drop at s.now)) }
+    ensures { result ≡ numbered s.now (more_r 8 low 128 (drop at s.now)) }
 {
     let mut p = at;
     let mut n = low;
@@ -123,7 +123,7 @@ fn more(s: &[u8], at: usize, low: u64) -> Numeral
 
 // A number at `at`. Most have one group: that case stands in front, and is small enough to be put in place.
 pub fn number(s: &[u8], at: usize) -> Numeral
-    ensures { result ≡ numbered s.now (numberR (drop at s.now)) }
+    ensures { result ≡ numbered s.now (number_r (drop at s.now)) }
 {
     if s.len() <= at {
         return Numeral::Bad;
@@ -138,7 +138,7 @@ pub fn number(s: &[u8], at: usize) -> Numeral
 // A number of k whole bytes at `at`, low byte first.
 fn little(k: u32, s: &[u8], at: usize) -> Numeral
     requires { (k ≤ 8) × (at ≤ length s.now) }
-    ensures { result ≡ numbered s.now (littleR k (drop at s.now)) }
+    ensures { result ≡ numbered s.now (little_r k (drop at s.now)) }
 {
     if k == 0 {
         return Numeral::Got(0, at);
@@ -155,7 +155,7 @@ fn little(k: u32, s: &[u8], at: usize) -> Numeral
 
 // The eight bytes of a float at `at`, as a number.
 pub fn float(s: &[u8], at: usize) -> Numeral
-    ensures { result ≡ numbered s.now (littleR 8 (drop at s.now)) }
+    ensures { result ≡ numbered s.now (little_r 8 (drop at s.now)) }
 {
     if s.len() <= at {
         return Numeral::Bad;
@@ -166,7 +166,7 @@ pub fn float(s: &[u8], at: usize) -> Numeral
 // n bytes as they are
 pub fn raw(s: &[u8], at: usize, n: u64) -> Skip
     requires { at ≤ length s.now }
-    ensures { result ≡ skipped s.now (bytesR n (drop at s.now)) }
+    ensures { result ≡ skipped s.now (bytes_r n (drop at s.now)) }
 {
     let left = s.len() - at;
     let m = n as usize;
@@ -179,7 +179,7 @@ pub fn raw(s: &[u8], at: usize, n: u64) -> Skip
 
 // one given byte
 pub fn given(s: &[u8], at: usize, c: u64) -> Skip
-    ensures { result ≡ skipped s.now (constR c (drop at s.now)) }
+    ensures { result ≡ skipped s.now (const_r c (drop at s.now)) }
 {
     if s.len() <= at {
         return Skip::Broken;
@@ -221,7 +221,7 @@ pub fn tag(s: &[u8], at: usize) -> u64
 // Past the value at `at` of a format that has no parts.
 fn leaf(kind: u64, a: u64, s: &[u8], at: usize) -> Skip
     requires { (kind < 8) × (at ≤ length s.now) }
-    ensures { result ≡ skipTo (leafFormat kind a 0) s.now at }
+    ensures { result ≡ skip_to (leaf_format kind a 0) s.now at }
 {
     if kind == kinds::NEVER {
         return Skip::Broken;
@@ -257,7 +257,7 @@ fn leaf(kind: u64, a: u64, s: &[u8], at: usize) -> Skip
 #[cycle(pass_pass_many)]
 pub fn pass(t: &[u64], depth: u32, node: u64, s: &[u8], at: usize) -> Skip
     requires { at ≤ length s.now }
-    ensures { result ≡ skipTo (formatAt depth t.now node) s.now at }
+    ensures { result ≡ skip_to (format_at depth t.now node) s.now at }
 {
     if depth == 0 {
         return Skip::Broken;
@@ -301,7 +301,7 @@ pub fn pass(t: &[u64], depth: u32, node: u64, s: &[u8], at: usize) -> Skip
 #[cycle(pass_pass_many)]
 fn pass_many(t: &[u64], depth: u32, node: u64, n: u64, s: &[u8], at: usize) -> Skip
     requires { at ≤ length s.now }
-    ensures { result ≡ skipMany (formatAt depth t.now node) n s.now at }
+    ensures { result ≡ skip_many (format_at depth t.now node) n s.now at }
 {
     let mut p = at;
     let mut left = n;

@@ -3,10 +3,10 @@
 ghost use Rattle.std.specs.Prelude.{◌≡◌, ◌+◌, ◌-◌, ◌≤◌, length, take, drop};
 ghost use Rattle.formats.specs.Class.{any, printable};
 ghost use Rattle.formats.specs.Format.{small, text, float, list, optional};
-ghost use Rattle.formats.specs.promises.Outcome.{class_of};
-ghost use Rattle.formats_check.specs.promises.Checked.{Number, IfGot, Fine};
-ghost use Rattle.formats_check.specs.laws.Climbing.{Spans, known, follows};
-ghost use Rattle.formats_check.specs.laws.Walks.{Each};
+ghost use Rattle.formats.specs.Promises.Outcome.{class_of};
+ghost use Rattle.formats_check.specs.Promises.Checked.{Number, IfGot, Fine};
+ghost use Rattle.formats_check.specs.Laws.Climbing.{Spans, known, follows};
+ghost use Rattle.formats_check.specs.Laws.Walks.{Each};
 
 use formats::{Numeral, Skip};
 use slices::Order;

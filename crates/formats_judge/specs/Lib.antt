@@ -1,3 +1,3 @@
 pub mod Judged
-pub mod promises
-pub mod laws
+pub mod Promises
+pub mod Laws

@@ -1,10 +1,10 @@
 // Document 01's questions 5, 6 and 7, put to a value of the format that a table holds, in one pass over it.
 ghost use Rattle.std.specs.Prelude.{◌≡◌, ◌&&◌, ◌<◌, ◌≤◌, length, drop, leb};
 ghost use Rattle.formats.specs.Number.{zag};
-ghost use Rattle.formats.specs.Readers.{bytesR};
-ghost use Rattle.formats.specs.promises.Outcome.{class_of, formatAt, leafFormat};
-ghost use Rattle.formats_judge.specs.Judged.{at_most, answer, judged, judgeTo};
-ghost use Rattle.formats_judge.specs.promises.Judged.{textAnswer, sooner, judgeMany, judgedAfter};
+ghost use Rattle.formats.specs.Readers.{bytes_r};
+ghost use Rattle.formats.specs.Promises.Outcome.{class_of, format_at, leaf_format};
+ghost use Rattle.formats_judge.specs.Judged.{at_most, answer, judged, judge_to};
+ghost use Rattle.formats_judge.specs.Promises.Judged.{text_answer, sooner, judge_many, judged_after};
 
 use formats::{Numeral, Skip, kinds};
 
@@ -74,7 +74,7 @@ fn count(limit: u64, n: u64) -> u32
 
 // A text, whatever its limit.
 pub fn text(limit: u64, c: u64, v: &[u8]) -> u32
-    ensures { result ≡ textAnswer limit (class_of c) v.now }
+    ensures { result ≡ text_answer limit (class_of c) v.now }
 {
     if v.len() as u64 <= limit {
         if formats_text::in_class(c, v) {
@@ -87,8 +87,8 @@ pub fn text(limit: u64, c: u64, v: &[u8]) -> u32
 // Past n bytes at `at`, judged as a text.
 fn bytes(limit: u64, c: u64, s: &[u8], at: usize, n: u64) -> Judge
     requires { at ≤ length s.now }
-    ensures { result ≡ judged (textAnswer limit (class_of c)) s.now
-        (bytesR n (drop at s.now)) }
+    ensures { result ≡ judged (text_answer limit (class_of c)) s.now
+        (bytes_r n (drop at s.now)) }
 {
     let left = s.len() - at;
     let m = n as usize;
@@ -102,7 +102,7 @@ fn bytes(limit: u64, c: u64, s: &[u8], at: usize, n: u64) -> Judge
 // Past the value at `at` of a format that has no parts.
 fn leaf(kind: u64, a: u64, b: u64, s: &[u8], at: usize) -> Judge
     requires { (kind < 8) × (at ≤ length s.now) }
-    ensures { result ≡ judgeTo (leafFormat kind a b) s.now at }
+    ensures { result ≡ judge_to (leaf_format kind a b) s.now at }
 {
     if kind == kinds::NEVER {
         return Judge::Broken;
@@ -144,7 +144,7 @@ fn leaf(kind: u64, a: u64, b: u64, s: &[u8], at: usize) -> Judge
 #[cycle(judge_many_judge_value)]
 pub fn judge_value(t: &[u64], depth: u32, node: u64, s: &[u8], at: usize) -> Judge
     requires { at ≤ length s.now }
-    ensures { result ≡ judgeTo (formatAt depth t.now node) s.now at }
+    ensures { result ≡ judge_to (format_at depth t.now node) s.now at }
 {
     if depth == 0 {
         return Judge::Broken;
@@ -191,7 +191,7 @@ pub fn judge_value(t: &[u64], depth: u32, node: u64, s: &[u8], at: usize) -> Jud
 #[cycle(judge_many_judge_value)]
 fn judge_many(t: &[u64], depth: u32, node: u64, n: u64, s: &[u8], at: usize, x: u32) -> Judge
     requires { at ≤ length s.now }
-    ensures { result ≡ judgedAfter x (judgeMany (formatAt depth t.now node) n s.now at) }
+    ensures { result ≡ judged_after x (judge_many (format_at depth t.now node) n s.now at) }
 {
     let mut p = at;
     let mut left = n;

@@ -2,19 +2,19 @@
 // value stands, they answer something.
 ghost use Rattle.std.specs.Prelude.{◌≡◌, ℕ, ◌≤◌, ℤ, length};
 ghost use Rattle.formats.specs.Format.{Value, number, signed, float, optional};
-ghost use Rattle.formats.specs.promises.Outcome.{formatAt};
-ghost use Rattle.formats_write.specs.promises.Given.{givenNumber, givenSigned};
-ghost use Rattle.formats_read.specs.promises.Fields.{Has, fieldTo};
-ghost use Rattle.formats_read.specs.promises.Here.{Here, Field};
-ghost use Rattle.formats_read.specs.promises.Lists.{Reaches};
-ghost use Rattle.formats_read.specs.promises.Reads.{ReadsNumber, ReadsText};
+ghost use Rattle.formats.specs.Promises.Outcome.{format_at};
+ghost use Rattle.formats_write.specs.Promises.Given.{given_number, given_signed};
+ghost use Rattle.formats_read.specs.Promises.Fields.{Has, field_to};
+ghost use Rattle.formats_read.specs.Promises.Here.{Here, Field};
+ghost use Rattle.formats_read.specs.Promises.Lists.{Reaches};
+ghost use Rattle.formats_read.specs.Promises.Reads.{ReadsNumber, ReadsText};
 
 use formats::{Numeral, OptionalNumber, OptionalSigned, Skip, Span, kinds};
 
 // Where the record's part from field k on begins.
 pub fn locate(t: &[u64], depth: u32, node: u64, k: u32, s: &[u8], at: usize) -> Skip
     requires { at ≤ length s.now }
-    ensures { result ≡ fieldTo k (formatAt depth t.now node) s.now at }
+    ensures { result ≡ field_to k (format_at depth t.now node) s.now at }
 {
     let mut d = depth;
     let mut n = node;
@@ -43,9 +43,9 @@ pub fn locate(t: &[u64], depth: u32, node: u64, k: u32, s: &[u8], at: usize) -> 
 
 // The place of field k of the record at `at`.
 pub fn place(t: &[u64], depth: u32, node: u64, k: u32, s: &[u8], at: usize) -> usize
-    ensures { (i : Has k (formatAt depth t.now node)) (v : Value (formatAt depth t.now node)) (q : ℕ)
-        → Here (formatAt depth t.now node) s.now at q v
-        → Field k (formatAt depth t.now node) i s.now at q v result }
+    ensures { (i : Has k (format_at depth t.now node)) (v : Value (format_at depth t.now node)) (q : ℕ)
+        → Here (format_at depth t.now node) s.now at q v
+        → Field k (format_at depth t.now node) i s.now at q v result }
 {
     if s.len() < at {
         return 0;
@@ -58,8 +58,8 @@ pub fn place(t: &[u64], depth: u32, node: u64, k: u32, s: &[u8], at: usize) -> u
 
 // The place past the value at `at`.
 pub fn past(t: &[u64], depth: u32, node: u64, s: &[u8], at: usize) -> usize
-    ensures { (v : Value (formatAt depth t.now node)) (q : ℕ)
-        → Here (formatAt depth t.now node) s.now at q v → result ≡ q }
+    ensures { (v : Value (format_at depth t.now node)) (q : ℕ)
+        → Here (format_at depth t.now node) s.now at q v → result ≡ q }
 {
     if s.len() < at {
         return 0;
@@ -72,7 +72,7 @@ pub fn past(t: &[u64], depth: u32, node: u64, s: &[u8], at: usize) -> usize
 
 // The place of the value i of the values from `at` on.
 pub fn nth(t: &[u64], depth: u32, node: u64, s: &[u8], at: usize, i: u64) -> usize
-    ensures { Reaches (formatAt depth t.now node) s.now at i result }
+    ensures { Reaches (format_at depth t.now node) s.now at i result }
 {
     let mut p = at;
     let mut j = 0;
@@ -137,7 +137,7 @@ pub fn text(s: &[u8], at: usize) -> Span
 
 pub fn optional_number(s: &[u8], at: usize) -> OptionalNumber
     ensures { (lo hi : ℕ) (v : Value (optional (number lo hi))) (q : ℕ)
-        → Here (optional (number lo hi)) s.now at q v → givenNumber result ≡ v }
+        → Here (optional (number lo hi)) s.now at q v → given_number result ≡ v }
 {
     if s.len() <= at {
         return OptionalNumber::Absent;
@@ -150,7 +150,7 @@ pub fn optional_number(s: &[u8], at: usize) -> OptionalNumber
 
 pub fn optional_signed(s: &[u8], at: usize) -> OptionalSigned
     ensures { (lo hi : ℤ) (v : Value (optional (signed lo hi))) (q : ℕ)
-        → Here (optional (signed lo hi)) s.now at q v → givenSigned result ≡ v }
+        → Here (optional (signed lo hi)) s.now at q v → given_signed result ≡ v }
 {
     if s.len() <= at {
         return OptionalSigned::Absent;

@@ -3,7 +3,7 @@
 ghost use Rattle.std.specs.Prelude.{◌≡◌, ◌+◌, ◌≤◌, length};
 ghost use Rattle.formats.specs.Class.{any};
 ghost use Rattle.formats.specs.Format.{number, text, float, list, optional};
-ghost use Rattle.formats_skip.specs.promises.Passes.{Passes, PassesNear};
+ghost use Rattle.formats_skip.specs.Promises.Passes.{Passes, PassesNear};
 
 use formats::Span;
 

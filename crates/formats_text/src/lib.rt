@@ -1,10 +1,10 @@
 // Whether a text is of a class.
 ghost use Rattle.std.specs.Prelude.{◌≡◌, [], ◌+◌, ◌≤◌, ◌<◌, length};
-ghost use Rattle.formats.specs.Class.{printable, token, allowed, due, utf8Rows, next, sequences, inClass};
+ghost use Rattle.formats.specs.Class.{printable, token, allowed, due, utf8_rows, next, sequences, in_class};
 ghost use Rattle.basics.specs.Lists.{all};
-ghost use Rattle.formats.specs.promises.Outcome.{class_of};
-ghost use Rattle.formats_text.specs.promises.Due.{ranges, dueOf};
-ghost use Rattle.formats_text.specs.promises.Span.{span, ascii, plain};
+ghost use Rattle.formats.specs.Promises.Outcome.{class_of};
+ghost use Rattle.formats_text.specs.Promises.Due.{ranges, due_of};
+ghost use Rattle.formats_text.specs.Promises.Span.{span, ascii, plain};
 
 // What is due in a text of UTF-8: so many bytes, the first of them from one to another; or what came is wrong.
 #[derive(Drop)]
@@ -15,7 +15,7 @@ pub enum Due {
 
 // What is due after a first byte: the rest of its row in the table.
 fn lead(b: u8) -> Due
-    ensures { dueOf result ≡ due utf8Rows b }
+    ensures { due_of result ≡ due utf8_rows b }
 {
     if b < 0x80 {
         return Due::Bytes(0, 0x80, 0xBF);
@@ -52,7 +52,7 @@ fn lead(b: u8) -> Due
 
 // What is due after a byte, where `more` bytes are due, the first of them from lo to hi.
 fn step(more: u64, lo: u8, hi: u8, b: u8) -> Due
-    ensures { dueOf result ≡ next (ranges more lo hi) b }
+    ensures { due_of result ≡ next (ranges more lo hi) b }
 {
     if more == 0 {
         return lead(b);
@@ -212,7 +212,7 @@ fn all_in_token(v: &[u8]) -> bool
 
 // Whether a text is of the class that a table has as c.
 pub fn in_class(c: u64, v: &[u8]) -> bool
-    ensures { result ≡ inClass (class_of c) v.now }
+    ensures { result ≡ in_class (class_of c) v.now }
 {
     if c == 0 {
         return true;

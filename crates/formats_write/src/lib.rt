@@ -3,12 +3,12 @@
 // return.
 ghost use Rattle.std.specs.Prelude.{◌≡◌, [], ◌∷◌, ◌<◌, ◌≤◌, length};
 ghost use Rattle.std.proofs.Math.Seq.{slice};
-ghost use Rattle.formats.specs.Number.{groupsW, numberW, littleW, zig};
-ghost use Rattle.formats.specs.promises.Number.{top};
+ghost use Rattle.formats.specs.Number.{groups_w, number_w, little_w, zig};
+ghost use Rattle.formats.specs.Promises.Number.{top};
 ghost use Rattle.formats.specs.Format.{number, signed, float};
-ghost use Rattle.formats_write.specs.promises.Adds.{Adds};
-ghost use Rattle.formats_write.specs.promises.Given.{optionalW, givenNumber, givenSigned, givenText, textW};
-ghost use Rattle.formats_write.specs.promises.Given.{Inside};
+ghost use Rattle.formats_write.specs.Promises.Adds.{Adds};
+ghost use Rattle.formats_write.specs.Promises.Given.{optional_w, given_number, given_signed, given_text, text_w};
+ghost use Rattle.formats_write.specs.Promises.Given.{Inside};
 
 use formats::{OptionalNumber, OptionalSigned, OptionalText};
 
@@ -42,7 +42,7 @@ pub fn byte(out: &mut [u8], w: Put, b: u8) -> Put
 // A number of at most k + 1 groups.
 fn groups(k: u32, out: &mut [u8], w: Put, n: u64) -> Put
     requires { n < top k }
-    ensures { Adds out.old w out.new result (groupsW k n) }
+    ensures { Adds out.old w out.new result (groups_w k n) }
 {
     if n < 128 {
         return byte(out, w, octet(n));
@@ -52,20 +52,20 @@ fn groups(k: u32, out: &mut [u8], w: Put, n: u64) -> Put
 }
 
 pub fn number(out: &mut [u8], w: Put, n: u64) -> Put
-    ensures { Adds out.old w out.new result (numberW n) }
+    ensures { Adds out.old w out.new result (number_w n) }
 {
     groups(9, out, w, n)
 }
 
 pub fn signed(out: &mut [u8], w: Put, z: i64) -> Put
-    ensures { Adds out.old w out.new result (numberW (zig z)) }
+    ensures { Adds out.old w out.new result (number_w (zig z)) }
 {
     number(out, w, integers::to_zigzag(z))
 }
 
 // The low k bytes of n, low first.
 fn little(k: u32, out: &mut [u8], w: Put, n: u64) -> Put
-    ensures { Adds out.old w out.new result (littleW k n) }
+    ensures { Adds out.old w out.new result (little_w k n) }
 {
     if k == 0 {
         return w;
@@ -76,7 +76,7 @@ fn little(k: u32, out: &mut [u8], w: Put, n: u64) -> Put
 
 // A float, given by its 64 bits.
 pub fn float(out: &mut [u8], w: Put, bits: u64) -> Put
-    ensures { Adds out.old w out.new result (littleW 8 bits) }
+    ensures { Adds out.old w out.new result (little_w 8 bits) }
 {
     little(8, out, w, bits)
 }
@@ -109,7 +109,7 @@ pub fn stretch(out: &mut [u8], w: Put, s: &[u8], from: usize, to: usize) -> Put
 // The bytes of s from `from` up to `to`, as a text: their number first.
 pub fn text(out: &mut [u8], w: Put, s: &[u8], from: usize, to: usize) -> Put
     ensures { from ≤ to → to ≤ length s.now
-        → Adds out.old w out.new result (textW (slice from to s.now)) }
+        → Adds out.old w out.new result (text_w (slice from to s.now)) }
 {
     if to < from {
         return Put::Full;
@@ -119,7 +119,7 @@ pub fn text(out: &mut [u8], w: Put, s: &[u8], from: usize, to: usize) -> Put
 }
 
 pub fn optional_number(out: &mut [u8], w: Put, v: OptionalNumber) -> Put
-    ensures { Adds out.old w out.new result (optionalW numberW (givenNumber v)) }
+    ensures { Adds out.old w out.new result (optional_w number_w (given_number v)) }
 {
     match v {
         OptionalNumber::Absent => byte(out, w, 0),
@@ -132,7 +132,7 @@ pub fn optional_number(out: &mut [u8], w: Put, v: OptionalNumber) -> Put
 
 pub fn optional_signed(out: &mut [u8], w: Put, v: OptionalSigned) -> Put
     ensures { Adds out.old w out.new result
-        (optionalW (λ z. numberW (zig z)) (givenSigned v)) }
+        (optional_w (λ z. number_w (zig z)) (given_signed v)) }
 {
     match v {
         OptionalSigned::Absent => byte(out, w, 0),
@@ -145,7 +145,7 @@ pub fn optional_signed(out: &mut [u8], w: Put, v: OptionalSigned) -> Put
 
 // A float that may be missing, given by its 64 bits.
 pub fn optional_float(out: &mut [u8], w: Put, v: OptionalNumber) -> Put
-    ensures { Adds out.old w out.new result (optionalW (littleW 8) (givenNumber v)) }
+    ensures { Adds out.old w out.new result (optional_w (little_w 8) (given_number v)) }
 {
     match v {
         OptionalNumber::Absent => byte(out, w, 0),
@@ -158,7 +158,7 @@ pub fn optional_float(out: &mut [u8], w: Put, v: OptionalNumber) -> Put
 
 pub fn optional_text(out: &mut [u8], w: Put, s: &[u8], v: OptionalText) -> Put
     ensures { Inside s.now v → Adds out.old w out.new result
-        (optionalW textW (givenText s.now v)) }
+        (optional_w text_w (given_text s.now v)) }
 {
     match v {
         OptionalText::Absent => byte(out, w, 0),

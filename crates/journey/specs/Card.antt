@@ -10,8 +10,8 @@ use Rattle.basics.specs.Options.{Maybe}
 abbrev pub scheduled : Format
 scheduled = signed (pos 946684800) (pos 2145916799)
 
-abbrev pub cardTime : Format
-cardTime = signed (negsuc 1200798847) (pos 4293400446)
+abbrev pub card_time : Format
+card_time = signed (negsuc 1200798847) (pos 4293400446)
 
 abbrev pub duration : Format
 duration = signed (negsuc 5494199293) (pos 5494199294)
@@ -21,7 +21,7 @@ payload = text 2048 any
 
 -- stop; scheduled arrival, departure; realtime arrival, departure
 abbrev pub middle : Format
-middle = id & scheduled & scheduled & optional cardTime & optional cardTime
+middle = id & scheduled & scheduled & optional card_time & optional card_time
 
 -- mode, short name, route, trip; direction; from, to stop; two sequences; scheduled departure, arrival; realtime
 -- departure, arrival; delays likewise;
@@ -29,8 +29,8 @@ middle = id & scheduled & scheduled & optional cardTime & optional cardTime
 abbrev pub transit : Format
 transit =
     id & id & id & id & optional (number 0 255) & id & id & number32 & number32 & scheduled & scheduled
-    & optional cardTime & optional cardTime & optional delay & optional delay & small 1
-    & optional float & optional float & optional cardTime & list 64 middle & payload
+    & optional card_time & optional card_time & optional delay & optional delay & small 1
+    & optional float & optional float & optional card_time & list 64 middle & payload
 
 -- a walk's payload, or a transit leg
 abbrev pub leg : Format
@@ -38,16 +38,16 @@ leg = choice payload transit
 
 -- departure, arrival, duration; status; headers; legs
 abbrev pub card : Format
-card = constant 1 & cardTime & cardTime & duration & small 4 & list 1024 (text 512 utf8) & list 16 leg
+card = constant 1 & card_time & card_time & duration & small 4 & list 1024 (text 512 utf8) & list 16 leg
 
 -- ---- the same with names
 
 pub record Middle : Type 0 where
   pub stop : List ℕ
-  pub scheduledArrival : ℤ
-  pub scheduledDeparture : ℤ
-  pub realtimeArrival : Maybe ℤ
-  pub realtimeDeparture : Maybe ℤ
+  pub scheduled_arrival : ℤ
+  pub scheduled_departure : ℤ
+  pub realtime_arrival : Maybe ℤ
+  pub realtime_departure : Maybe ℤ
 
 pub record Transit : Type 0 where
   pub mode : List ℕ
@@ -57,14 +57,14 @@ pub record Transit : Type 0 where
   pub direction : Maybe ℕ
   pub from : List ℕ
   pub to : List ℕ
-  pub fromSequence : ℕ
-  pub toSequence : ℕ
-  pub scheduledDeparture : ℤ
-  pub scheduledArrival : ℤ
-  pub realtimeDeparture : Maybe ℤ
-  pub realtimeArrival : Maybe ℤ
-  pub departureDelay : Maybe ℤ
-  pub arrivalDelay : Maybe ℤ
+  pub from_sequence : ℕ
+  pub to_sequence : ℕ
+  pub scheduled_departure : ℤ
+  pub scheduled_arrival : ℤ
+  pub realtime_departure : Maybe ℤ
+  pub realtime_arrival : Maybe ℤ
+  pub departure_delay : Maybe ℤ
+  pub arrival_delay : Maybe ℤ
   pub cancelled : ℕ
   pub latitude : Maybe ℕ
   pub longitude : Maybe ℕ
@@ -83,14 +83,14 @@ pub record Card : Type 0 where
 abbrev pub middle_of : Value middle → Middle
 middle_of (stop, (sa, (sd, (ra, rd)))) = record {
   stop = stop;
-  scheduledArrival = sa;
-  scheduledDeparture = sd;
-  realtimeArrival = ra;
-  realtimeDeparture = rd;
+  scheduled_arrival = sa;
+  scheduled_departure = sd;
+  realtime_arrival = ra;
+  realtime_departure = rd;
 }
 
-abbrev pub transitOf : Value transit → Transit
-transitOf
+abbrev pub transit_of : Value transit → Transit
+transit_of
     (m, (s, (r, (t, (d, (f, (o, (fs, (os, (sd, (sa, (rd, (ra, (dd, (da, (c, (la, (lo, (u, (ms, p)))))))))))))))))))) =
     record {
       mode = m;
@@ -100,14 +100,14 @@ transitOf
       direction = d;
       from = f;
       to = o;
-      fromSequence = fs;
-      toSequence = os;
-      scheduledDeparture = sd;
-      scheduledArrival = sa;
-      realtimeDeparture = rd;
-      realtimeArrival = ra;
-      departureDelay = dd;
-      arrivalDelay = da;
+      from_sequence = fs;
+      to_sequence = os;
+      scheduled_departure = sd;
+      scheduled_arrival = sa;
+      realtime_departure = rd;
+      realtime_arrival = ra;
+      departure_delay = dd;
+      arrival_delay = da;
       cancelled = c;
       latitude = la;
       longitude = lo;
@@ -116,15 +116,15 @@ transitOf
       payload = p;
     }
 
-abbrev pub cardOf : Value card → Card
-cardOf (x, (d, (a, (u, (s, (h, l)))))) =
+abbrev pub card_of : Value card → Card
+card_of (x, (d, (a, (u, (s, (h, l)))))) =
     record { departure = d; arrival = a; duration = u; status = s; headers = h; legs = l }
 
-abbrev pub middleValue : Middle → Value middle
-middleValue m = (m.stop, (m.scheduledArrival, (m.scheduledDeparture, (m.realtimeArrival, m.realtimeDeparture))))
+abbrev pub middle_value : Middle → Value middle
+middle_value m = (m.stop, (m.scheduled_arrival, (m.scheduled_departure, (m.realtime_arrival, m.realtime_departure))))
 
-abbrev pub transitValue : Transit → Value transit
-transitValue t = (
+abbrev pub transit_value : Transit → Value transit
+transit_value t = (
   t.mode,
   (
     t.short,
@@ -139,21 +139,21 @@ transitValue t = (
             (
               t.to,
               (
-                t.fromSequence,
+                t.from_sequence,
                 (
-                  t.toSequence,
+                  t.to_sequence,
                   (
-                    t.scheduledDeparture,
+                    t.scheduled_departure,
                     (
-                      t.scheduledArrival,
+                      t.scheduled_arrival,
                       (
-                        t.realtimeDeparture,
+                        t.realtime_departure,
                         (
-                          t.realtimeArrival,
+                          t.realtime_arrival,
                           (
-                            t.departureDelay,
+                            t.departure_delay,
                             (
-                              t.arrivalDelay,
+                              t.arrival_delay,
                               (t.cancelled, (t.latitude, (t.longitude, (t.updated, (t.middles, t.payload))))),
                             ),
                           ),
@@ -171,5 +171,5 @@ transitValue t = (
   ),
 )
 
-abbrev pub cardValue : Card → Value card
-cardValue c = (tt, (c.departure, (c.arrival, (c.duration, (c.status, (c.headers, c.legs))))))
+abbrev pub card_value : Card → Value card
+card_value c = (tt, (c.departure, (c.arrival, (c.duration, (c.status, (c.headers, c.legs))))))

@@ -2,4 +2,4 @@ pub mod Card
 pub mod Times
 pub mod Enrich
 pub mod ByIndex
-pub mod laws
+pub mod Laws

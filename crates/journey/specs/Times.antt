@@ -2,23 +2,23 @@
 use Rattle.std.specs.Prelude.{ℕ, Bool, true, false, List, ℤ, pos, ◌+ℤ◌, ◌-ℤ◌, eqb}
 use Rattle.std.proofs.Common.{inl, inr}
 use Rattle.std.proofs.Math.Option.{Option, none, some}
-use Rattle.decode.specs.Trip.{StopUpdate, Trip, arrivalDelayOf, arrivalTimeOf, departureDelayOf, departureTimeOf}
-use Rattle.decode.specs.Trip.{delayOf, cancelledOf}
-use Rattle.basics.specs.Options.{Maybe, orOther}
-use Rattle.overlay.specs.Lookup.{FeedTrip, find-stop-update}
+use Rattle.decode.specs.Trip.{StopUpdate, Trip, arrival_delay_of, arrival_time_of, departure_delay_of, departure_time_of}
+use Rattle.decode.specs.Trip.{delay_of, cancelled_of}
+use Rattle.basics.specs.Options.{Maybe, or_other}
+use Rattle.overlay.specs.Lookup.{FeedTrip, find_stop_update}
 use Rattle.basics.specs.Integers.{wrap32}
 
 pub data Event : Type 0 where
   arrival departure : Event
 
 -- of an update: the event's own time and delay, else the other event's
-abbrev pub eventTime : Event → StopUpdate → Maybe ℤ
-eventTime arrival u = orOther (arrivalTimeOf u) (departureTimeOf u)
-eventTime departure u = orOther (departureTimeOf u) (arrivalTimeOf u)
+abbrev pub event_time : Event → StopUpdate → Maybe ℤ
+event_time arrival u = or_other (arrival_time_of u) (departure_time_of u)
+event_time departure u = or_other (departure_time_of u) (arrival_time_of u)
 
-abbrev pub eventDelay : Event → StopUpdate → Maybe ℤ
-eventDelay arrival u = orOther (arrivalDelayOf u) (departureDelayOf u)
-eventDelay departure u = orOther (departureDelayOf u) (arrivalDelayOf u)
+abbrev pub event_delay : Event → StopUpdate → Maybe ℤ
+event_delay arrival u = or_other (arrival_delay_of u) (departure_delay_of u)
+event_delay departure u = or_other (departure_delay_of u) (arrival_delay_of u)
 
 -- the event's time and delay, and whether it has realtime
 pub record StopRealtime : Type 0 where
@@ -38,11 +38,11 @@ timed at (inr t) r = record { time = t; delay = wrap32 (t -ℤ at); has = true }
 
 -- by the update that was found: its delay before the trip's
 abbrev pub updated : Event → ℤ → Trip → Option StopUpdate → StopRealtime
-updated e at t none = delayed at (eqb (cancelledOf t) 1) (delayOf t)
-updated e at t (some u) = timed at (eventTime e u) (delayed at true (orOther (eventDelay e u) (delayOf t)))
+updated e at t none = delayed at (eqb (cancelled_of t) 1) (delay_of t)
+updated e at t (some u) = timed at (event_time e u) (delayed at true (or_other (event_delay e u) (delay_of t)))
 
 -- APPLY_TIME: an event at a stop, by its sequence where one is given, else by the stop id. No record leaves it as
 -- scheduled
-unfoldable pub apply-time : Option FeedTrip → Event → ℤ → Maybe ℕ → List ℕ → StopRealtime
-apply-time none e at sequence stop = delayed at false (inl tt)
-apply-time (some r) e at sequence stop = updated e at r.1 (find-stop-update r.0 sequence stop r.1)
+unfoldable pub apply_time : Option FeedTrip → Event → ℤ → Maybe ℕ → List ℕ → StopRealtime
+apply_time none e at sequence stop = delayed at false (inl tt)
+apply_time (some r) e at sequence stop = updated e at r.1 (find_stop_update r.0 sequence stop r.1)

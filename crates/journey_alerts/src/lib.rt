@@ -1,14 +1,14 @@
 // The alerts of the overlay b that apply to a leg of a card: whether there is one, and their labels, noted.
 ghost use Rattle.std.specs.Prelude.{◌≡◌, ◌≤◌, length, get_or};
-ghost use Rattle.decode.specs.Sizes.{mostOld};
-ghost use Rattle.alerts_search.specs.promises.Marks.{mostMarks};
-ghost use Rattle.alerts_apply.specs.promises.Known.{Knows};
-ghost use Rattle.overlay_noted.specs.promises.Noted.{Noted};
-ghost use Rattle.journey_labels.specs.promises.Labels.{Inside, SoundLabels};
-ghost use Rattle.journey_alerts.specs.promises.Texts.{TextsIn, LegTextsAt};
-ghost use Rattle.journey_alerts.specs.promises.Places.{mostText, Lent, Prepared};
-ghost use Rattle.journey_alerts.specs.promises.Alerts.{LegApplies, LabelAdded, AlertMet, EachMet, AlertsAtMet};
-ghost use Rattle.journey_alerts.specs.promises.Alerts.{LegAlerted};
+ghost use Rattle.decode.specs.Sizes.{most_old};
+ghost use Rattle.alerts_search.specs.Promises.Marks.{most_marks};
+ghost use Rattle.alerts_apply.specs.Promises.Known.{Knows};
+ghost use Rattle.overlay_noted.specs.Promises.Noted.{Noted};
+ghost use Rattle.journey_labels.specs.Promises.Labels.{Inside, SoundLabels};
+ghost use Rattle.journey_alerts.specs.Promises.Texts.{TextsIn, LegTextsAt};
+ghost use Rattle.journey_alerts.specs.Promises.Places.{most_text, Lent, Prepared};
+ghost use Rattle.journey_alerts.specs.Promises.Alerts.{LegApplies, LabelAdded, AlertMet, EachMet, AlertsAtMet};
+ghost use Rattle.journey_alerts.specs.Promises.Alerts.{LegAlerted};
 
 use formats::Span;
 use overlay_seek::Found;
@@ -62,8 +62,8 @@ fn prepare(
     places: &mut [u32],
 ) -> usize
     requires texts_in { TextsIn card.now t }
-    requires candidates_len { (length candidates.old ≡ 256) × (length met.old ≡ mostMarks) × (length places.old ≡ 256)
-        × (length old.now ≤ mostOld) }
+    requires candidates_len { (length candidates.old ≡ 256) × (length met.old ≡ most_marks) × (length places.old ≡ 256)
+        × (length old.now ≤ most_old) }
     ensures { Prepared card.now t old.now p result candidates.new
         places.new }
 {
@@ -151,7 +151,7 @@ fn note_label(
     to: usize,
 ) -> usize
     requires sound_labels { SoundLabels old.now froms.old tos.old n }
-    requires inside { Inside old.now (from, to) × (length old.now ≤ mostOld) }
+    requires inside { Inside old.now (from, to) × (length old.now ≤ most_old) }
     ensures { LabelAdded old.now froms.old tos.old n (from, to)
         froms.new tos.new result }
 {
@@ -178,7 +178,7 @@ fn meet_alert(
     h: LegAlerts,
 ) -> LegAlerts
     requires texts_in { TextsIn card.now t }
-    requires sound_labels { SoundLabels old.now froms.old tos.old h.labels × (length old.now ≤ mostOld) }
+    requires sound_labels { SoundLabels old.now froms.old tos.old h.labels × (length old.now ≤ most_old) }
     requires knows { Knows (length text.old) old.now known.old }
     ensures { AlertMet card.now t old.now p (length text.old)
         froms.old tos.old h froms.new tos.new result known.new }
@@ -239,7 +239,7 @@ fn each_candidate(
     h: LegAlerts,
 ) -> LegAlerts
     requires texts_in { TextsIn card.now t }
-    requires sound_labels { SoundLabels old.now froms.old tos.old h.labels × (length old.now ≤ mostOld) }
+    requires sound_labels { SoundLabels old.now froms.old tos.old h.labels × (length old.now ≤ most_old) }
     requires knows { Knows (length text.old) old.now known.old }
     ensures { EachMet card.now t old.now candidates.now n
         places.now n
@@ -283,8 +283,8 @@ fn alerts_at(
 ) -> LegAlerts
     requires texts_in { TextsIn card.now t }
     requires lent { Lent old.now candidates.old met.old }
-    requires sound_labels { SoundLabels old.now froms.old tos.old n × Knows mostText old.now known.old }
-    ensures { AlertsAtMet card.now t old.now p mostText
+    requires sound_labels { SoundLabels old.now froms.old tos.old n × Knows most_text old.now known.old }
+    ensures { AlertsAtMet card.now t old.now p most_text
         froms.old tos.old n froms.new tos.new result known.new }
 {
     let mut places = [0u32; MOST_ALERTS];
@@ -315,7 +315,7 @@ pub fn leg(
 ) -> LegAlerts
     requires noted { Noted old.now noted.now }
     requires lent { Lent old.now candidates.old met.old }
-    requires sound_labels { SoundLabels old.now froms.old tos.old n × Knows mostText old.now known.old }
+    requires sound_labels { SoundLabels old.now froms.old tos.old n × Knows most_text old.now known.old }
     ensures { LegAlerted card.now at old.now froms.old tos.old n
         froms.new tos.new result known.new }
 {

@@ -1,11 +1,11 @@
 // The card: what a first pass over its legs gathers, and its head written anew.
 ghost use Rattle.std.specs.Prelude.{◌≡◌, cond, ◌||◌, ◌<◌, length};
-ghost use Rattle.basics.specs.Options.{givenOr};
-ghost use Rattle.formats_write.specs.promises.Adds.{Adds};
-ghost use Rattle.formats_write.specs.promises.Given.{givenSigned};
+ghost use Rattle.basics.specs.Options.{given_or};
+ghost use Rattle.formats_write.specs.Promises.Adds.{Adds};
+ghost use Rattle.formats_write.specs.Promises.Given.{given_signed};
 ghost use Rattle.journey.specs.Enrich as enrich;
-ghost use Rattle.journey_card.specs.promises.Survey.{nothing, gatheredOf, lateOf, meets, statusBy};
-ghost use Rattle.journey_card.specs.promises.Head.{Small, Minus, ReadsTimes, PutsHead, headW};
+ghost use Rattle.journey_card.specs.Promises.Survey.{nothing, gathered_of, late_of, meets, status_by};
+ghost use Rattle.journey_card.specs.Promises.Head.{Small, Minus, ReadsTimes, PutsHead, head_w};
 
 use formats::OptionalSigned;
 use formats_write::Put;
@@ -32,7 +32,7 @@ pub struct Survey {
 }
 
 pub fn begin() -> Survey
-    ensures { gatheredOf result ≡ nothing }
+    ensures { gathered_of result ≡ nothing }
 {
     Survey {
         cancel: false,
@@ -53,7 +53,7 @@ fn zero(d: i32) -> bool
 
 // A nonzero delay of an endpoint that has realtime.
 fn late(r: LegRealtime) -> bool
-    ensures { result ≡ lateOf r }
+    ensures { result ≡ late_of r }
 {
     let d = r.departs;
     let a = r.arrives;
@@ -68,7 +68,7 @@ fn late(r: LegRealtime) -> bool
 
 // A time that is taken, or else what stood there.
 fn taken(b: bool, t: i64, old: OptionalSigned) -> OptionalSigned
-    ensures { givenSigned result ≡ enrich.taken b t (givenSigned old) }
+    ensures { given_signed result ≡ enrich.taken b t (given_signed old) }
 {
     if b {
         return OptionalSigned::Present(t);
@@ -96,7 +96,7 @@ pub fn meet(
     departure: OptionalSigned,
     arrival: OptionalSigned,
 ) -> Survey
-    ensures { gatheredOf result ≡ meets (gatheredOf s) r alert (givenSigned departure) (givenSigned arrival) }
+    ensures { gathered_of result ≡ meets (gathered_of s) r alert (given_signed departure) (given_signed arrival) }
 {
     let d = r.departs;
     let a = r.arrives;
@@ -118,7 +118,7 @@ pub fn meet(
 
 // The first status that holds: CANCELLED 4, DELAYED 3, DISRUPTED 2, ON_TIME 1, SCHEDULED 0.
 pub fn status(s: Survey) -> u64
-    ensures { result ≡ statusBy (gatheredOf s) }
+    ensures { result ≡ status_by (gathered_of s) }
 {
     if s.cancel {
         return 4;
@@ -136,7 +136,7 @@ pub fn status(s: Survey) -> u64
 }
 
 fn given_or(old: i64, o: OptionalSigned) -> i64
-    ensures { result ≡ givenOr old (givenSigned o) }
+    ensures { result ≡ given_or old (given_signed o) }
 {
     match o {
         OptionalSigned::Absent => old,
@@ -184,7 +184,7 @@ fn card_times(card: &[u8], at: usize, g: Survey) -> CardTimes
 
 fn head_of(out: &mut [u8], w: Put, t: CardTimes, duration: i64, status: u64) -> Put
     ensures { Adds out.old w out.new result
-        (headW t.departure t.arrival duration status) }
+        (head_w t.departure t.arrival duration status) }
 {
     let w1 = formats_write::byte(out, w, 1);
     let w2 = formats_write::signed(out, w1, t.departure);

@@ -1,7 +1,7 @@
 // A whole card written anew: its head by the first pass, the headers that it noted, and the legs finished.
 ghost use Rattle.std.specs.Prelude.{◌≤◌, length};
-ghost use Rattle.overlay_noted.specs.promises.Noted.{Noted};
-ghost use Rattle.journey_enrich.specs.promises.Enrich.{HeadersUpTo, HeadersPut, Enriches};
+ghost use Rattle.overlay_noted.specs.Promises.Noted.{Noted};
+ghost use Rattle.journey_enrich.specs.Promises.Enrich.{HeadersUpTo, HeadersPut, Enriches};
 
 use formats_write::Put;
 use journey_card::Survey;

@@ -1,8 +1,8 @@
 // A transit leg finished by look-ups in the overlay b, whose places are noted: its record, its vehicle, and the leg
 // written anew.
-ghost use Rattle.overlay_noted.specs.promises.Noted.{Noted};
-ghost use Rattle.journey_finish.specs.promises.Finish.{LegResolved, RowAt, Looks, LegVehicle, FinishesBy};
-ghost use Rattle.journey_finish.specs.promises.Finish.{Finishes, LegDone, EachDone, LegsDone};
+ghost use Rattle.overlay_noted.specs.Promises.Noted.{Noted};
+ghost use Rattle.journey_finish.specs.Promises.Finish.{LegResolved, RowAt, Looks, LegVehicle, FinishesBy};
+ghost use Rattle.journey_finish.specs.Promises.Finish.{Finishes, LegDone, EachDone, LegsDone};
 
 use formats_write::Put;
 use journey_leg::LegRealtime;

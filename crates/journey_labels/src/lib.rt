@@ -1,8 +1,8 @@
 // The labels of a card's alerts: noted as places in the old overlay's bytes, ascending by what stands there, each once.
 ghost use Rattle.std.specs.Prelude.{◌≤◌, ◌<◌, length, get_or};
-ghost use Rattle.decode.specs.Sizes.{mostOld};
-ghost use Rattle.journey_labels.specs.promises.Labels.{mostLabels, Inside, SoundLabels};
-ghost use Rattle.journey_labels.specs.promises.Labels.{OrderAt, Ranks, StandsAt, LabelNoted};
+ghost use Rattle.decode.specs.Sizes.{most_old};
+ghost use Rattle.journey_labels.specs.Promises.Labels.{most_labels, Inside, SoundLabels};
+ghost use Rattle.journey_labels.specs.Promises.Labels.{OrderAt, Ranks, StandsAt, LabelNoted};
 
 use slices::Order;
 
@@ -68,7 +68,7 @@ pub fn note(
     to: usize,
 ) -> usize
     requires sound_labels { SoundLabels old.now froms.old tos.old n }
-    requires inside { Inside old.now (from, to) × (length old.now ≤ mostOld) × (n ≤ mostLabels) }
+    requires inside { Inside old.now (from, to) × (length old.now ≤ most_old) × (n ≤ most_labels) }
     ensures { LabelNoted old.now froms.old tos.old n (from, to)
         froms.new tos.new result }
 {

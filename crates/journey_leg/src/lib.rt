@@ -1,8 +1,8 @@
 // A transit leg written anew from what look-ups gave: what isn't taken is copied as it stands.
 ghost use Rattle.std.specs.Prelude.{◌≡◌};
-ghost use Rattle.formats_write.specs.promises.Adds.{Adds};
-ghost use Rattle.journey_leg.specs.promises.Leg.{live_of, toldW, PutsTimes, PutsFlag, PutsPlace, PutsMarks};
-ghost use Rattle.journey_leg.specs.promises.Leg.{PutsFore, PutsEvent, PutsMiddle};
+ghost use Rattle.formats_write.specs.Promises.Adds.{Adds};
+ghost use Rattle.journey_leg.specs.Promises.Leg.{live_of, told_w, PutsTimes, PutsFlag, PutsPlace, PutsMarks};
+ghost use Rattle.journey_leg.specs.Promises.Leg.{PutsFore, PutsEvent, PutsMiddle};
 
 use formats::OptionalSigned;
 use formats_write::Put;
@@ -35,7 +35,7 @@ fn wide(d: i32) -> i64
 
 // The times and delays of both endpoints.
 fn told(out: &mut [u8], w: Put, d: StopRealtime, a: StopRealtime) -> Put
-    ensures { Adds out.old w out.new result (toldW d a) }
+    ensures { Adds out.old w out.new result (told_w d a) }
 {
     let w1 = formats_write::optional_signed(out, w, OptionalSigned::Present(d.time));
     let w2 = formats_write::optional_signed(out, w1, OptionalSigned::Present(a.time));

@@ -1,10 +1,10 @@
 // Where the parts of a card and of its legs stand: quick passes, as formats_skip has them over leaves.
 ghost use Rattle.std.specs.Prelude.{◌<◌, length};
 ghost use Rattle.formats.specs.Format.{list};
-ghost use Rattle.formats_read.specs.promises.Fields.{part};
-ghost use Rattle.formats_skip.specs.promises.Passes.{Passes, Leads};
+ghost use Rattle.formats_read.specs.Promises.Fields.{part};
+ghost use Rattle.formats_skip.specs.Promises.Passes.{Passes, Leads};
 ghost use Rattle.journey.specs.Card.{transit, middle, leg};
-ghost use Rattle.journey_places.specs.promises.Places.{StopsAt, LegAt, ChangingAt, CardAt};
+ghost use Rattle.journey_places.specs.Promises.Places.{StopsAt, LegAt, ChangingAt, CardAt};
 
 // Of a leg, from its first stop on: the other stop, the two sequences, the two scheduled times, what was realtime.
 #[derive(Drop)]

@@ -1,7 +1,7 @@
 // The legs of a card written anew: look-ups for their stops, their middle stops one by one, and the leg whole.
-ghost use Rattle.formats_write.specs.promises.Given.{givenNumber};
-ghost use Rattle.journey_stops.specs.promises.Stops.{LooksUp, EventsAt, MiddleEvents, StopAnew, StopsAnew};
-ghost use Rattle.journey_stops.specs.promises.Stops.{ListAnew, LegAnew, EndpointAt, CancelsBy, LegKnown};
+ghost use Rattle.formats_write.specs.Promises.Given.{given_number};
+ghost use Rattle.journey_stops.specs.Promises.Stops.{LooksUp, EventsAt, MiddleEvents, StopAnew, StopsAnew};
+ghost use Rattle.journey_stops.specs.Promises.Stops.{ListAnew, LegAnew, EndpointAt, CancelsBy, LegKnown};
 
 use formats::OptionalNumber;
 use formats_write::Put;
@@ -19,7 +19,7 @@ pub struct StopEvents {
 
 // What is known of a stop, by the record that was found for the leg's trip in the overlay b.
 pub fn known(old: &[u8], row: Found, feed: &[u8], sequence: OptionalNumber, stop: &[u8]) -> Known
-    ensures { LooksUp old.now row feed.now (givenNumber sequence) stop.now result }
+    ensures { LooksUp old.now row feed.now (given_number sequence) stop.now result }
 {
     let Found::At(p) = row else {
         return Known::Nothing;

@@ -1,11 +1,11 @@
 // The first pass over the legs of a card: what decides its head, and the labels of the alerts that apply.
 ghost use Rattle.std.specs.Prelude.{◌≡◌, length};
-ghost use Rattle.overlay_noted.specs.promises.Noted.{Noted};
-ghost use Rattle.journey_labels.specs.promises.Labels.{labelsLength, SoundLabels};
-ghost use Rattle.alerts_apply.specs.promises.Known.{Knows};
-ghost use Rattle.journey_alerts.specs.promises.Places.{mostText, Lent};
-ghost use Rattle.journey_survey.specs.promises.Surveyed.{Surveyed};
-ghost use Rattle.journey_survey.specs.promises.Legs.{MeetsLeg, LegSurveyed, EachSurveyed};
+ghost use Rattle.overlay_noted.specs.Promises.Noted.{Noted};
+ghost use Rattle.journey_labels.specs.Promises.Labels.{labels_length, SoundLabels};
+ghost use Rattle.alerts_apply.specs.Promises.Known.{Knows};
+ghost use Rattle.journey_alerts.specs.Promises.Places.{most_text, Lent};
+ghost use Rattle.journey_survey.specs.Promises.Surveyed.{Surveyed};
+ghost use Rattle.journey_survey.specs.Promises.Legs.{MeetsLeg, LegSurveyed, EachSurveyed};
 
 use journey_card::Survey;
 use journey_leg::LegRealtime;
@@ -43,7 +43,7 @@ fn leg(
 ) -> CardSurvey
     requires noted { Noted old.now noted.now }
     requires lent { Lent old.now candidates.old met.old }
-    requires sound_labels { SoundLabels old.now froms.old tos.old c.labels × Knows mostText old.now known.old }
+    requires sound_labels { SoundLabels old.now froms.old tos.old c.labels × Knows most_text old.now known.old }
     ensures { LegSurveyed card.now at old.now froms.old tos.old c
         froms.new tos.new result known.new }
 {
@@ -80,8 +80,8 @@ fn each_leg(
 ) -> CardSurvey
     requires noted { Noted old.now noted.now }
     requires lent { Lent old.now candidates.old met.old }
-    requires froms_len { (length froms.old ≡ labelsLength) × (length tos.old ≡ labelsLength)
-        × Knows mostText old.now known.old }
+    requires froms_len { (length froms.old ≡ labels_length) × (length tos.old ≡ labels_length)
+        × Knows most_text old.now known.old }
     ensures { EachSurveyed card.now at n old.now froms.new
         tos.new result }
 {
@@ -113,8 +113,8 @@ pub fn survey(
 ) -> CardSurvey
     requires noted { Noted old.now noted.now }
     requires lent { Lent old.now candidates.old met.old }
-    requires froms_len { (length froms.old ≡ labelsLength) × (length tos.old ≡ labelsLength)
-        × Knows mostText old.now known.old }
+    requires froms_len { (length froms.old ≡ labels_length) × (length tos.old ≡ labels_length)
+        × Knows most_text old.now known.old }
     ensures { Surveyed card.now at old.now froms.new tos.new result }
 {
     let n = formats_read::number(card, at);

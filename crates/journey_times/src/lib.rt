@@ -2,12 +2,12 @@
 ghost use Rattle.std.specs.Prelude.{◌≡◌, false, ◌<◌};
 ghost use Rattle.std.proofs.Common.{inl};
 ghost use Rattle.std.specs.Int.Signed.{mag};
-ghost use Rattle.basics.specs.Options.{orOther};
-ghost use Rattle.formats_write.specs.promises.Given.{givenSigned};
+ghost use Rattle.basics.specs.Options.{or_other};
+ghost use Rattle.formats_write.specs.Promises.Given.{given_signed};
 ghost use Rattle.journey.specs.Times as times;
-ghost use Rattle.journey_times.specs.promises.Realtime.{realtimeOf, givenDelay, eventBy, Schedules};
-ghost use Rattle.journey_times.specs.promises.Realtime.{ReadsDelay, ReadsEvent, PastEvent, Cancels};
-ghost use Rattle.journey_times.specs.promises.Realtime.{ByTrip, ByUpdate, Applies};
+ghost use Rattle.journey_times.specs.Promises.Realtime.{realtime_of, given_delay, event_by, Schedules};
+ghost use Rattle.journey_times.specs.Promises.Realtime.{ReadsDelay, ReadsEvent, PastEvent, Cancels};
+ghost use Rattle.journey_times.specs.Promises.Realtime.{ByTrip, ByUpdate, Applies};
 
 use formats::OptionalSigned;
 
@@ -49,7 +49,7 @@ struct EventTimes {
 // A delay applies, or else 0; `told` where there is realtime without one.
 fn delayed(at: i64, told: bool, d: OptionalDelay) -> StopRealtime
     requires { mag at < 4611686018427387904 }
-    ensures { realtimeOf result ≡ times.delayed at told (givenDelay d) }
+    ensures { realtime_of result ≡ times.delayed at told (given_delay d) }
 {
     match d {
         OptionalDelay::Absent => StopRealtime {
@@ -67,7 +67,7 @@ fn delayed(at: i64, told: bool, d: OptionalDelay) -> StopRealtime
 
 // An absolute time beats any delay: the delay is the difference, wrapped to 32 bits.
 fn timed(at: i64, t: OptionalSigned, r: StopRealtime) -> StopRealtime
-    ensures { realtimeOf result ≡ times.timed at (givenSigned t) (realtimeOf r) }
+    ensures { realtime_of result ≡ times.timed at (given_signed t) (realtime_of r) }
 {
     match t {
         OptionalSigned::Absent => r,
@@ -81,7 +81,7 @@ fn timed(at: i64, t: OptionalSigned, r: StopRealtime) -> StopRealtime
 
 // Of two optional values the first that is given.
 fn first_delay(a: OptionalDelay, b: OptionalDelay) -> OptionalDelay
-    ensures { givenDelay result ≡ orOther (givenDelay a) (givenDelay b) }
+    ensures { given_delay result ≡ or_other (given_delay a) (given_delay b) }
 {
     match a {
         OptionalDelay::Absent => b,
@@ -90,7 +90,7 @@ fn first_delay(a: OptionalDelay, b: OptionalDelay) -> OptionalDelay
 }
 
 fn first_time(a: OptionalSigned, b: OptionalSigned) -> OptionalSigned
-    ensures { givenSigned result ≡ orOther (givenSigned a) (givenSigned b) }
+    ensures { given_signed result ≡ or_other (given_signed a) (given_signed b) }
 {
     match a {
         OptionalSigned::Absent => b,
@@ -101,7 +101,7 @@ fn first_time(a: OptionalSigned, b: OptionalSigned) -> OptionalSigned
 // An event by what is told of it, of the stop's other event, and of the trip.
 fn event_by(at: i64, own: EventTimes, other: EventTimes, trip: OptionalDelay) -> StopRealtime
     requires { mag at < 4611686018427387904 }
-    ensures { realtimeOf result ≡ eventBy at own other trip }
+    ensures { realtime_of result ≡ event_by at own other trip }
 {
     let time = own.time;
     let delay = own.delay;
@@ -160,7 +160,7 @@ pub fn scheduled(s: &[u8], at: usize) -> i64
 // An event at the time `at` where no record is found.
 fn untold(at: i64) -> StopRealtime
     requires { mag at < 4611686018427387904 }
-    ensures { realtimeOf result ≡ times.delayed at false (inl tt) }
+    ensures { realtime_of result ≡ times.delayed at false (inl tt) }
 {
     delayed(at, false, OptionalDelay::Absent)
 }

@@ -1,4 +1,4 @@
 pub mod Map
 pub mod Order
-pub mod laws
-pub mod promises
+pub mod Laws
+pub mod Promises

@@ -8,10 +8,10 @@ use Rattle.slices.specs.declared.Order.TheVariants.{Less, Same, More}
 pub record Ordered (K : Type 0) : Type 0 where
   pub compare : K → K → Order
 
-abbrev pub isLess : Order → Bool
-isLess Less = true
-isLess Same = false
-isLess More = false
+abbrev pub is_less : Order → Bool
+is_less Less = true
+is_less Same = false
+is_less More = false
 
 -- by an order: one of three
 abbrev pub by_order : {A : Type 0} → Order → A → A → A → A
@@ -38,13 +38,13 @@ module _ {K : Type 0} (O : Ordered K) {A : Type 0} where
   -- the keys ascend from above k; they ascend
   abbrev pub above : K → List (K × A) → Bool
   above k [] = true
-  above k (e ∷ m) = isLess (O.compare k e.0) && above e.0 m
+  above k (e ∷ m) = is_less (O.compare k e.0) && above e.0 m
 
   abbrev pub ascending : List (K × A) → Bool
   ascending [] = true
   ascending (e ∷ m) = above e.0 m
 
 -- a map with each value by what it stands for
-abbrev pub mapValues : {K A B : Type 0} → (A → B) → List (K × A) → List (K × B)
-mapValues f [] = []
-mapValues f (e ∷ m) = (e.0, f e.1) ∷ mapValues f m
+abbrev pub map_values : {K A B : Type 0} → (A → B) → List (K × A) → List (K × B)
+map_values f [] = []
+map_values f (e ∷ m) = (e.0, f e.1) ∷ map_values f m

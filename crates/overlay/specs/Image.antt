@@ -18,10 +18,10 @@ unfoldable pub room : ℕ → State → Bool
 room n s = leb (length (write overlay s)) n
 
 -- what is read from a buffer, where zeros alone follow and it is valid
-abbrev pub heldState : Option (State × List ℕ) → Option State
-heldState none = none
-heldState (some p) = cond (all (eqb 0) p.1 && valid p.0) (some p.0) none
+abbrev pub held_state : Option (State × List ℕ) → Option State
+held_state none = none
+held_state (some p) = cond (all (eqb 0) p.1 && valid p.0) (some p.0) none
 
 -- THE STATE OF A BUFFER: none where the buffer is no overlay
 unfoldable pub state_of : List ℕ → Option State
-state_of b = heldState (read overlay b)
+state_of b = held_state (read overlay b)

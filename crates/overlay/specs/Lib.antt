@@ -6,4 +6,4 @@ pub mod Lookup
 pub mod Change
 pub mod Report
 pub mod Buffer
-pub mod laws
+pub mod Laws

@@ -6,7 +6,7 @@ use Rattle.maps.specs.Map.{get}
 use Rattle.maps.specs.Order.{texts}
 use Rattle.decode.specs.Leaves.{Trips}
 use Rattle.alerts.specs.Alert.{Alert}
-use Rattle.overlay.specs.State.{Vehicles, Feed, State, tripsOf, vehiclesOf, alertsOf, feedsOf}
+use Rattle.overlay.specs.State.{Vehicles, Feed, State, trips_of, vehicles_of, alerts_of, feeds_of}
 
 pub record Records : Type 0 where
   pub trips : Trips
@@ -17,8 +17,8 @@ pub record Records : Type 0 where
 abbrev pub Feeds : Type 0
 Feeds = List ℕ → Option Records
 
-abbrev pub recordsOf : Feed → Records
-recordsOf F = record { trips = tripsOf F; vehicles = vehiclesOf F; alerts = alertsOf F }
+abbrev pub records_of : Feed → Records
+records_of F = record { trips = trips_of F; vehicles = vehicles_of F; alerts = alerts_of F }
 
 unfoldable pub shown : State → Feeds
-shown s f = map recordsOf (get texts f (feedsOf s))
+shown s f = map records_of (get texts f (feeds_of s))

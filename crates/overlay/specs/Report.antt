@@ -3,10 +3,10 @@
 -- (its 64 bits).
 use Rattle.std.specs.Prelude.{ℕ, suc, ◌-◌, ◌^◌, List, ◌∷◌, ◌++◌, ℤ, pos, negsuc}
 use Rattle.std.proofs.Common.{inl, inr}
-use Rattle.formats.specs.Number.{littleW}
+use Rattle.formats.specs.Number.{little_w}
 use Rattle.basics.specs.Options.{Maybe}
-use Rattle.overlay.specs.State.{State, versionOf, timestampOf, count_of}
-use Rattle.overlay.specs.Change.{feedAt}
+use Rattle.overlay.specs.State.{State, version_of, timestamp_of, count_of}
+use Rattle.overlay.specs.Change.{feed_at}
 
 -- the 64 bits of a signed number
 abbrev pub bits64 : ℤ → ℕ
@@ -14,9 +14,9 @@ bits64 (pos n) = n
 bits64 (negsuc n) = 2 ^ 64 - suc n
 
 abbrev pub stamped : Maybe ℤ → List ℕ
-stamped (inl x) = 0 ∷ littleW 8 0
-stamped (inr z) = 1 ∷ littleW 8 (bits64 z)
+stamped (inl x) = 0 ∷ little_w 8 0
+stamped (inr z) = 1 ∷ little_w 8 (bits64 z)
 
 -- an unknown feed gives 0 and absent
 unfoldable pub report : List ℕ → State → List ℕ
-report f s = littleW 8 (versionOf s) ++ (littleW 8 (count_of (feedAt f s)) ++ stamped (timestampOf (feedAt f s)))
+report f s = little_w 8 (version_of s) ++ (little_w 8 (count_of (feed_at f s)) ++ stamped (timestamp_of (feed_at f s)))

@@ -1,9 +1,9 @@
 // Whether the keys of a vehicle sheet ascend: its form asks for that.
 ghost use Rattle.std.specs.Prelude.{◌≡◌, ◌≤◌, length};
 ghost use Rattle.std.proofs.Math.Seq.{slice};
-ghost use Rattle.slices.specs.Lists.{lexOf};
-ghost use Rattle.maps.specs.Map.{isLess};
-ghost use Rattle.overlay_ascends.specs.promises.Ascends.{Ascends};
+ghost use Rattle.slices.specs.Lists.{lex_of};
+ghost use Rattle.maps.specs.Map.{is_less};
+ghost use Rattle.overlay_ascends.specs.Promises.Ascends.{Ascends};
 
 use slices::Order;
 
@@ -11,7 +11,7 @@ use slices::Order;
 fn precedes(sheet: &[u8], a: usize, e: usize, b: usize, f: usize) -> bool
     requires a_le_e { (a ≤ e) × (e ≤ length sheet.now) }
     requires b_le_f { (b ≤ f) × (f ≤ length sheet.now) }
-    ensures { result ≡ isLess (lexOf (slice a e sheet.now) (slice b f sheet.now)) }
+    ensures { result ≡ is_less (lex_of (slice a e sheet.now) (slice b f sheet.now)) }
 {
     match slices::compare(&sheet[a..e], &sheet[b..f]) {
         Order::Less => true,

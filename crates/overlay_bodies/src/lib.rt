@@ -4,13 +4,13 @@ ghost use Rattle.maps.specs.Map.{puts};
 ghost use Rattle.maps.specs.Order.{texts};
 ghost use Rattle.formats.specs.Number.{zag};
 ghost use Rattle.formats.specs.Format.{write};
-ghost use Rattle.formats_write.specs.promises.Adds.{Adds};
+ghost use Rattle.formats_write.specs.Promises.Adds.{Adds};
 ghost use Rattle.alerts.specs.Alert.{Alert};
-ghost use Rattle.overlay.specs.State.{Feed, Vehicles, feed, vehiclesOf};
-ghost use Rattle.overlay.specs.Change.{withoutStale};
-ghost use Rattle.overlay_feeds.specs.promises.Parts.{PartsOf};
-ghost use Rattle.overlay_bodies.specs.promises.Bodies.{AlertsIn, Left, VehiclesIn};
-ghost use Rattle.overlay_bodies.specs.promises.Bodies.{withAlerts, withVehicles, frontW, Lists};
+ghost use Rattle.overlay.specs.State.{Feed, Vehicles, feed, vehicles_of};
+ghost use Rattle.overlay.specs.Change.{without_stale};
+ghost use Rattle.overlay_feeds.specs.Promises.Parts.{PartsOf};
+ghost use Rattle.overlay_bodies.specs.Promises.Bodies.{AlertsIn, Left, VehiclesIn};
+ghost use Rattle.overlay_bodies.specs.Promises.Bodies.{with_alerts, with_vehicles, front_w, Lists};
 
 use formats_write::Put;
 use overlay_feeds::Parts;
@@ -19,7 +19,7 @@ use overlay_feeds::Parts;
 pub fn alerts_over(out: &mut [u8], w: Put, old: &[u8], body: usize, p: Parts, sheet: &[u8]) -> Put
     ensures { (vs : List Alert) (F : Feed) (e : ℕ) → AlertsIn sheet.now vs
         → PartsOf old.now F body e p
-        → Adds out.old w out.new result (write feed (withAlerts F vs)) }
+        → Adds out.old w out.new result (write feed (with_alerts F vs)) }
 {
     let w1 = formats_write::stretch(out, w, old, body, p.alerts);
     let n = sheet.len();
@@ -56,7 +56,7 @@ fn write_left(
 // Timestamp, count of all keys and trips of a feed that stands from `body` on.
 fn write_front(out: &mut [u8], w: Put, old: &[u8], body: usize, p: Parts) -> Put
     ensures { (F : Feed) (e : ℕ) → PartsOf old.now F body e p
-        → Adds out.old w out.new result (frontW F) }
+        → Adds out.old w out.new result (front_w F) }
 {
     let w1 = formats_write::stretch(out, w, old, body, p.counted);
     let n = formats_read::number(old, p.trips);
@@ -77,10 +77,10 @@ pub fn vehicles_over(
 ) -> Put
     ensures { (F : Feed) (e : ℕ) (xs : Vehicles) (clock : ℤ) → zag limit ≡ clock -ℤ pos 900
         → PartsOf old.now F body e p
-        → VehiclesIn sheet.now old.now p.vehicles xs (vehiclesOf F)
-        → kept ≡ length (withoutStale clock (puts texts xs (vehiclesOf F)))
+        → VehiclesIn sheet.now old.now p.vehicles xs (vehicles_of F)
+        → kept ≡ length (without_stale clock (puts texts xs (vehicles_of F)))
         → Adds out.old w out.new result
-        (write feed (withVehicles F (withoutStale clock (puts texts xs (vehiclesOf F))))) }
+        (write feed (with_vehicles F (without_stale clock (puts texts xs (vehicles_of F))))) }
 {
     let w1 = write_front(out, w, old, body, p);
     let w2 = write_left(out, w1, kept, sheet, old, p.vehicles, limit);

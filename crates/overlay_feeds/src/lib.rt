@@ -1,7 +1,7 @@
 // Where the parts of an overlay stand: its version, its feeds, one of them by its id, and a feed's parts.
-ghost use Rattle.overlay_feeds.specs.promises.Head.{ReadsHead};
-ghost use Rattle.overlay_feeds.specs.promises.Parts.{ReadsFront, ReadsBack, ReadsParts};
-ghost use Rattle.overlay_feeds.specs.promises.Place.{Compares, FindsFeed};
+ghost use Rattle.overlay_feeds.specs.Promises.Head.{ReadsHead};
+ghost use Rattle.overlay_feeds.specs.Promises.Parts.{ReadsFront, ReadsBack, ReadsParts};
+ghost use Rattle.overlay_feeds.specs.Promises.Place.{Compares, FindsFeed};
 
 use formats::OptionalSigned;
 use slices::Order;

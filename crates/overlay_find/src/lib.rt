@@ -1,13 +1,13 @@
 // Look-ups among the noted trips of a feed, by the places of what they find.
 ghost use Rattle.maps.specs.Map.{get};
 ghost use Rattle.maps.specs.Order.{texts};
-ghost use Rattle.formats_write.specs.promises.Given.{givenNumber};
-ghost use Rattle.decode.specs.Trip.{tripEntry};
-ghost use Rattle.overlay.specs.Lookup.{trip-at, get-trip, find-trip-by-descriptor};
-ghost use Rattle.overlay_noted.specs.promises.Noted.{RankNoted};
-ghost use Rattle.overlay_seek.specs.promises.Answers.{Tests};
-ghost use Rattle.overlay_find.specs.promises.Finds.{Finds};
-ghost use Rattle.overlay_find.specs.promises.Texts.{RouteIs, DirectionIs, Described, descriptorTest};
+ghost use Rattle.formats_write.specs.Promises.Given.{given_number};
+ghost use Rattle.decode.specs.Trip.{trip_entry};
+ghost use Rattle.overlay.specs.Lookup.{trip_at, get_trip, find_trip_by_descriptor};
+ghost use Rattle.overlay_noted.specs.Promises.Noted.{RankNoted};
+ghost use Rattle.overlay_seek.specs.Promises.Answers.{Tests};
+ghost use Rattle.overlay_find.specs.Promises.Finds.{Finds};
+ghost use Rattle.overlay_find.specs.Promises.Texts.{RouteIs, DirectionIs, Described, descriptor_test};
 
 use formats::{OptionalNumber, Span};
 use overlay_ids::Place;
@@ -40,7 +40,7 @@ fn rest_at(old: &[u8], noted: &[u32], r: usize, rest: &[u8]) -> Found
 // The record at a whole key, among the trips of the feed at rank r.
 fn trip_at(old: &[u8], noted: &[u32], r: usize, feed: &[u8], key: &[u8]) -> Found
     requires { RankNoted old.now noted.now r }
-    ensures { Finds (trip-at feed.now key.now) old.now noted.now r result }
+    ensures { Finds (trip_at feed.now key.now) old.now noted.now r result }
 {
     let n = feed.len();
     if key.len() <= n {
@@ -59,7 +59,7 @@ fn trip_at(old: &[u8], noted: &[u32], r: usize, feed: &[u8], key: &[u8]) -> Foun
 // By the whole key, else without what follows its last '@'.
 pub fn get_trip(old: &[u8], noted: &[u32], r: usize, feed: &[u8], key: &[u8]) -> Found
     requires { RankNoted old.now noted.now r }
-    ensures { Finds (get-trip feed.now key.now) old.now noted.now r result }
+    ensures { Finds (get_trip feed.now key.now) old.now noted.now r result }
 {
     match trip_at(old, noted, r, feed, key) {
         Found::At(p) => Found::At(p),
@@ -124,8 +124,8 @@ fn descriptor_is(
     direction: OptionalNumber,
     date: &[u8],
 ) -> bool
-    ensures { Tests tripEntry
-        (descriptorTest feed.now leg.now direction date.now)
+    ensures { Tests trip_entry
+        (descriptor_test feed.now leg.now direction date.now)
         old.now at result }
 {
     let p = formats_skip::past_text(old, at);
@@ -145,7 +145,7 @@ pub fn by_descriptor(
 ) -> Found
     requires { RankNoted old.now noted.now r }
     ensures { Finds
-        (find-trip-by-descriptor feed.now leg.now (givenNumber direction) date.now)
+        (find_trip_by_descriptor feed.now leg.now (given_number direction) date.now)
         old.now noted.now r result }
 {
     let n = overlay_places::trip_count(noted, r);

@@ -1,9 +1,9 @@
 // An overlay written anew with one feed put: where that feed's body goes, what stands before it, and what follows it.
 ghost use Rattle.std.specs.Prelude.{◌≡◌, cond, List, ℕ};
-ghost use Rattle.formats_write.specs.promises.Adds.{Adds};
+ghost use Rattle.formats_write.specs.Promises.Adds.{Adds};
 ghost use Rattle.overlay.specs.State.{State};
-ghost use Rattle.overlay_frame.specs.promises.Body.{FindsSpot};
-ghost use Rattle.overlay_frame.specs.promises.Frame.{Spot, headW, openingW, closingW};
+ghost use Rattle.overlay_frame.specs.Promises.Body.{FindsSpot};
+ghost use Rattle.overlay_frame.specs.Promises.Frame.{Spot, head_w, opening_w, closing_w};
 
 use formats_write::Put;
 use overlay_feeds::FeedPlace;
@@ -50,7 +50,7 @@ pub fn behind(known: bool, stop: usize, from: usize) -> usize
 
 // The overlay's first byte, its version and its number of feeds.
 fn head(out: &mut [u8], w: Put, version: u64, count: u64) -> Put
-    ensures { Adds out.old w out.new result (headW version count) }
+    ensures { Adds out.old w out.new result (head_w version count) }
 {
     let w1 = formats_write::byte(out, w, 1);
     let w2 = formats_write::number(out, w1, version);
@@ -68,7 +68,7 @@ pub fn opening(
     feed: &[u8],
 ) -> Put
     ensures { (q : ℕ) (s : State) (to : ℕ) (S : Spot old.now q s feed.now from to count)
-        → Adds out.old w out.new result (openingW version count S.front feed.now) }
+        → Adds out.old w out.new result (opening_w version count S.front feed.now) }
 {
     let first = overlay_feeds::read_head(old).first;
     let w1 = head(out, w, version, count);
@@ -80,7 +80,7 @@ pub fn opening(
 // What follows the body: the feeds from `to` up to the end of the state.
 pub fn closing(out: &mut [u8], w: Put, old: &[u8], to: usize, end: usize) -> Put
     ensures { (s : State) (f : List ℕ) (from count : ℕ) (S : Spot old.now end s f from to count)
-        → Adds out.old w out.new result (closingW S.back) }
+        → Adds out.old w out.new result (closing_w S.back) }
 {
     formats_write::stretch(out, w, old, to, end)
 }

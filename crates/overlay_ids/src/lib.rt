@@ -1,7 +1,7 @@
 // Ids compared where they stand: a feed's prefix, a key's last '@', and `feed:id` without joining it.
 ghost use Rattle.std.specs.Prelude.{◌<◌, length};
-ghost use Rattle.overlay_ids.specs.promises.Ids.{FeedEnd, LastAt, IsJoined, EndsColon, EndsJoined};
-ghost use Rattle.overlay_ids.specs.promises.Ids.{RouteFits, StopFits};
+ghost use Rattle.overlay_ids.specs.Promises.Ids.{FeedEnd, LastAt, IsJoined, EndsColon, EndsJoined};
+ghost use Rattle.overlay_ids.specs.Promises.Ids.{RouteFits, StopFits};
 
 // Where something stands.
 #[derive(Drop)]

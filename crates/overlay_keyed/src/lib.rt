@@ -2,20 +2,20 @@
 ghost use Rattle.std.specs.Prelude.{◌≡◌, ◌≤◌, length};
 ghost use Rattle.formats.specs.Class.{printable};
 ghost use Rattle.formats.specs.Format.{list};
-ghost use Rattle.formats_check.specs.promises.Checked.{Tested};
-ghost use Rattle.formats_check.specs.laws.Climbing.{Climbs, Entered, byKey};
-ghost use Rattle.decode.specs.Leaves.{hasByte};
-ghost use Rattle.decode.specs.Sizes.{mostTrips};
-ghost use Rattle.decode.specs.Trip.{tripEntry};
-ghost use Rattle.overlay_noted.specs.promises.Noting.{Unless, EntriesPut, TripsPut};
-ghost use Rattle.overlay_keys.specs.promises.Piece.{bytes, Inside};
-ghost use Rattle.overlay_keyed.specs.promises.Trips.{entryGood, plain, isCount, tripsGood};
+ghost use Rattle.formats_check.specs.Promises.Checked.{Tested};
+ghost use Rattle.formats_check.specs.Laws.Climbing.{Climbs, Entered, by_key};
+ghost use Rattle.decode.specs.Leaves.{has_byte};
+ghost use Rattle.decode.specs.Sizes.{most_trips};
+ghost use Rattle.decode.specs.Trip.{trip_entry};
+ghost use Rattle.overlay_noted.specs.Promises.Noting.{Unless, EntriesPut, TripsPut};
+ghost use Rattle.overlay_keys.specs.Promises.Piece.{bytes, Inside};
+ghost use Rattle.overlay_keyed.specs.Promises.Trips.{entry_good, plain, is_count, trips_good};
 
 use formats::{Numeral, Skip};
 use formats_check::{CheckedText, Entry};
 
 fn has_at(v: &[u8]) -> bool
-    ensures { result ≡ hasByte 64 v.now }
+    ensures { result ≡ has_byte 64 v.now }
 {
     let mut i = 0;
     while i < v.len() {
@@ -29,7 +29,7 @@ fn has_at(v: &[u8]) -> bool
 
 // What the key from a up to e adds to the count. `marked`: the feed's id has an '@', and so every key.
 fn adds(marked: bool, feed: &[u8], old: &[u8], a: usize, e: usize) -> u64
-    requires marked_value { marked ≡ hasByte 64 feed.now }
+    requires marked_value { marked ≡ has_byte 64 feed.now }
     requires inside { Inside old.now a e }
     ensures { (result ≡ plain feed.now (bytes old.now a e)) × (result ≤ 1) }
 {
@@ -43,7 +43,7 @@ fn adds(marked: bool, feed: &[u8], old: &[u8], a: usize, e: usize) -> u64
 }
 
 fn trip_entry(feed: &[u8], old: &[u8], at: usize) -> Entry
-    ensures { Entered 137 printable (entryGood feed.now) old.now at result }
+    ensures { Entered 137 printable (entry_good feed.now) old.now at result }
 {
     let CheckedText::At(a, e) = formats_check::printable_at(137, old, at) else {
         return Entry::No;
@@ -69,11 +69,11 @@ fn trips_from(
     noted: &mut [u32],
     base: usize,
 ) -> Skip
-    requires marked_value { marked ≡ hasByte 64 feed.now }
+    requires marked_value { marked ≡ has_byte 64 feed.now }
     requires at_in_bounds { at ≤ length old.now }
-    requires base_bound { (base ≤ 6144) × (n ≤ mostTrips) }
-    ensures climbs { Climbs 137 printable (entryGood feed.now) (byKey (plain feed.now))
-        (isCount c n) n old.now at result }
+    requires base_bound { (base ≤ 6144) × (n ≤ most_trips) }
+    ensures climbs { Climbs 137 printable (entry_good feed.now) (by_key (plain feed.now))
+        (is_count c n) n old.now at result }
     ensures unless { Unless result Skip.Broken (EntriesPut old.now at n base noted.old
         noted.new) }
 {
@@ -112,7 +112,7 @@ fn trips_from(
 // The trips of the feed whose count is c. Their places are noted from `base` on.
 pub fn trips(c: u64, feed: &[u8], old: &[u8], at: usize, noted: &mut [u32], base: usize) -> Skip
     requires { base ≤ 6144 }
-    ensures tested { Tested (list 2048 tripEntry) (tripsGood feed.now c) old.now at result }
+    ensures tested { Tested (list 2048 trip_entry) (trips_good feed.now c) old.now at result }
     ensures unless { Unless result Skip.Broken (TripsPut old.now at base noted.old
         noted.new) }
 {

@@ -1,9 +1,9 @@
 // Whether a key is one of the trip record behind it. No key is built: its pieces are compared where they stand.
 ghost use Rattle.std.specs.Prelude.{[], ◌∷◌};
-ghost use Rattle.decode.specs.Key.{decimalOf};
-ghost use Rattle.overlay_keys.specs.promises.Piece.{Inside, Piece};
-ghost use Rattle.overlay_keys.specs.promises.Keys.{Direction, Route, Head, Tail, Matches};
-ghost use Rattle.overlay_keys.specs.promises.Keys.{Incomplete, Dated, Longer, Keys};
+ghost use Rattle.decode.specs.Key.{decimal_of};
+ghost use Rattle.overlay_keys.specs.Promises.Piece.{Inside, Piece};
+ghost use Rattle.overlay_keys.specs.Promises.Keys.{Direction, Route, Head, Tail, Matches};
+ghost use Rattle.overlay_keys.specs.Promises.Keys.{Incomplete, Dated, Longer, Keys};
 
 use formats::{Numeral, Skip};
 use formats_check::{CheckedText, at_most, number_at, printable_at};
@@ -39,7 +39,7 @@ fn piece(x: &[u8], old: &[u8], at: usize, e: usize) -> Skip
 // n in decimal, at most k digits.
 fn decimal(k: u32, n: u64, old: &[u8], at: usize, e: usize) -> Skip
     requires { Inside old.now at e }
-    ensures { Piece (decimalOf k n) old.now at e result }
+    ensures { Piece (decimal_of k n) old.now at e result }
 {
     if k == 0 {
         return Skip::At(at);

@@ -4,9 +4,9 @@ ghost use Rattle.std.specs.Prelude.{◌≡◌, cond, ◌+◌, ◌≤◌, ◌<◌
 ghost use Rattle.std.proofs.Math.Seq.{slice};
 ghost use Rattle.std.specs.Int.Signed.{non_neg};
 ghost use Rattle.formats.specs.Number.{zag};
-ghost use Rattle.overlay_merge.specs.promises.Entry.{ReadsEntry};
-ghost use Rattle.overlay_merge.specs.promises.Merge.{first_of, Fresh, Turned, Counts};
-ghost use Rattle.overlay_merge.specs.promises.Writes.{PutsEntry, Writes};
+ghost use Rattle.overlay_merge.specs.Promises.Entry.{ReadsEntry};
+ghost use Rattle.overlay_merge.specs.Promises.Merge.{first_of, Fresh, Turned, Counts};
+ghost use Rattle.overlay_merge.specs.Promises.Writes.{PutsEntry, Writes};
 
 use formats_write::Put;
 use slices::Order;

@@ -4,28 +4,28 @@ ghost use Rattle.std.specs.Prelude.{◌≡◌, ℕ, ◌≤◌, length};
 ghost use Rattle.std.proofs.Math.Option.{some};
 ghost use Rattle.formats.specs.Number.{zig};
 ghost use Rattle.formats.specs.Format.{write};
-ghost use Rattle.formats_write.specs.promises.Adds.{Adds, Wrote};
-ghost use Rattle.formats_write.specs.promises.Given.{givenSigned, optionalW};
+ghost use Rattle.formats_write.specs.Promises.Adds.{Adds, Wrote};
+ghost use Rattle.formats_write.specs.Promises.Given.{given_signed, optional_w};
 ghost use Rattle.realtime.specs.Tree.{Tree, tree};
-ghost use Rattle.realtime.specs.Schema.{feedMessage};
+ghost use Rattle.realtime.specs.Schema.{feed_message};
 ghost use Rattle.realtime.specs.Schema as schema;
 ghost use Rattle.realtime.specs.Typed.{int64};
-ghost use Rattle.realtime_views.specs.promises.Views.{viewTimestamp};
-ghost use Rattle.decode.specs.Sizes.{mostFeed, mostMessage, mostOld};
+ghost use Rattle.realtime_views.specs.Promises.Views.{view_timestamp};
+ghost use Rattle.decode.specs.Sizes.{most_feed, most_message, most_old};
 ghost use Rattle.decode_slots.specs.Index.{index};
 ghost use Rattle.decode_slots.specs.Places.{held};
-ghost use Rattle.decode_slots.specs.promises.Index.{Lent};
-ghost use Rattle.decode_index.specs.promises.Message.{JudgedMessage};
-ghost use Rattle.decode_write.specs.promises.Slots.{Writable};
-ghost use Rattle.decode_write.specs.promises.Written.{signedW};
-ghost use Rattle.overlay.specs.Change.{putFeed};
-ghost use Rattle.overlay.specs.State.{Feed, State, alertsOf, feedWith, overlay, vehiclesOf, versionOf};
+ghost use Rattle.decode_slots.specs.Promises.Index.{Lent};
+ghost use Rattle.decode_index.specs.Promises.Message.{JudgedMessage};
+ghost use Rattle.decode_write.specs.Promises.Slots.{Writable};
+ghost use Rattle.decode_write.specs.Promises.Written.{signed_w};
+ghost use Rattle.overlay.specs.Change.{put_feed};
+ghost use Rattle.overlay.specs.State.{Feed, State, alerts_of, feed_with, overlay, vehicles_of, version_of};
 ghost use Rattle.overlay.specs.State as state;
-ghost use Rattle.overlay_feeds.specs.promises.Parts.{PartsOf};
-ghost use Rattle.overlay_frame.specs.promises.Frame.{Spot};
-ghost use Rattle.overlay_open.specs.promises.Held.{Open};
-ghost use Rattle.overlay_message.specs.promises.Message.{Leads, Ready};
-ghost use Rattle.overlay_message.specs.promises.Message.{feedAfter, timestampAfter};
+ghost use Rattle.overlay_feeds.specs.Promises.Parts.{PartsOf};
+ghost use Rattle.overlay_frame.specs.Promises.Frame.{Spot};
+ghost use Rattle.overlay_open.specs.Promises.Held.{Open};
+ghost use Rattle.overlay_message.specs.Promises.Message.{Leads, Ready};
+ghost use Rattle.overlay_message.specs.Promises.Message.{feed_after, timestamp_after};
 
 use decode_index::Left;
 use formats::OptionalSigned;
@@ -47,7 +47,7 @@ fn signed_code(n: u64) -> u64
 // The message's timestamp, else the old one.
 fn put_timestamp(out: &mut [u8], w: Put, given: Timestamp, known: OptionalSigned) -> Put
     ensures { Adds out.old w out.new result
-        (optionalW signedW (timestampAfter (viewTimestamp given) (givenSigned known))) }
+        (optional_w signed_w (timestamp_after (view_timestamp given) (given_signed known))) }
 {
     match given {
         Timestamp::Given(n) => {
@@ -73,13 +73,13 @@ fn write_body(
     home: &[u8],
     p: Parts,
 ) -> Put
-    requires message_len_bound { length message.now ≤ mostMessage }
+    requires message_len_bound { length message.now ≤ most_message }
     requires writable { Writable message.now home.now keys.now marks.now order.now n }
     ensures { (F : Feed) (a e : ℕ) → PartsOf home.now F a e p
-        → Adds out.old w out.new result (write state.feed (feedWith
-        (timestampAfter (viewTimestamp given) (givenSigned known)) count
+        → Adds out.old w out.new result (write state.feed (feed_with
+        (timestamp_after (view_timestamp given) (given_signed known)) count
         (held message.now home.now (index keys.now marks.now
-        order.now n)) (vehiclesOf F) (alertsOf F))) }
+        order.now n)) (vehicles_of F) (alerts_of F))) }
 {
     let w1 = put_timestamp(out, w, given, known);
     let w2 = formats_write::number(out, w1, count);
@@ -100,11 +100,11 @@ fn write_feed(
     home: &[u8],
     p: Parts,
 ) -> Put
-    requires message_len_bound { length message.now ≤ mostMessage }
+    requires message_len_bound { length message.now ≤ most_message }
     requires writable { Writable message.now home.now keys.now marks.now order.now n }
     ensures { (F : Feed) (a e : ℕ) (t : Tree) → PartsOf home.now F a e p
-        → tree schema.feed feedMessage message.now ≡ some t
-        → Adds out.old w out.new result (write state.feed (feedAfter feed.now t F
+        → tree schema.feed feed_message message.now ≡ some t
+        → Adds out.old w out.new result (write state.feed (feed_after feed.now t F
         (held message.now home.now (index keys.now marks.now
         order.now n)))) }
 {
@@ -134,15 +134,15 @@ fn write_state(
     to: usize,
     count: u64,
 ) -> Put
-    requires message_len_bound { length message.now ≤ mostMessage }
+    requires message_len_bound { length message.now ≤ most_message }
     requires writable { Writable message.now home.now keys.now marks.now order.now n }
     ensures { (st : State) (F : Feed) (a e : ℕ) (t : Tree)
         → Spot old.now end st feed.now from to count → PartsOf home.now F a e p
-        → tree schema.feed feedMessage message.now ≡ some t
-        → Wrote new.old new.new result (write overlay (putFeed feed.now
-        (feedAfter feed.now t F
+        → tree schema.feed feed_message message.now ≡ some t
+        → Wrote new.old new.new result (write overlay (put_feed feed.now
+        (feed_after feed.now t F
         (held message.now home.now (index keys.now marks.now
-        order.now n))) (versionOf st) st)) }
+        order.now n))) (version_of st) st)) }
 {
     let version = overlay_feeds::read_head(old).version;
     let w1 = overlay_frame::opening(new, Put::At(0), version, count, old, from, feed);
@@ -168,7 +168,7 @@ fn change(
     body: usize,
 ) -> Put
     requires lent { Lent keys.old marks.old order.old }
-    requires feed_len_bound { (length feed.now ≤ mostFeed) × (length message.now ≤ mostMessage) }
+    requires feed_len_bound { (length feed.now ≤ most_feed) × (length message.now ≤ most_message) }
     requires judged_message { JudgedMessage message.now }
     requires ready { Ready old.now end feed.now from known count home.now body }
     ensures { Leads new.old new.new result feed.now message.now old.now }
@@ -200,9 +200,9 @@ pub fn after_message(
     end: usize,
 ) -> Put
     requires lent { Lent keys.old marks.old order.old }
-    requires feed_len_bound { (length feed.now ≤ mostFeed) × (length message.now ≤ mostMessage) }
+    requires feed_len_bound { (length feed.now ≤ most_feed) × (length message.now ≤ most_message) }
     requires judged_message { JudgedMessage message.now }
-    requires fact { Open old.now end × (length old.now ≤ mostOld) }
+    requires fact { Open old.now end × (length old.now ≤ most_old) }
     ensures { Leads new.old new.new result feed.now message.now old.now }
 {
     match overlay_frame::spot(old, feed) {

@@ -1,6 +1,6 @@
 // How the walk of question 2 notes what it passes, in lent numbers: a place in 32 bits, and a feed's four numbers.
 ghost use Rattle.std.specs.Prelude.{◌<◌};
-ghost use Rattle.overlay_noted.specs.promises.Noting.{Put, PartsPut};
+ghost use Rattle.overlay_noted.specs.Promises.Noting.{Put, PartsPut};
 
 // The place p goes in at i, where the numbers reach so far: who asks for no places lends none. A place of a longer
 // buffer than an overlay may have is cut, and then nothing is said of it.

@@ -3,15 +3,15 @@
 ghost use Rattle.std.specs.Prelude.{◌≡◌, ◌≤◌, ◌<◌, length};
 ghost use Rattle.formats.specs.Class.{token};
 ghost use Rattle.formats.specs.Format.{list, optional};
-ghost use Rattle.formats_check.specs.promises.Checked.{Fine, Tested};
-ghost use Rattle.formats_check.specs.laws.Climbing.{Climbs, Entered, weightless, whatever};
-ghost use Rattle.overlay.specs.State.{timestamp, feed, feedEntry, overlay, feedsOf};
+ghost use Rattle.formats_check.specs.Promises.Checked.{Fine, Tested};
+ghost use Rattle.formats_check.specs.Laws.Climbing.{Climbs, Entered, weightless, whatever};
+ghost use Rattle.overlay.specs.State.{timestamp, feed, feed_entry, overlay, feeds_of};
 ghost use Rattle.overlay.specs.Image.{state_of};
-ghost use Rattle.overlay_noted.specs.promises.Noting.{Unless};
-ghost use Rattle.overlay_open.specs.promises.Opened.{ending, Notes};
-ghost use Rattle.overlay_open.specs.promises.State.{records, counted, recordsGood, countedGood, feedGood};
-ghost use Rattle.overlay_open.specs.promises.State.{entryGood, feedsGood, stateGood};
-ghost use Rattle.overlay_open.specs.promises.Feeds.{RecordsPut, FeedPut, FeedsPut, HeldPut};
+ghost use Rattle.overlay_noted.specs.Promises.Noting.{Unless};
+ghost use Rattle.overlay_open.specs.Promises.Opened.{ending, Notes};
+ghost use Rattle.overlay_open.specs.Promises.State.{records, counted, records_good, counted_good, feed_good};
+ghost use Rattle.overlay_open.specs.Promises.State.{entry_good, feeds_good, state_good};
+ghost use Rattle.overlay_open.specs.Promises.Feeds.{RecordsPut, FeedPut, FeedsPut, HeldPut};
 
 use formats::{Numeral, Skip};
 use formats_check::{CheckedText, Entry, number_at};
@@ -61,7 +61,7 @@ fn records(
     entry: usize,
 ) -> Skip
     requires { r < 4 }
-    ensures tested { Tested records (recordsGood id.now c) old.now at result }
+    ensures tested { Tested records (records_good id.now c) old.now at result }
     ensures unless { Unless result Skip.Broken (RecordsPut records (λ v. v) old.now at r entry
         noted.old noted.new) }
 {
@@ -78,7 +78,7 @@ fn records(
 
 fn counted(id: &[u8], old: &[u8], at: usize, noted: &mut [u32], r: usize, entry: usize) -> Skip
     requires { r < 4 }
-    ensures tested { Tested counted (countedGood id.now) old.now at result }
+    ensures tested { Tested counted (counted_good id.now) old.now at result }
     ensures unless { Unless result Skip.Broken (RecordsPut counted (λ v. v.1) old.now at r entry
         noted.old noted.new) }
 {
@@ -93,7 +93,7 @@ fn counted(id: &[u8], old: &[u8], at: usize, noted: &mut [u32], r: usize, entry:
 
 fn feed(id: &[u8], old: &[u8], at: usize, noted: &mut [u32], r: usize, entry: usize) -> Skip
     requires { r < 4 }
-    ensures tested { Tested feed (feedGood id.now) old.now at result }
+    ensures tested { Tested feed (feed_good id.now) old.now at result }
     ensures unless { Unless result Skip.Broken (RecordsPut feed (λ v. v.1.1) old.now at r entry
         noted.old noted.new) }
 {
@@ -106,7 +106,7 @@ fn feed(id: &[u8], old: &[u8], at: usize, noted: &mut [u32], r: usize, entry: us
 // A feed and its id, at rank r: class 2 is that of tokens.
 fn feed_entry(old: &[u8], at: usize, noted: &mut [u32], r: usize) -> Entry
     requires { r < 4 }
-    ensures entered { Entered 16 token entryGood old.now at result }
+    ensures entered { Entered 16 token entry_good old.now at result }
     ensures unless { Unless result Entry.No (FeedPut old.now at r noted.old noted.new) }
 {
     let CheckedText::At(a, e) = formats_check::text_at(2, 16, old, at) else {
@@ -122,7 +122,7 @@ fn feed_entry(old: &[u8], at: usize, noted: &mut [u32], r: usize) -> Entry
 fn feeds_from(n: u64, old: &[u8], at: usize, noted: &mut [u32]) -> Skip
     requires at_in_bounds { at ≤ length old.now }
     requires n_bound { n ≤ 4 }
-    ensures climbs { Climbs 16 token entryGood weightless (whatever n) n old.now at result }
+    ensures climbs { Climbs 16 token entry_good weightless (whatever n) n old.now at result }
     ensures unless { Unless result Skip.Broken (FeedsPut old.now at n noted.old
         noted.new) }
 {
@@ -150,8 +150,8 @@ fn feeds_from(n: u64, old: &[u8], at: usize, noted: &mut [u32]) -> Skip
 }
 
 fn feeds(old: &[u8], at: usize, noted: &mut [u32]) -> Skip
-    ensures tested { Tested (list 4 feedEntry) feedsGood old.now at result }
-    ensures unless { Unless result Skip.Broken (HeldPut (list 4 feedEntry) (λ v. v) old.now at
+    ensures tested { Tested (list 4 feed_entry) feeds_good old.now at result }
+    ensures unless { Unless result Skip.Broken (HeldPut (list 4 feed_entry) (λ v. v) old.now at
         noted.old noted.new) }
 {
     let Numeral::Got(n, p) = number_at(old, at) else {
@@ -165,8 +165,8 @@ fn feeds(old: &[u8], at: usize, noted: &mut [u32]) -> Skip
 
 // The byte 1, any version, the feeds.
 fn state(old: &[u8], at: usize, noted: &mut [u32]) -> Skip
-    ensures tested { Tested overlay stateGood old.now at result }
-    ensures unless { Unless result Skip.Broken (HeldPut overlay feedsOf old.now at noted.old
+    ensures tested { Tested overlay state_good old.now at result }
+    ensures unless { Unless result Skip.Broken (HeldPut overlay feeds_of old.now at noted.old
         noted.new) }
 {
     let Skip::At(p) = formats::given(old, at, 1) else {

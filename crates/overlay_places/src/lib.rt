@@ -1,44 +1,44 @@
 // Where an overlay's feeds and their trips stand, as question 2 noted it, so that a look-up passes over nothing.
 ghost use Rattle.std.specs.Prelude.{◌≡◌, ◌+◌, ◌*◌, ◌<◌, length, get_or};
-ghost use Rattle.decode.specs.Sizes.{mostTrips};
-ghost use Rattle.overlay_noted.specs.promises.Noted.{placesLength, Noted, entry_at, countAt, vehiclesAt, alertsAt};
-ghost use Rattle.overlay_places.specs.promises.Ranks.{RanksFeed};
+ghost use Rattle.decode.specs.Sizes.{most_trips};
+ghost use Rattle.overlay_noted.specs.Promises.Noted.{places_length, Noted, entry_at, count_at, vehicles_at, alerts_at};
+ghost use Rattle.overlay_places.specs.Promises.Ranks.{RanksFeed};
 
 use slices::{Order, word};
 
 // Of the feed at rank r: the place of its entry, the count of its trips, the place of trip i, the places of its
 // vehicles and its alerts.
 pub fn entry_place(noted: &[u32], r: usize) -> usize
-    requires { (length noted.now ≡ placesLength) × (r < 4) }
+    requires { (length noted.now ≡ places_length) × (r < 4) }
     ensures { result ≡ entry_at noted.now r }
 {
     word(noted, 8192 + 4 * r)
 }
 
 pub fn trip_count(noted: &[u32], r: usize) -> usize
-    requires { (length noted.now ≡ placesLength) × (r < 4) }
-    ensures { result ≡ countAt noted.now r }
+    requires { (length noted.now ≡ places_length) × (r < 4) }
+    ensures { result ≡ count_at noted.now r }
 {
     word(noted, 8192 + 4 * r + 1)
 }
 
 pub fn trip_place(noted: &[u32], r: usize, i: usize) -> usize
-    requires { (length noted.now ≡ placesLength) × (r < 4) × (i < mostTrips) }
+    requires { (length noted.now ≡ places_length) × (r < 4) × (i < most_trips) }
     ensures { result ≡ get_or noted.now (2048 * r + i) 0 }
 {
     word(noted, 2048 * r + i)
 }
 
 pub fn vehicles_place(noted: &[u32], r: usize) -> usize
-    requires { (length noted.now ≡ placesLength) × (r < 4) }
-    ensures { result ≡ vehiclesAt noted.now r }
+    requires { (length noted.now ≡ places_length) × (r < 4) }
+    ensures { result ≡ vehicles_at noted.now r }
 {
     word(noted, 8192 + 4 * r + 2)
 }
 
 pub fn alerts_place(noted: &[u32], r: usize) -> usize
-    requires { (length noted.now ≡ placesLength) × (r < 4) }
-    ensures { result ≡ alertsAt noted.now r }
+    requires { (length noted.now ≡ places_length) × (r < 4) }
+    ensures { result ≡ alerts_at noted.now r }
 {
     word(noted, 8192 + 4 * r + 3)
 }

@@ -2,13 +2,13 @@
 ghost use Rattle.std.specs.Prelude.{◌≤◌, length};
 ghost use Rattle.formats.specs.Class.{printable};
 ghost use Rattle.formats.specs.Format.{float, list, ◌&◌};
-ghost use Rattle.formats_check.specs.promises.Checked.{Fine, Tested};
-ghost use Rattle.formats_check.specs.laws.Climbing.{Climbs, Entered, weightless, whatever};
-ghost use Rattle.formats_check.specs.laws.Walks.{Each};
+ghost use Rattle.formats_check.specs.Promises.Checked.{Fine, Tested};
+ghost use Rattle.formats_check.specs.Laws.Climbing.{Climbs, Entered, weightless, whatever};
+ghost use Rattle.formats_check.specs.Laws.Walks.{Each};
 ghost use Rattle.decode.specs.Trip.{instant};
 ghost use Rattle.alerts.specs.Alert.{alert, ids};
-ghost use Rattle.overlay.specs.State.{vehicle, vehicleEntry};
-ghost use Rattle.overlay_records.specs.promises.Vehicles.{vehicleGood, vehiclesGood};
+ghost use Rattle.overlay.specs.State.{vehicle, vehicle_entry};
+ghost use Rattle.overlay_records.specs.Promises.Vehicles.{vehicle_good, vehicles_good};
 
 use formats::{Numeral, Skip};
 use formats_check::{CheckedText, Entry};
@@ -36,7 +36,7 @@ fn vehicle(old: &[u8], at: usize) -> Skip
 }
 
 fn vehicle_entry(old: &[u8], at: usize) -> Entry
-    ensures { Entered 64 printable vehicleGood old.now at result }
+    ensures { Entered 64 printable vehicle_good old.now at result }
 {
     let CheckedText::At(a, e) = formats_check::printable_at(64, old, at) else {
         return Entry::No;
@@ -50,7 +50,7 @@ fn vehicle_entry(old: &[u8], at: usize) -> Entry
 // n vehicles one after another, ascending by key: the walk keeps the place of the last key.
 fn vehicles_from(n: u64, old: &[u8], at: usize) -> Skip
     requires { at ≤ length old.now }
-    ensures { Climbs 64 printable vehicleGood weightless (whatever n) n old.now at result }
+    ensures { Climbs 64 printable vehicle_good weightless (whatever n) n old.now at result }
 {
     let mut p = at;
     let mut left = n;
@@ -74,7 +74,7 @@ fn vehicles_from(n: u64, old: &[u8], at: usize) -> Skip
 }
 
 pub fn vehicles(old: &[u8], at: usize) -> Skip
-    ensures { Tested (list 1024 vehicleEntry) vehiclesGood old.now at result }
+    ensures { Tested (list 1024 vehicle_entry) vehicles_good old.now at result }
 {
     let Numeral::Got(n, p) = formats_check::number_at(old, at) else {
         return Skip::Broken;

@@ -1,10 +1,10 @@
 // The record of a leg, the vehicle of a trip and the alerts of its feed, in a whole overlay whose places are noted.
-ghost use Rattle.calendar.specs.Paris.{parisDigits};
-ghost use Rattle.formats_write.specs.promises.Given.{givenNumber};
-ghost use Rattle.overlay.specs.Lookup.{get-trip, find-trip-by-descriptor};
-ghost use Rattle.overlay_noted.specs.promises.Noted.{Noted};
-ghost use Rattle.overlay_resolve.specs.promises.Shown.{ShowsVehicle, ShowsAlerts, Resolves};
-ghost use Rattle.overlay_resolve.specs.promises.Shown.{inTrips, byRoute, recordFor};
+ghost use Rattle.calendar.specs.Paris.{paris_digits};
+ghost use Rattle.formats_write.specs.Promises.Given.{given_number};
+ghost use Rattle.overlay.specs.Lookup.{get_trip, find_trip_by_descriptor};
+ghost use Rattle.overlay_noted.specs.Promises.Noted.{Noted};
+ghost use Rattle.overlay_resolve.specs.Promises.Shown.{ShowsVehicle, ShowsAlerts, Resolves};
+ghost use Rattle.overlay_resolve.specs.Promises.Shown.{in_trips, by_route, record_for};
 
 use formats::OptionalNumber;
 use overlay_places::FeedRank;
@@ -48,7 +48,7 @@ pub enum Resolved {
 // A feed's record by a trip id.
 fn trip_in_feed(old: &[u8], noted: &[u32], feed: &[u8], trip: &[u8]) -> Resolved
     requires { Noted old.now noted.now }
-    ensures { Resolves (inTrips feed.now (get-trip feed.now trip.now))
+    ensures { Resolves (in_trips feed.now (get_trip feed.now trip.now))
         old.now result }
 {
     match overlay_places::feed_rank(old, noted, feed) {
@@ -70,8 +70,8 @@ fn route_in_feed(
     date: &[u8],
 ) -> Resolved
     requires { Noted old.now noted.now }
-    ensures { Resolves (inTrips feed.now
-        (find-trip-by-descriptor feed.now route.now (givenNumber direction) date.now))
+    ensures { Resolves (in_trips feed.now
+        (find_trip_by_descriptor feed.now route.now (given_number direction) date.now))
         old.now result }
 {
     match overlay_places::feed_rank(old, noted, feed) {
@@ -94,7 +94,7 @@ fn by_route(
     date: &[u8],
 ) -> Resolved
     requires { Noted old.now noted.now }
-    ensures { Resolves (byRoute route.now (givenNumber direction) date.now) old.now result }
+    ensures { Resolves (by_route route.now (given_number direction) date.now) old.now result }
 {
     if route.len() == 0 {
         return Resolved::Missing;
@@ -113,7 +113,7 @@ pub fn resolve(
     date: &[u8],
 ) -> Resolved
     requires { Noted old.now noted.now }
-    ensures { Resolves (recordFor trip.now route.now (givenNumber direction) date.now)
+    ensures { Resolves (record_for trip.now route.now (given_number direction) date.now)
         old.now result }
 {
     let n = overlay_ids::feed_end(trip);
@@ -133,7 +133,7 @@ pub fn resolve_leg(
     departs: u64,
 ) -> Resolved
     requires { Noted old.now noted.now }
-    ensures { Resolves (recordFor trip.now route.now (givenNumber direction) (parisDigits departs))
+    ensures { Resolves (record_for trip.now route.now (given_number direction) (paris_digits departs))
         old.now result }
 {
     let date = calendar::paris_digits(departs);

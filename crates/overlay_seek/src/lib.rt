@@ -1,6 +1,6 @@
 // Look-ups in what stands in an overlay: their answer, and a text compared where it stands. The law of their loops is
-// in specs/laws/Seek.
-ghost use Rattle.overlay_seek.specs.promises.Answers.{IsText};
+// in specs/Laws/Seek.
+ghost use Rattle.overlay_seek.specs.Promises.Answers.{IsText};
 
 // Where the value that is sought stands.
 #[derive(Drop)]

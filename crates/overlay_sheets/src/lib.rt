@@ -6,16 +6,16 @@ ghost use Rattle.maps.specs.Order.{texts};
 ghost use Rattle.formats.specs.Number.{zag};
 ghost use Rattle.formats.specs.Format.{list, write};
 ghost use Rattle.formats_judge.specs.Judged.{ok};
-ghost use Rattle.formats_write.specs.promises.Adds.{Adds};
-ghost use Rattle.formats_read.specs.promises.Here.{Here};
+ghost use Rattle.formats_write.specs.Promises.Adds.{Adds};
+ghost use Rattle.formats_read.specs.Promises.Here.{Here};
 ghost use Rattle.alerts.specs.Alert.{Alert, alert};
-ghost use Rattle.overlay.specs.State.{State, Vehicles, overlay, vehiclesOf};
-ghost use Rattle.overlay.specs.Change.{feedAt, afterAlerts, withoutStale, afterVehicles};
+ghost use Rattle.overlay.specs.State.{State, Vehicles, overlay, vehicles_of};
+ghost use Rattle.overlay.specs.Change.{feed_at, after_alerts, without_stale, after_vehicles};
 ghost use Rattle.overlay.specs.Valid.{valid};
-ghost use Rattle.overlay_feeds.specs.promises.Parts.{ReadsParts};
-ghost use Rattle.overlay_frame.specs.promises.Body.{BodyAt};
-ghost use Rattle.overlay_frame.specs.promises.Changes.{Changes};
-ghost use Rattle.overlay_bodies.specs.promises.Bodies.{AlertsIn, VehiclesIn, VehiclesAlone};
+ghost use Rattle.overlay_feeds.specs.Promises.Parts.{ReadsParts};
+ghost use Rattle.overlay_frame.specs.Promises.Body.{BodyAt};
+ghost use Rattle.overlay_frame.specs.Promises.Changes.{Changes};
+ghost use Rattle.overlay_bodies.specs.Promises.Bodies.{AlertsIn, VehiclesIn, VehiclesAlone};
 
 use formats_write::Put;
 use overlay_feeds::Parts;
@@ -37,7 +37,7 @@ fn put_alerts(
     ensures { (s : State) (vs : List Alert)
         → BodyAt old.now end s feed.now from known count home.now body
         → AlertsIn sheet.now vs → ok 7 (list 256 alert) vs ≡ true
-        → Changes out.old out.new result (afterAlerts feed.now vs s) }
+        → Changes out.old out.new result (after_alerts feed.now vs s) }
 {
     let version = overlay_feeds::read_head(old).version;
     let p = overlay_feeds::read_parts(home, body);
@@ -51,7 +51,7 @@ fn put_alerts(
 pub fn after_alerts(out: &mut [u8], old: &[u8], end: usize, feed: &[u8], sheet: &[u8]) -> Put
     ensures { (s : State) (vs : List Alert) → Here overlay old.now 0 end s → valid s ≡ true
         → AlertsIn sheet.now vs → ok 7 (list 256 alert) vs ≡ true
-        → Changes out.old out.new result (afterAlerts feed.now vs s) }
+        → Changes out.old out.new result (after_alerts feed.now vs s) }
 {
     match overlay_frame::spot(old, feed) {
         FeedSpot::Full => Put::Full,
@@ -84,10 +84,10 @@ fn write_vehicles(
         → BodyAt old.now end s feed.now from known count home.now body
         → ReadsParts home.now body p → zag limit ≡ clock -ℤ pos 900
         → VehiclesIn sheet.now home.now p.vehicles xs
-        (vehiclesOf (feedAt feed.now s))
-        → kept ≡ length (withoutStale clock (puts texts xs (vehiclesOf (feedAt feed.now s))))
+        (vehicles_of (feed_at feed.now s))
+        → kept ≡ length (without_stale clock (puts texts xs (vehicles_of (feed_at feed.now s))))
         → Adds out.old (Put.At 0) out.new result
-        (write overlay (afterVehicles feed.now xs clock s)) }
+        (write overlay (after_vehicles feed.now xs clock s)) }
 {
     let version = std::num::wrapping_add_u64(overlay_feeds::read_head(old).version, 1);
     let to = overlay_frame::behind(known, p.end, from);
@@ -113,7 +113,7 @@ fn put_vehicles(
     ensures { (s : State) (xs : Vehicles) (clock : ℤ)
         → BodyAt old.now end s feed.now from known count home.now body
         → zag limit ≡ clock -ℤ pos 900 → VehiclesAlone sheet.now xs
-        → Changes out.old out.new result (afterVehicles feed.now xs clock s) }
+        → Changes out.old out.new result (after_vehicles feed.now xs clock s) }
 {
     let p = overlay_feeds::read_parts(home, body);
     let kept = overlay_bodies::count_left(sheet, home, p.vehicles, limit);
@@ -137,7 +137,7 @@ pub fn after_vehicles(
 ) -> Put
     ensures { (s : State) (xs : Vehicles) (clock : ℤ) → Here overlay old.now 0 end s → valid s ≡ true
         → zag limit ≡ clock -ℤ pos 900 → VehiclesAlone sheet.now xs
-        → Changes out.old out.new result (afterVehicles feed.now xs clock s) }
+        → Changes out.old out.new result (after_vehicles feed.now xs clock s) }
 {
     match overlay_frame::spot(old, feed) {
         FeedSpot::Full => Put::Full,

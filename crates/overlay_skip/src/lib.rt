@@ -1,7 +1,7 @@
 // Quick passes over the parts of an overlay, as formats_skip has them over leaves.
 ghost use Rattle.formats.specs.Format.{list};
-ghost use Rattle.formats_skip.specs.promises.Passes.{Passes};
-ghost use Rattle.overlay.specs.State.{vehicle, vehicleEntry, feed, feedEntry};
+ghost use Rattle.formats_skip.specs.Promises.Passes.{Passes};
+ghost use Rattle.overlay.specs.State.{vehicle, vehicle_entry, feed, feed_entry};
 
 pub fn past_vehicle(old: &[u8], at: usize) -> usize
     ensures { Passes vehicle old.now at result }
@@ -14,14 +14,14 @@ pub fn past_vehicle(old: &[u8], at: usize) -> usize
 
 // A vehicle with its key in front.
 pub fn past_vehicle_entry(old: &[u8], at: usize) -> usize
-    ensures { Passes vehicleEntry old.now at result }
+    ensures { Passes vehicle_entry old.now at result }
 {
     let p = formats_skip::past_text(old, at);
     past_vehicle(old, p)
 }
 
 pub fn past_vehicles(old: &[u8], at: usize) -> usize
-    ensures { Passes (list 1024 vehicleEntry) old.now at result }
+    ensures { Passes (list 1024 vehicle_entry) old.now at result }
 {
     let n = formats_read::number(old, at);
     let mut p = n.next;
@@ -46,7 +46,7 @@ pub fn past_feed(old: &[u8], at: usize) -> usize
 
 // A feed with its id in front.
 pub fn past_feed_entry(old: &[u8], at: usize) -> usize
-    ensures { Passes feedEntry old.now at result }
+    ensures { Passes feed_entry old.now at result }
 {
     let p = formats_skip::past_text(old, at);
     past_feed(old, p)

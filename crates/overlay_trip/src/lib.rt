@@ -1,10 +1,10 @@
 // The record of a trip by checked reading: its updates, its parts, and the record whole.
 ghost use Rattle.std.specs.Prelude.{◌≤◌, length};
 ghost use Rattle.formats.specs.Format.{small, list, optional, ◌&◌};
-ghost use Rattle.decode.specs.Trip.{id, delay, instant, number32, stopUpdate, time, trip};
-ghost use Rattle.formats_check.specs.promises.Checked.{Checked, Fine, Tested};
-ghost use Rattle.formats_check.specs.laws.Rising.{Rises, ascend};
-ghost use Rattle.overlay_trip.specs.laws.Trip.{timeGood, routeGood, tripGood};
+ghost use Rattle.decode.specs.Trip.{id, delay, instant, number32, stop_update, time, trip};
+ghost use Rattle.formats_check.specs.Promises.Checked.{Checked, Fine, Tested};
+ghost use Rattle.formats_check.specs.Laws.Rising.{Rises, ascend};
+ghost use Rattle.overlay_trip.specs.Laws.Trip.{time_good, route_good, trip_good};
 
 use formats::{Numeral, Skip};
 use formats_check::{at_most, number_at, number_five, number_long, printable};
@@ -98,7 +98,7 @@ fn arrival(old: &[u8], at: usize) -> Skip
 }
 
 fn stop_update(old: &[u8], at: usize) -> Skip
-    ensures { Fine stopUpdate old.now at result }
+    ensures { Fine stop_update old.now at result }
 {
     let Skip::At(p) = printable(64, old, at) else {
         return Skip::Broken;
@@ -109,7 +109,7 @@ fn stop_update(old: &[u8], at: usize) -> Skip
 // n updates one after another, ascending by sequence: the walk keeps the least that the next may have.
 fn updates_from(n: u64, old: &[u8], at: usize) -> Skip
     requires { at ≤ length old.now }
-    ensures { Rises 4294967295 stopUpdate 0 n old.now at result }
+    ensures { Rises 4294967295 stop_update 0 n old.now at result }
 {
     let mut p = at;
     let mut left = n;
@@ -136,7 +136,7 @@ fn updates_from(n: u64, old: &[u8], at: usize) -> Skip
 
 // The updates of a trip: at most 128, each good, ascending by sequence.
 fn updates(old: &[u8], at: usize) -> Skip
-    ensures { Checked (list 128 (number32 & stopUpdate)) (ascend 128 4294967295 stopUpdate)
+    ensures { Checked (list 128 (number32 & stop_update)) (ascend 128 4294967295 stop_update)
         old.now at result }
 {
     let Numeral::Got(n, p) = number_long(old, at) else {
@@ -150,7 +150,7 @@ fn updates(old: &[u8], at: usize) -> Skip
 
 // The record of a trip from its start time on, from its route on, and whole.
 fn from_time(old: &[u8], at: usize) -> Skip
-    ensures { Tested (time & list 128 (number32 & stopUpdate)) timeGood old.now at result }
+    ensures { Tested (time & list 128 (number32 & stop_update)) time_good old.now at result }
 {
     let Skip::At(p) = printable(16, old, at) else {
         return Skip::Broken;
@@ -159,7 +159,7 @@ fn from_time(old: &[u8], at: usize) -> Skip
 }
 
 fn from_route(old: &[u8], at: usize) -> Skip
-    ensures { Tested (id & optional number32 & time & list 128 (number32 & stopUpdate)) routeGood
+    ensures { Tested (id & optional number32 & time & list 128 (number32 & stop_update)) route_good
         old.now at result }
 {
     let Skip::At(p) = printable(64, old, at) else {
@@ -172,7 +172,7 @@ fn from_route(old: &[u8], at: usize) -> Skip
 }
 
 pub fn trip(old: &[u8], at: usize) -> Skip
-    ensures { Tested trip tripGood old.now at result }
+    ensures { Tested trip trip_good old.now at result }
 {
     let Skip::At(p) = optional_word(old, at) else {
         return Skip::Broken;

@@ -1,10 +1,10 @@
 // A stop update of a trip whose record stands in an overlay: by its sequence, else by the card's stop id, which is
 // compared with `feed:id` without joining that.
-ghost use Rattle.decode.specs.Trip.{number32, stopUpdate};
-ghost use Rattle.formats_write.specs.promises.Given.{givenNumber};
-ghost use Rattle.overlay_seek.specs.promises.Answers.{Seeks};
-ghost use Rattle.overlay_updates.specs.promises.Updates.{StopTold, numbered, stopping};
-ghost use Rattle.overlay_updates.specs.promises.Updates.{BySequence, ByStop, FindsUpdate};
+ghost use Rattle.decode.specs.Trip.{number32, stop_update};
+ghost use Rattle.formats_write.specs.Promises.Given.{given_number};
+ghost use Rattle.overlay_seek.specs.Promises.Answers.{Seeks};
+ghost use Rattle.overlay_updates.specs.Promises.Updates.{StopTold, numbered, stopping};
+ghost use Rattle.overlay_updates.specs.Promises.Updates.{BySequence, ByStop, FindsUpdate};
 
 use formats::OptionalNumber;
 use overlay_seek::Found;
@@ -21,7 +21,7 @@ fn stop_told(old: &[u8], at: usize, feed: &[u8], stop: &[u8]) -> bool
 
 // Of the updates at `at` the first of sequence n.
 fn sequence_in(old: &[u8], at: usize, n: u64) -> Found
-    ensures { Seeks number32 stopUpdate (numbered n) old.now at result }
+    ensures { Seeks number32 stop_update (numbered n) old.now at result }
 {
     let c = formats_read::number(old, at);
     let mut p = c.next;
@@ -39,7 +39,7 @@ fn sequence_in(old: &[u8], at: usize, n: u64) -> Found
 
 // Of the updates at `at` the first of the card's stop.
 fn stop_in(old: &[u8], at: usize, feed: &[u8], stop: &[u8]) -> Found
-    ensures { Seeks number32 stopUpdate (stopping feed.now stop.now) old.now at result }
+    ensures { Seeks number32 stop_update (stopping feed.now stop.now) old.now at result }
 {
     let c = formats_read::number(old, at);
     let mut p = c.next;
@@ -79,7 +79,7 @@ pub fn find_update(
     sequence: OptionalNumber,
     stop: &[u8],
 ) -> Found
-    ensures { FindsUpdate old.now at feed.now (givenNumber sequence) stop.now result }
+    ensures { FindsUpdate old.now at feed.now (given_number sequence) stop.now result }
 {
     match sequence {
         OptionalNumber::Absent => by_stop(old, at, feed, stop),

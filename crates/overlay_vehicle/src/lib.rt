@@ -1,7 +1,7 @@
 // The vehicle of a trip among those of a feed that stand in an overlay: the first with the trip's id, else the one
 // keyed by it.
-ghost use Rattle.overlay_vehicle.specs.promises.Vehicle.{MakesTrip, Seen, FindsVehicle, ReadsVehicle};
-ghost use Rattle.overlay_vehicle.specs.promises.Vehicle.{SeesVehicle};
+ghost use Rattle.overlay_vehicle.specs.Promises.Vehicle.{MakesTrip, Seen, FindsVehicle, ReadsVehicle};
+ghost use Rattle.overlay_vehicle.specs.Promises.Vehicle.{SeesVehicle};
 
 use overlay_seek::Found;
 use vehicle_place::VehiclePlace;

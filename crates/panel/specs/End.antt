@@ -3,15 +3,15 @@
 use Rattle.std.specs.Prelude.{ℕ, zero, suc, ◌-◌, List, length}
 use Rattle.std.proofs.Math.Option.{Option, none, some}
 use Rattle.formats.specs.Format.{Format, never, read}
-use Rattle.alerts.specs.Alert.{alertSheet}
-use Rattle.overlay.specs.State.{vehicleSheet}
+use Rattle.alerts.specs.Alert.{alert_sheet}
+use Rattle.overlay.specs.State.{vehicle_sheet}
 use Rattle.journey.specs.Card.{card}
 
 -- the form of a kind: a card, an alert sheet, a vehicle sheet; no other kind has one
 abbrev pub form_of : ℕ → Format
 form_of zero = card
-form_of (suc zero) = alertSheet
-form_of (suc (suc zero)) = vehicleSheet
+form_of (suc zero) = alert_sheet
+form_of (suc (suc zero)) = vehicle_sheet
 form_of (suc (suc (suc kind))) = never
 
 -- how many of the bytes were read: all but the rest; 0 where there was nothing to read

@@ -6,43 +6,43 @@ use Rattle.formats_judge.specs.Judged.{ok}
 use Rattle.decode.specs.Trip.{instant}
 use Rattle.maps.specs.Map.{puts, ascending}
 use Rattle.maps.specs.Order.{texts}
-use Rattle.overlay.specs.State.{State, Vehicles, vehicleSheet}
-use Rattle.overlay.specs.Change.{withoutStale, afterVehicles}
-use Rattle.panel.specs.Outcome.{Asks, ask, askSome}
-use Rattle.panel.specs.Questions.{Lengths, whole, feedOk, opened, changed}
-use Rattle.panel.specs.Rule.{Rule, changes, Book, recordsIn, enter, ifRead}
+use Rattle.overlay.specs.State.{State, Vehicles, vehicle_sheet}
+use Rattle.overlay.specs.Change.{without_stale, after_vehicles}
+use Rattle.panel.specs.Outcome.{Asks, ask, ask_some}
+use Rattle.panel.specs.Questions.{Lengths, whole, feed_ok, opened, changed}
+use Rattle.panel.specs.Rule.{Rule, changes, Book, records_in, enter, if_read}
 
 -- its keys ascend strictly: that is its form
-abbrev pub keysAscend : Option (Value vehicleSheet) → Option (Value vehicleSheet)
-keysAscend none = none
-keysAscend (some v) = cond (ascending texts v.1) (some v) none
+abbrev pub keys_ascend : Option (Value vehicle_sheet) → Option (Value vehicle_sheet)
+keys_ascend none = none
+keys_ascend (some v) = cond (ascending texts v.1) (some v) none
 
-abbrev pub vehiclesIn : List ℕ → Option (Value vehicleSheet)
-vehiclesIn sheet = keysAscend (whole vehicleSheet sheet)
+abbrev pub vehicles_in : List ℕ → Option (Value vehicle_sheet)
+vehicles_in sheet = keys_ascend (whole vehicle_sheet sheet)
 
-unfoldable pub vehiclesAsk : Lengths → List ℕ → List ℕ → ℤ → State → Value vehicleSheet → Asks
-vehiclesAsk L old f clock s v =
-    ask 5 (feedOk f && ok 5 vehicleSheet v)
-    (ask 6 (ok 6 vehicleSheet v && ok 6 instant clock) (changed L old (afterVehicles f v.1 clock s)))
+unfoldable pub vehicles_ask : Lengths → List ℕ → List ℕ → ℤ → State → Value vehicle_sheet → Asks
+vehicles_ask L old f clock s v =
+    ask 5 (feed_ok f && ok 5 vehicle_sheet v)
+    (ask 6 (ok 6 vehicle_sheet v && ok 6 instant clock) (changed L old (after_vehicles f v.1 clock s)))
 
-unfoldable pub vehicleSheetAsks : List ℕ → List ℕ → ℤ → ℕ → List ℕ → Lengths → List ℕ → Asks
-vehicleSheetAsks f sheet clock new work L old =
-    opened L old new L.overlay work L.work.vehicleSheet (λ s.
-    ask 3 (leb (length sheet) 1048576) (askSome 4 (vehiclesIn sheet) (vehiclesAsk L old f clock s)))
+unfoldable pub vehicle_sheet_asks : List ℕ → List ℕ → ℤ → ℕ → List ℕ → Lengths → List ℕ → Asks
+vehicle_sheet_asks f sheet clock new work L old =
+    opened L old new L.overlay work L.work.vehicle_sheet (λ s.
+    ask 3 (leb (length sheet) 1048576) (ask_some 4 (vehicles_in sheet) (vehicles_ask L old f clock s)))
 
 -- it puts its entries in, over old ones, then drops those updated before clock - 900
-abbrev pub vehiclesEnter : List ℕ → Vehicles → ℤ → Book → Book
-vehiclesEnter f vs clock bk =
+abbrev pub vehicles_enter : List ℕ → Vehicles → ℤ → Book → Book
+vehicles_enter f vs clock bk =
     enter f (record {
-      trips = (recordsIn bk f).trips;
-      vehicles = withoutStale clock (puts texts vs (recordsIn bk f).vehicles);
-      alerts = (recordsIn bk f).alerts;
+      trips = (records_in bk f).trips;
+      vehicles = without_stale clock (puts texts vs (records_in bk f).vehicles);
+      alerts = (records_in bk f).alerts;
     }) bk
 
-abbrev pub vehicleSheetRule : List ℕ → List ℕ → ℤ → ℕ → List ℕ → Rule
-vehicleSheetRule f sheet clock new work = record {
+abbrev pub vehicle_sheet_rule : List ℕ → List ℕ → ℤ → ℕ → List ℕ → Rule
+vehicle_sheet_rule f sheet clock new work = record {
   out = new;
   work = work;
-  asks = vehicleSheetAsks f sheet clock new work;
-  does = changes (λ bk. ifRead (vehiclesIn sheet) bk (λ v. vehiclesEnter f v.1 clock bk));
+  asks = vehicle_sheet_asks f sheet clock new work;
+  does = changes (λ bk. if_read (vehicles_in sheet) bk (λ v. vehicles_enter f v.1 clock bk));
 }

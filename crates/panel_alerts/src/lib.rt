@@ -3,8 +3,8 @@ ghost use Rattle.std.specs.Prelude.{◌≡◌, [], ◌-◌, length};
 ghost use Rattle.panel.specs.Calls as calls;
 ghost use Rattle.panel.specs.Given.{Given};
 ghost use Rattle.panel.specs.Lengths.{lengths};
-ghost use Rattle.panel_output.specs.promises.Ends.{Ends};
-ghost use Rattle.panel_alerts.specs.promises.Alerts.{alertsNumber, numberBy};
+ghost use Rattle.panel_output.specs.Promises.Ends.{Ends};
+ghost use Rattle.panel_alerts.specs.Promises.Alerts.{alerts_number, number_by};
 
 use alerts_views::MOST_ALERTS;
 use decode::sizes::MOST_MESSAGE;
@@ -30,7 +30,7 @@ fn id_limit(feed: &[u8]) -> usize
 
 // The first of the questions 4 and 5 that has the answer no, else 0. No number of such a message has a limit.
 fn number_by(v: Verdict, named: bool) -> u32
-    ensures { result ≡ numberBy v named }
+    ensures { result ≡ number_by v named }
 {
     match v {
         Verdict::Broken => 4,
@@ -52,7 +52,7 @@ fn number_by(v: Verdict, named: bool) -> u32
 
 // The first of the questions 3 to 5.
 fn alerts_number(feed: &[u8], message: &[u8]) -> u32
-    ensures { result ≡ alertsNumber feed.now message.now }
+    ensures { result ≡ alerts_number feed.now message.now }
 {
     if message.len() > MOST_MESSAGE {
         return 3;
@@ -65,7 +65,7 @@ fn alerts_number(feed: &[u8], message: &[u8]) -> u32
 
 // The questions in their order, and the sheet in `out`.
 fn sheet_ending(feed: &[u8], message: &[u8], out: &mut [u8]) -> Ending
-    ensures { Ends lengths [] (calls.feedAlerts feed.now message.now
+    ensures { Ends lengths [] (calls.feed_alerts feed.now message.now
         (length out.old)) out.new result }
 {
     if out.len() != SHEET {
@@ -85,7 +85,7 @@ fn sheet_ending(feed: &[u8], message: &[u8], out: &mut [u8]) -> Ending
 
 // A MESSAGE'S ALERTS as a sheet.
 pub fn feed_alerts(feed: &[u8], message: &[u8], out: &mut [u8]) -> u32
-    ensures { Given lengths [] (calls.feedAlerts feed.now message.now
+    ensures { Given lengths [] (calls.feed_alerts feed.now message.now
         (length out.old)) result out.new [] }
 {
     let e = sheet_ending(feed, message, out);

@@ -2,7 +2,7 @@
 // is accepted, else that of the first question whose answer is no.
 ghost use Rattle.std.specs.Prelude.{◌≡◌, [], ◌∷◌, length, get_or};
 ghost use Rattle.panel.specs.Calls as calls;
-ghost use Rattle.panel.specs.Lengths.{lengths, publishedLengths};
+ghost use Rattle.panel.specs.Lengths.{lengths, published_lengths};
 ghost use Rattle.panel.specs.Given.{Given};
 ghost use Rattle.panel.specs.End.{end};
 
@@ -21,7 +21,7 @@ const LENGTHS: [usize; 11] = [
 // The published length k, in elements; 0 where there is none.
 #[unsafe(no_mangle)]
 pub extern "C" fn mipsuqal_length(k: u32) -> usize
-    ensures { result ≡ get_or publishedLengths k 0 }
+    ensures { result ≡ get_or published_lengths k 0 }
 {
     let i = k as usize;
     if i < 11 {
@@ -62,7 +62,7 @@ pub extern "C" fn mipsuqal_message(
 #[unsafe(no_mangle)]
 pub extern "C" fn mipsuqal_alert_sheet(old: &[u8], feed: &[u8], sheet: &[u8], new: &mut [u8]) -> u32
     ensures { Given lengths old.now
-        (calls.alertSheet feed.now sheet.now (length new.old) []) result new.new
+        (calls.alert_sheet feed.now sheet.now (length new.old) []) result new.new
         [] }
 {
     panel_sheets::alert_sheet(OVERLAY, old, feed, sheet, new)
@@ -78,7 +78,7 @@ pub extern "C" fn mipsuqal_vehicle_sheet(
     new: &mut [u8],
 ) -> u32
     ensures { Given lengths old.now
-        (calls.vehicleSheet feed.now sheet.now clock (length new.old) []) result
+        (calls.vehicle_sheet feed.now sheet.now clock (length new.old) []) result
         new.new [] }
 {
     panel_sheets::vehicle_sheet(OVERLAY, old, feed, sheet, clock, new)
@@ -117,7 +117,7 @@ pub extern "C" fn mipsuqal_report(old: &[u8], feed: &[u8], out: &mut [u8]) -> u3
 // A MESSAGE'S ALERTS as an alert sheet, over no overlay.
 #[unsafe(no_mangle)]
 pub extern "C" fn mipsuqal_feed_alerts(feed: &[u8], message: &[u8], out: &mut [u8]) -> u32
-    ensures { Given lengths [] (calls.feedAlerts feed.now message.now
+    ensures { Given lengths [] (calls.feed_alerts feed.now message.now
         (length out.old)) result out.new [] }
 {
     panel_alerts::feed_alerts(feed, message, out)

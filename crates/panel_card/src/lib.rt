@@ -9,18 +9,18 @@ use panel_output::Ending;
 mod table;
 
 ghost use Rattle.std.specs.Prelude.{◌≡◌, [], ◌∷◌, ◌≤◌, ◌<◌, length};
-ghost use Rattle.decode.specs.Sizes.{mostOld};
-ghost use Rattle.overlay_noted.specs.promises.Noted.{placesLength, Noted};
-ghost use Rattle.alerts_apply.specs.promises.Known.{Knows};
-ghost use Rattle.journey_alerts.specs.promises.Places.{mostText, Lent};
-ghost use Rattle.formats_judge.specs.Judged.{judgeTo};
+ghost use Rattle.decode.specs.Sizes.{most_old};
+ghost use Rattle.overlay_noted.specs.Promises.Noted.{places_length, Noted};
+ghost use Rattle.alerts_apply.specs.Promises.Known.{Knows};
+ghost use Rattle.journey_alerts.specs.Promises.Places.{most_text, Lent};
+ghost use Rattle.formats_judge.specs.Judged.{judge_to};
 ghost use Rattle.journey.specs.Card as form;
 ghost use Rattle.panel.specs.Calls as calls;
 ghost use Rattle.panel.specs.Given.{Given};
 ghost use Rattle.panel.specs.Lengths.{sized};
-ghost use Rattle.panel_output.specs.promises.Ends.{Ends, Zeros};
-ghost use Rattle.panel_card.specs.promises.Card.{cardNumber, askedNumber, AskedNotes};
-ghost use Rattle.panel_card.specs.promises.Card.{FinishesCard};
+ghost use Rattle.panel_output.specs.Promises.Ends.{Ends, Zeros};
+ghost use Rattle.panel_card.specs.Promises.Card.{card_number, asked_number, AskedNotes};
+ghost use Rattle.panel_card.specs.Promises.Card.{FinishesCard};
 
 use table::{CARD, CARD_DEPTH, CARD_TABLE};
 
@@ -35,14 +35,14 @@ const LABELS_LENGTH: usize = 1025;
 
 // The end of a card, and the first of the questions 5 to 7 that it fails.
 pub fn judge_card(card: &[u8]) -> Judge
-    ensures { result ≡ judgeTo form.card card.now 0 }
+    ensures { result ≡ judge_to form.card card.now 0 }
 {
     formats_judge::judge_value(&CARD_TABLE, CARD_DEPTH, CARD, card, 0)
 }
 
 // The first of the questions 3 to 7 that an arriving card fails.
 fn card_number(card: &[u8]) -> u32
-    ensures { result ≡ cardNumber card.now }
+    ensures { result ≡ card_number card.now }
 {
     if MOST_CARD < card.len() {
         return 3;
@@ -59,8 +59,8 @@ fn card_number(card: &[u8]) -> u32
 // The first of the questions 2 to 7 that an arriving card and the old overlay fail. Question 2 notes the places of
 // feeds and trips.
 fn asked(old: &[u8], card: &[u8], noted: &mut [u32]) -> u32
-    requires { (length old.now ≤ mostOld) × (length noted.old ≡ placesLength) }
-    ensures value { result ≡ askedNumber old.now card.now }
+    requires { (length old.now ≤ most_old) × (length noted.old ≡ places_length) }
+    ensures value { result ≡ asked_number old.now card.now }
     ensures asked_notes { AskedNotes old.now noted.new result }
 {
     let Opened::At(end) = overlay_open::open_noted(old, noted) else {
@@ -81,7 +81,7 @@ fn finish(
 ) -> Put
     requires noted { Noted old.now noted.now }
     requires lent { Lent old.now candidates.old met.old }
-    requires card_nonzero { (0 < length card.now) × Knows mostText old.now known.old }
+    requires card_nonzero { (0 < length card.now) × Knows most_text old.now known.old }
     ensures { FinishesCard old.now card.now out.old out.new result }
 {
     // Where the labels begin and end.
@@ -118,7 +118,7 @@ fn card_ending(
     noted: &mut [u32],
     known: &mut [u32],
 ) -> Ending
-    requires { n ≤ mostOld }
+    requires { n ≤ most_old }
     ensures { Ends (sized n) old.now
         (calls.card card.now (length out.old)
         (length candidates.old ∷ length met.old ∷ length noted.old
@@ -169,7 +169,7 @@ pub fn card(
     noted: &mut [u32],
     known: &mut [u32],
 ) -> u32
-    requires { n ≤ mostOld }
+    requires { n ≤ most_old }
     ensures { Given (sized n) old.now
         (calls.card card.now (length out.old)
         (length candidates.old ∷ length met.old ∷ length noted.old

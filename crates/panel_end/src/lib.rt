@@ -1,6 +1,6 @@
 // Where a card or a sheet ends that stands in front of bytes: read by the tables that question 4 goes by.
 ghost use Rattle.std.specs.Prelude.{◌≡◌};
-ghost use Rattle.formats_judge.specs.Judged.{judgeTo};
+ghost use Rattle.formats_judge.specs.Judged.{judge_to};
 ghost use Rattle.panel.specs.End.{form_of, end};
 
 use formats_judge::Judge;
@@ -14,7 +14,7 @@ const VEHICLE_SHEET: u32 = 2;
 
 // The end of a kind's form; the questions that it fails are not asked for.
 fn judge(kind: u32, bytes: &[u8]) -> Judge
-    ensures { result ≡ judgeTo (form_of kind) bytes.now 0 }
+    ensures { result ≡ judge_to (form_of kind) bytes.now 0 }
 {
     if kind == CARD {
         return panel_card::judge_card(bytes);

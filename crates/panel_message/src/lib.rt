@@ -1,12 +1,12 @@
 // A message's call, with the overlay's length as a parameter: its questions in their order and the state that it
 // leaves, then zeros behind what was written and in the working buffers.
 ghost use Rattle.std.specs.Prelude.{◌≡◌, [], ◌∷◌, ◌≤◌, length};
-ghost use Rattle.decode.specs.Sizes.{mostOld};
+ghost use Rattle.decode.specs.Sizes.{most_old};
 ghost use Rattle.panel.specs.Calls as calls;
 ghost use Rattle.panel.specs.Given.{Given};
 ghost use Rattle.panel.specs.Lengths.{sized};
-ghost use Rattle.panel_output.specs.promises.Ends.{Ends, Zeros};
-ghost use Rattle.panel_message.specs.promises.Message.{messageNumber, numberBy};
+ghost use Rattle.panel_output.specs.Promises.Ends.{Ends, Zeros};
+ghost use Rattle.panel_message.specs.Promises.Message.{message_number, number_by};
 
 use decode::sizes::{KEYS_LENGTH, MARKS_LENGTH, MOST_MESSAGE, ORDER_LENGTH};
 use overlay_open::Opened;
@@ -16,7 +16,7 @@ use realtime_read::{FEED_MESSAGE, ID_LIMIT};
 
 // The first of the questions 4 to 6 that has the answer no, else 0.
 fn number_by(v: Verdict, named: bool) -> u32
-    ensures { result ≡ numberBy v named }
+    ensures { result ≡ number_by v named }
 {
     match v {
         Verdict::Broken => 4,
@@ -38,7 +38,7 @@ fn number_by(v: Verdict, named: bool) -> u32
 
 // The first of the questions 3 to 6.
 fn message_number(feed: &[u8], message: &[u8]) -> u32
-    ensures { result ≡ messageNumber feed.now message.now }
+    ensures { result ≡ message_number feed.now message.now }
 {
     if message.len() > MOST_MESSAGE {
         return 3;
@@ -60,7 +60,7 @@ fn message_ending(
     marks: &mut [u32],
     order: &mut [u32],
 ) -> Ending
-    requires { n ≤ mostOld }
+    requires { n ≤ most_old }
     ensures { Ends (sized n) old.now
         (calls.message feed.now message.now (length new.old)
         (length keys.old ∷ length marks.old ∷ length order.old ∷ []))
@@ -103,7 +103,7 @@ pub fn message(
     marks: &mut [u32],
     order: &mut [u32],
 ) -> u32
-    requires { n ≤ mostOld }
+    requires { n ≤ most_old }
     ensures { Given (sized n) old.now
         (calls.message feed.now message.now (length new.old)
         (length keys.old ∷ length marks.old ∷ length order.old ∷ []))

@@ -2,7 +2,7 @@
 // zeros, or zeros alone where the call is refused.
 ghost use Rattle.std.specs.Prelude.{◌≡◌};
 ghost use Rattle.basics.specs.Texts.{same};
-ghost use Rattle.panel_output.specs.promises.Ending.{endingOf, putEnding, Cleared, Finished};
+ghost use Rattle.panel_output.specs.Promises.Ending.{ending_of, put_ending, Cleared, Finished};
 
 use formats_write::Put;
 
@@ -32,7 +32,7 @@ pub fn same_lengths(given: &[usize], due: &[usize]) -> bool
 
 // What does not fit is the question's of this number.
 pub fn ended(w: Put, full: u32) -> Ending
-    ensures { result ≡ endingOf full w }
+    ensures { result ≡ ending_of full w }
 {
     match w {
         Put::At(p) => Ending::Written(p),
@@ -42,7 +42,7 @@ pub fn ended(w: Put, full: u32) -> Ending
 
 // A state that does not fit is question 7's.
 pub fn of_put(w: Put) -> Ending
-    ensures { result ≡ putEnding w }
+    ensures { result ≡ put_ending w }
 {
     ended(w, 7)
 }

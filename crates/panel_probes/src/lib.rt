@@ -63,7 +63,7 @@ pub extern "C" fn states_message(
 #[unsafe(no_mangle)]
 pub extern "C" fn states_alert_sheet(old: &[u8], feed: &[u8], sheet: &[u8], new: &mut [u8]) -> u32
     ensures { Given (sized (length_of (length old.now))) old.now
-        (calls.alertSheet feed.now sheet.now (length new.old) []) result new.new
+        (calls.alert_sheet feed.now sheet.now (length new.old) []) result new.new
         [] }
 {
     panel_sheets::alert_sheet(length_of(old.len()), old, feed, sheet, new)
@@ -78,7 +78,7 @@ pub extern "C" fn states_vehicle_sheet(
     new: &mut [u8],
 ) -> u32
     ensures { Given (sized (length_of (length old.now))) old.now
-        (calls.vehicleSheet feed.now sheet.now clock (length new.old) []) result
+        (calls.vehicle_sheet feed.now sheet.now clock (length new.old) []) result
         new.new [] }
 {
     panel_sheets::vehicle_sheet(length_of(old.len()), old, feed, sheet, clock, new)

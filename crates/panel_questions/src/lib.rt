@@ -4,37 +4,37 @@ use formats_judge::Judge;
 mod table;
 
 ghost use Rattle.std.specs.Prelude.{◌≡◌};
-ghost use Rattle.formats_judge.specs.Judged.{judgeTo};
-ghost use Rattle.alerts.specs.Alert.{alertSheet};
-ghost use Rattle.overlay.specs.State.{vehicleSheet};
-ghost use Rattle.panel.specs.Questions.{feedOk};
-ghost use Rattle.panel_questions.specs.promises.Numbers.{alertNumber, timed, vehicleNumber, ClockIs};
+ghost use Rattle.formats_judge.specs.Judged.{judge_to};
+ghost use Rattle.alerts.specs.Alert.{alert_sheet};
+ghost use Rattle.overlay.specs.State.{vehicle_sheet};
+ghost use Rattle.panel.specs.Questions.{feed_ok};
+ghost use Rattle.panel_questions.specs.Promises.Numbers.{alert_number, timed, vehicle_number, ClockIs};
 
 use table::{ALERT_DEPTH, ALERT_SHEET, ALERTS, VEHICLE_DEPTH, VEHICLE_SHEET, VEHICLES};
 
 // An alert sheet's end, and the first of the questions 5 to 7 that it fails.
 pub fn judge_alerts(sheet: &[u8]) -> Judge
-    ensures { result ≡ judgeTo alertSheet sheet.now 0 }
+    ensures { result ≡ judge_to alert_sheet sheet.now 0 }
 {
     formats_judge::judge_value(&ALERTS, ALERT_DEPTH, ALERT_SHEET, sheet, 0)
 }
 
 // The same of a vehicle sheet.
 pub fn judge_vehicles(sheet: &[u8]) -> Judge
-    ensures { result ≡ judgeTo vehicleSheet sheet.now 0 }
+    ensures { result ≡ judge_to vehicle_sheet sheet.now 0 }
 {
     formats_judge::judge_value(&VEHICLES, VEHICLE_DEPTH, VEHICLE_SHEET, sheet, 0)
 }
 
 pub fn feed_ok(feed: &[u8]) -> bool
-    ensures { result ≡ feedOk feed.now }
+    ensures { result ≡ feed_ok feed.now }
 {
     formats_judge::text(16, 2, feed) == 0
 }
 
 // AN ALERT SHEET: questions 3 to 7, as far as they are put to the sheet and the feed id alone.
 pub fn alert_number(feed: &[u8], sheet: &[u8]) -> u32
-    ensures { result ≡ alertNumber feed.now sheet.now }
+    ensures { result ≡ alert_number feed.now sheet.now }
 {
     if 1048576 < sheet.len() {
         return 3;
@@ -69,7 +69,7 @@ fn timed(n: u32, clock: bool) -> u32
 
 // A VEHICLE SHEET: questions 3 to 6, as far as they are put to the sheet, the feed id and the clock.
 pub fn vehicle_number(feed: &[u8], sheet: &[u8], clock: bool) -> u32
-    ensures { result ≡ vehicleNumber feed.now sheet.now clock }
+    ensures { result ≡ vehicle_number feed.now sheet.now clock }
 {
     if 1048576 < sheet.len() {
         return 3;

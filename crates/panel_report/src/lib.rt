@@ -2,15 +2,15 @@
 ghost use Rattle.std.specs.Prelude.{◌≡◌, [], length};
 ghost use Rattle.formats.specs.Format.{write};
 ghost use Rattle.formats.specs.Number.{zag};
-ghost use Rattle.formats_write.specs.promises.Adds.{Adds};
-ghost use Rattle.formats_write.specs.promises.Given.{givenSigned};
+ghost use Rattle.formats_write.specs.Promises.Adds.{Adds};
+ghost use Rattle.formats_write.specs.Promises.Given.{given_signed};
 ghost use Rattle.overlay.specs.Report.{bits64, stamped};
-ghost use Rattle.overlay.specs.State.{overlay, noState};
+ghost use Rattle.overlay.specs.State.{overlay, no_state};
 ghost use Rattle.panel.specs.Calls as calls;
 ghost use Rattle.panel.specs.Given.{Given};
 ghost use Rattle.panel.specs.Lengths.{sized};
-ghost use Rattle.panel_output.specs.promises.Ends.{Ends};
-ghost use Rattle.panel_report.specs.promises.Report.{Reads, Written};
+ghost use Rattle.panel_output.specs.Promises.Ends.{Ends};
+ghost use Rattle.panel_report.specs.Promises.Report.{Reads, Written};
 
 use formats::OptionalSigned;
 use formats_write::Put;
@@ -29,7 +29,7 @@ const REPORT: usize = 25;
 
 // The state without feeds.
 fn write_fresh(new: &mut [u8], w: Put) -> Put
-    ensures { Adds new.old w new.new result (write overlay noState) }
+    ensures { Adds new.old w new.new result (write overlay no_state) }
 {
     let w1 = formats_write::byte(new, w, 1);
     let w2 = formats_write::number(new, w1, 0);
@@ -67,7 +67,7 @@ fn bits(code: u64) -> u64
 
 // A timestamp: whether it is there, and its bits.
 fn stamp(out: &mut [u8], w: Put, t: OptionalSigned) -> Put
-    ensures { Adds out.old w out.new result (stamped (givenSigned t)) }
+    ensures { Adds out.old w out.new result (stamped (given_signed t)) }
 {
     match t {
         OptionalSigned::Absent => {

@@ -4,8 +4,8 @@ ghost use Rattle.std.specs.Prelude.{[], ℤ, length};
 ghost use Rattle.panel.specs.Calls as calls;
 ghost use Rattle.panel.specs.Given.{Given};
 ghost use Rattle.panel.specs.Lengths.{sized};
-ghost use Rattle.panel_output.specs.promises.Ends.{Ends};
-ghost use Rattle.panel_questions.specs.promises.Numbers.{ClockIs};
+ghost use Rattle.panel_output.specs.Promises.Ends.{Ends};
+ghost use Rattle.panel_questions.specs.Promises.Numbers.{ClockIs};
 
 use overlay_open::Opened;
 use panel_output::Ending;
@@ -14,7 +14,7 @@ use panel_questions::Clock;
 // An alert sheet's questions in their order, and what it writes.
 fn alert_ending(n: usize, old: &[u8], feed: &[u8], sheet: &[u8], new: &mut [u8]) -> Ending
     ensures { Ends (sized n) old.now
-        (calls.alertSheet feed.now sheet.now (length new.old) []) new.new
+        (calls.alert_sheet feed.now sheet.now (length new.old) []) new.new
         result }
 {
     let given = [old.len(), new.len()];
@@ -36,7 +36,7 @@ fn alert_ending(n: usize, old: &[u8], feed: &[u8], sheet: &[u8], new: &mut [u8])
 // AN ALERT SHEET onto an overlay of n bytes.
 pub fn alert_sheet(n: usize, old: &[u8], feed: &[u8], sheet: &[u8], new: &mut [u8]) -> u32
     ensures { Given (sized n) old.now
-        (calls.alertSheet feed.now sheet.now (length new.old) []) result new.new
+        (calls.alert_sheet feed.now sheet.now (length new.old) []) result new.new
         [] }
 {
     let e = alert_ending(n, old, feed, sheet, new);
@@ -54,7 +54,7 @@ fn vehicle_ending(
 ) -> Ending
     ensures { (t : ℤ) → ClockIs t clock.fine clock.limit
         → Ends (sized n) old.now
-        (calls.vehicleSheet feed.now sheet.now t (length new.old) [])
+        (calls.vehicle_sheet feed.now sheet.now t (length new.old) [])
         new.new result }
 {
     let given = [old.len(), new.len()];
@@ -83,7 +83,7 @@ pub fn vehicle_sheet(
     new: &mut [u8],
 ) -> u32
     ensures { Given (sized n) old.now
-        (calls.vehicleSheet feed.now sheet.now clock (length new.old) []) result
+        (calls.vehicle_sheet feed.now sheet.now clock (length new.old) []) result
         new.new [] }
 {
     let c = panel_questions::read_clock(clock);

@@ -30,10 +30,10 @@ number_in none = none
 number_in (some (count n)) = some n
 number_in (some (words x)) = none
 
-abbrev pub textIn : Option Leaf → List ℕ
-textIn none = []
-textIn (some (count n)) = []
-textIn (some (words x)) = x
+abbrev pub text_in : Option Leaf → List ℕ
+text_in none = []
+text_in (some (count n)) = []
+text_in (some (words x)) = x
 
 abbrev pub or_zero : Option ℕ → ℕ
 or_zero none = 0

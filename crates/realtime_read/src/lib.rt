@@ -2,14 +2,14 @@
 pub mod fields; // the numbers of the listed fields
 
 ghost use Rattle.std.specs.Prelude.{◌≡◌, cond};
-ghost use Rattle.wire.specs.promises.Places.{skippedAt};
-ghost use Rattle.formats.specs.Class.{inClass};
-ghost use Rattle.realtime_read.specs.promises.Steps.{Stepped, numberBehind, textBehind};
+ghost use Rattle.wire.specs.Promises.Places.{skipped_at};
+ghost use Rattle.formats.specs.Class.{in_class};
+ghost use Rattle.realtime_read.specs.Promises.Steps.{Stepped, number_behind, text_behind};
 ghost use Rattle.realtime.specs.Tree.{tree};
-ghost use Rattle.realtime.specs.Judge.{asked, rulesBy, limitBy, classBy, textRule, numberRule};
-ghost use Rattle.realtime_read.specs.promises.Judge.{fine, askedFirst};
+ghost use Rattle.realtime.specs.Judge.{asked, rules_by, limit_by, class_by, text_rule, number_rule};
+ghost use Rattle.realtime_read.specs.Promises.Judge.{fine, asked_first};
 ghost use Rattle.realtime.specs.Schema.{feed};
-ghost use Rattle.realtime_read.specs.promises.Schema.{holds, row};
+ghost use Rattle.realtime_read.specs.Promises.Schema.{holds, row};
 
 use fields::{stop_time_event, trip_descriptor};
 use realtime::Verdict;
@@ -153,14 +153,14 @@ pub enum Step {
 // Past the field behind a key. The slice goes as a part of its own: one that is handed to a function that calls
 // itself would lie in memory, in the callers too.
 pub fn past(s: &[u8], from: Cursor, field: u64, wire: u64) -> Skipped
-    ensures { result ≡ skippedAt s.now from.at field wire 16 }
+    ensures { result ≡ skipped_at s.now from.at field wire 16 }
 {
     from.skip(slices::part(s, 0, s.len()), field, wire, GROUPS_DEEP)
 }
 
 // The number behind a key, where its wire type is a number's.
 fn number_behind(s: &[u8], from: Cursor, wire: u64) -> GotNumber
-    ensures { result ≡ numberBehind s.now from.at wire }
+    ensures { result ≡ number_behind s.now from.at wire }
 {
     if wire != wire::VARINT {
         return GotNumber::Broken;
@@ -169,7 +169,7 @@ fn number_behind(s: &[u8], from: Cursor, wire: u64) -> GotNumber
 }
 
 fn text_behind(s: &[u8], from: Cursor, wire: u64) -> GotText
-    ensures { result ≡ textBehind s.now from.at wire }
+    ensures { result ≡ text_behind s.now from.at wire }
 {
     if wire != wire::LEN {
         return GotText::Broken;
@@ -227,7 +227,7 @@ fn is_fine(a: Verdict) -> bool
 
 // A part that is fine, as most are, stands in front: that saves a jump by a table.
 fn worse(a: Verdict, b: Verdict) -> Verdict
-    ensures { result ≡ askedFirst a b }
+    ensures { result ≡ asked_first a b }
 {
     if is_fine(b) {
         return a;
@@ -252,7 +252,7 @@ fn worse(a: Verdict, b: Verdict) -> Verdict
 
 // The longest text of a field, where an id has at most `ids` bytes.
 fn text_limit(message: u64, field: u64, ids: usize) -> usize
-    ensures { result ≡ limitBy ids message field }
+    ensures { result ≡ limit_by ids message field }
 {
     if message == TRIP_DESCRIPTOR {
         if field == trip_descriptor::START_TIME {
@@ -274,7 +274,7 @@ fn text_limit(message: u64, field: u64, ids: usize) -> usize
 
 // Whether a text is of its class: words are UTF-8, ids are printable.
 fn is_fit(s: &[u8], message: u64) -> bool
-    ensures { result ≡ inClass (classBy message) s.now }
+    ensures { result ≡ in_class (class_by message) s.now }
 {
     if message == HEADER_TRANSLATION {
         return formats_text::in_class(UTF8, s);
@@ -286,7 +286,7 @@ fn is_fit(s: &[u8], message: u64) -> bool
 }
 
 fn judge_text(s: &[u8], message: u64, field: u64, ids: usize) -> Verdict
-    ensures { result ≡ cond (textRule ids message field s.now) Verdict.Fine Verdict.Text }
+    ensures { result ≡ cond (text_rule ids message field s.now) Verdict.Fine Verdict.Text }
 {
     if s.len() > text_limit(message, field, ids) {
         return Verdict::Text;
@@ -299,7 +299,7 @@ fn judge_text(s: &[u8], message: u64, field: u64, ids: usize) -> Verdict
 }
 
 fn judge_number(message: u64, field: u64, value: u64) -> Verdict
-    ensures { result ≡ cond (numberRule message field value) Verdict.Fine Verdict.Time }
+    ensures { result ≡ cond (number_rule message field value) Verdict.Fine Verdict.Time }
 {
     if message != STOP_TIME_EVENT {
         return Verdict::Fine;
@@ -317,7 +317,7 @@ fn judge_number(message: u64, field: u64, value: u64) -> Verdict
 // The judgement of a message of a type, by its own bytes, where an id has at most `ids` of them. It steps by itself and
 // not by `next`, which the compiler would leave a function of its own: that takes twice the time.
 pub fn judge(s: &[u8], message: u64, ids: usize) -> Verdict
-    ensures { result ≡ asked (rulesBy ids) message (tree feed message s.now) }
+    ensures { result ≡ asked (rules_by ids) message (tree feed message s.now) }
 {
     let mut at: usize = 0;
     let mut worst = Verdict::Fine;

@@ -6,54 +6,54 @@ use mathlib.Core.List.{List}
 use mathlib.Core.Option.{some}
 use native.Mathlib.Omega.{arith}
 use lib.ListN.{length, take, length-take}
-use Rattle.realtime.specs.Tree.{aMessage}
+use Rattle.realtime.specs.Tree.{a_message}
 use Rattle.realtime.specs.Schema.{feed}
-use Rattle.realtime_views.specs.laws.Fold.{Walked, walk-starts}
-use Rattle.realtime_views.specs.promises.Fold.{Takes, inside, Made}
-use Rattle.realtime_views.specs.promises.Reading.{Lens, Ready}
-use Rattle.realtime_views.specs.promises.Seeks.{Seeks}
+use Rattle.realtime_views.specs.Laws.Fold.{Walked, walk_starts}
+use Rattle.realtime_views.specs.Promises.Fold.{Takes, inside, Made}
+use Rattle.realtime_views.specs.Promises.Reading.{Lens, Ready}
+use Rattle.realtime_views.specs.Promises.Seeks.{Seeks}
 use Rattle.realtime_views.specs.declared.Met.{Met}
-use Rattle.realtime_views.proofs.Reader.{Reading, sought-ends, sought-on}
+use Rattle.realtime_views.proofs.Reader.{Reading, sought_ends, sought_on}
 
 -- the loop stands at `at` with d, and started at `from` with d₀: a reading for each of the types
 pub record Finding {D B : Type 0} (L : Lens D B) (φ : Takes B) (P : ℕ → Type 0) (a : ℕ) (s : List ℕ) (from : ℕ) (d₀ : D)
     (at : ℕ) (d : D) : Type 0 where
-  pub of : (t u : ℕ) → feed t a ≡ some (aMessage u) → P u
+  pub of : (t u : ℕ) → feed t a ≡ some (a_message u) → P u
       → Walked (inside a φ) (L.look s d₀) feed t s from at (L.look s d)
   pub within : L.In at d
   pub inside : at ≤ length s
 
 module _ {D B : Type 0} {L : Lens D B} {φ : Takes B} {P : ℕ → Type 0} {a : ℕ} {s : List ℕ} {from : ℕ} where
-  pub found-start : {d : D} → Ready L s from d → Finding L φ P a s from d from d
-  found-start R = record { of = λ t u e p. walk-starts; within = R.within; inside = R.inside }
+  pub found_start : {d : D} → Ready L s from d → Finding L φ P a s from d from d
+  found_start R = record { of = λ t u e p. walk_starts; within = R.within; inside = R.inside }
 
   module _ {d₀ : D} {at : ℕ} {d : D} (R : Finding L φ P a s from d₀ at d) where
-    reading : (t u : ℕ) → feed t a ≡ some (aMessage u) → P u → Reading L (inside a φ) feed t s from d₀ at d
+    reading : (t u : ℕ) → feed t a ≡ some (a_message u) → P u → Reading L (inside a φ) feed t s from d₀ at d
     reading t u e p = record { walked = R.of t u e p; within = R.within; inside = R.inside }
 
-    pub found_all : Seeks feed a s at Met.End → (t u : ℕ) → feed t a ≡ some (aMessage u) → P u
+    pub found_all : Seeks feed a s at Met.End → (t u : ℕ) → feed t a ≡ some (a_message u) → P u
         → Made (inside a φ) (L.look s d₀) feed t s from (L.look s d)
-    found_all S t u e p = (sought-ends a φ (reading t u e p) e S).made
+    found_all S t u e p = (sought_ends a φ (reading t u e p) e S).made
 
-    pub found-far : L.In (length s) d
-    found-far = L.far at (length s) d R.inside R.within
+    pub found_far : L.In (length s) d
+    found_far = L.far at (length s) d R.inside R.within
 
-    pub found-next : {i l n : ℕ} {r : D} (x : List ℕ) → Seeks feed a s at (Met.Sought i l n) → x ≡ take n s
+    pub found_next : {i l n : ℕ} {r : D} (x : List ℕ) → Seeks feed a s at (Met.Sought i l n) → x ≡ take n s
         → ((u : ℕ) → P u → Made φ (L.look x d) feed u x i (L.look x r)) → L.In (length x) r
         → Finding L φ P a s from d₀ n r
-    found-next {n = n} {r = r} x S e M W =
+    found_next {n = n} {r = r} x S e M W =
         let N : n ≤ length s = S.lying.inside in
         record {
           of = λ t u g p.
-              (sought-on a φ (reading t u g p) g {r = r} x S e (record { made = M u p; within = W })).walked;
+              (sought_on a φ (reading t u g p) g {r = r} x S e (record { made = M u p; within = W })).walked;
           within = subst (λ k. L.In k r) (ap length e ∙ length-take n s ∙ omega arith) W;
           inside = N;
         }
 
 -- less is left behind a message
-pub found-less : {a : ℕ} {s : List ℕ} {at i l n : ℕ} → Seeks feed a s at (Met.Sought i l n)
+pub found_less : {a : ℕ} {s : List ℕ} {at i l n : ℕ} → Seeks feed a s at (Met.Sought i l n)
     → length s - n < length s - at
-found-less S = omega (arith, S.lying)
+found_less S = omega (arith, S.lying)
 
 -- of messages of one type alone
 pub made_as : {B : Type 0} {φ : Takes B} {v w : B} {t u : ℕ} {s : List ℕ} {from : ℕ} → Made φ v feed t s from w → u ≡ t

@@ -7,195 +7,195 @@ use mathlib.Core.Option.{none, some}
 use native.Mathlib.Omega.{arith}
 use lib.ListN.{length, take, drop, length-take}
 use borrow.Author.Tests.{eq-eqb, ne_eqb}
-use Rattle.wire.specs.promises.Places.{key_at, number_at, skippedAt}
+use Rattle.wire.specs.Promises.Places.{key_at, number_at, skipped_at}
 use Rattle.wire.specs.declared.Cursor.{Cursor}
 use Rattle.wire.specs.declared.GotKey.{GotKey}
 use Rattle.wire.specs.declared.GotNumber.{GotNumber}
 use Rattle.wire.specs.declared.Skipped.{Skipped}
-use Rattle.realtime.specs.Tree.{a_number, aText, aMessage, Schema, tree}
-use Rattle.realtime.specs.Schema.{fieldRows, feed, stopTimeUpdate, stopTimeEvent}
-use Rattle.realtime_read.specs.laws.Passing.{Passed}
-use Rattle.realtime_read.specs.promises.Steps.{Lies, Stepped}
+use Rattle.realtime.specs.Tree.{a_number, a_text, a_message, Schema, tree}
+use Rattle.realtime.specs.Schema.{field_rows, feed, stop_time_update, stop_time_event}
+use Rattle.realtime_read.specs.Laws.Passing.{Passed}
+use Rattle.realtime_read.specs.Promises.Steps.{Lies, Stepped}
 use Rattle.realtime_read.specs.declared.Step.{Step}
-use Rattle.realtime_views.specs.promises.Fold.{inside}
-use Rattle.realtime_views.specs.promises.Reading.{Lens, Reads}
-use Rattle.realtime_views.specs.promises.Last.{Single, taking}
-use Rattle.realtime_views.specs.promises.Numbers.{plain, spans, sequence, stop, relationship, delay, time}
-use Rattle.realtime_views.specs.promises.Numbers.{value_of, noNumber, noNumbers, noSpan, fromStop, EventReads}
-use Rattle.realtime_views.specs.promises.Numbers.{EventsRead, StopReads}
+use Rattle.realtime_views.specs.Promises.Fold.{inside}
+use Rattle.realtime_views.specs.Promises.Reading.{Lens, Reads}
+use Rattle.realtime_views.specs.Promises.Last.{Single, taking}
+use Rattle.realtime_views.specs.Promises.Numbers.{plain, spans, sequence, stop, relationship, delay, time}
+use Rattle.realtime_views.specs.Promises.Numbers.{value_of, no_number, no_numbers, no_span, from_stop, EventReads}
+use Rattle.realtime_views.specs.Promises.Numbers.{EventsRead, StopReads}
 use Rattle.realtime_views.specs.declared.TextPart.{TextPart}
 use Rattle.realtime_views.specs.declared.Number.{Number}
 use Rattle.realtime_views.specs.declared.EventNumbers.{EventNumbers}
 use Rattle.realtime_views.specs.declared.StopUpdate.{StopUpdate}
-use Rattle.realtime_views.proofs.Reader.{Reading, begins, says, on-number, on-text, past-message, taken, passed}
-use Rattle.realtime_views.proofs.Reader.{taking-skips, passes_on, breaks-off, key-breaks, comes-to-end}
+use Rattle.realtime_views.proofs.Reader.{Reading, begins, says, on_number, on_text, past_message, taken, passed}
+use Rattle.realtime_views.proofs.Reader.{taking_skips, passes_on, breaks_off, key_breaks, comes_to_end}
 use Rattle.realtime_views.proofs.Reader as reader
-use Rattle.realtime_views.proofs.Wires.{keyed, number-none, number_passed, number_step, other_none, other-passed}
-use Rattle.realtime_views.proofs.Wires.{past-number}
+use Rattle.realtime_views.proofs.Wires.{keyed, number_none, number_passed, number_step, other_none, other_passed}
+use Rattle.realtime_views.proofs.Wires.{past_number}
 
 -- of a field alone
 module _ {D B : Type 0} {L : Lens D B} (o : Single B) {σ : Schema} {t : ℕ} {s : List ℕ} {from : ℕ} {d₀ : D} {at : ℕ}
     {d : D} (R : Reading L (taking o) σ t s from d₀ at d) where
-  pub mine-number : {f m n : ℕ} {r : D} → Stepped σ t s at (Step.Number f m n) → f ≡ o.field
+  pub mine_number : {f m n : ℕ} {r : D} → Stepped σ t s at (Step.Number f m n) → f ≡ o.field
       → L.look s r ≡ o.number m → L.In n r → Reading L (taking o) σ t s from d₀ n r
-  mine-number {f} {m} S e q w =
-      on-number R S (q ∙ ap (λ b. cond b (o.number m) (L.look s d)) (sym (eq-eqb f o.field e))) (λ W. w)
+  mine_number {f} {m} S e q w =
+      on_number R S (q ∙ ap (λ b. cond b (o.number m) (L.look s d)) (sym (eq-eqb f o.field e))) (λ W. w)
 
-  pub other-number : {f m n : ℕ} → Stepped σ t s at (Step.Number f m n) → (f ≡ o.field → ⊥)
+  pub other_number : {f m n : ℕ} → Stepped σ t s at (Step.Number f m n) → (f ≡ o.field → ⊥)
       → Reading L (taking o) σ t s from d₀ n d
-  other-number {f} {m} S e =
-      on-number R S (ap (λ b. cond b (o.number m) (L.look s d)) (sym (ne_eqb f o.field e))) (λ W. W)
+  other_number {f} {m} S e =
+      on_number R S (ap (λ b. cond b (o.number m) (L.look s d)) (sym (ne_eqb f o.field e))) (λ W. W)
 
-  pub mine-text : {f i l n : ℕ} {r : D} → Stepped σ t s at (Step.Text f i l n) → f ≡ o.field
+  pub mine_text : {f i l n : ℕ} {r : D} → Stepped σ t s at (Step.Text f i l n) → f ≡ o.field
       → L.look s r ≡ o.text (take l (drop i s)) → (i + l ≤ n → L.In n r)
       → Reading L (taking o) σ t s from d₀ n r
-  mine-text {f} {i} {l} S e q w =
-      on-text R S (q ∙ ap (λ b. cond b (o.text (take l (drop i s))) (L.look s d)) (sym (eq-eqb f o.field e)))
+  mine_text {f} {i} {l} S e q w =
+      on_text R S (q ∙ ap (λ b. cond b (o.text (take l (drop i s))) (L.look s d)) (sym (eq-eqb f o.field e)))
       (λ p W. w p)
 
   pub other_text : {f i l n : ℕ} → Stepped σ t s at (Step.Text f i l n) → (f ≡ o.field → ⊥)
       → Reading L (taking o) σ t s from d₀ n d
   other_text {f} {i} {l} S e =
-      on-text R S (ap (λ b. cond b (o.text (take l (drop i s))) (L.look s d)) (sym (ne_eqb f o.field e)))
+      on_text R S (ap (λ b. cond b (o.text (take l (drop i s))) (L.look s d)) (sym (ne_eqb f o.field e)))
       (λ p W. W)
 
-  pub no-message : {f u i l n : ℕ} → Stepped σ t s at (Step.Message f u i l n) → Reading L (taking o) σ t s from d₀ n d
-  no-message S = past-message R S (λ m. refl)
+  pub no_message : {f u i l n : ℕ} → Stepped σ t s at (Step.Message f u i l n) → Reading L (taking o) σ t s from d₀ n d
+  no_message S = past_message R S (λ m. refl)
 
 -- a field is listed as one kind
-clash : (t f k : ℕ) → feed t f ≡ some a_number → feed t k ≡ some aText → f ≡ k → ⊥
-clash t f k p q e = let r : some a_number ≡ some aText = sym p ∙ ap (feed t) e ∙ q in let z : ◌≡◌ {A = ℕ} 0 1 = cc in
+clash : (t f k : ℕ) → feed t f ≡ some a_number → feed t k ≡ some a_text → f ≡ k → ⊥
+clash t f k p q e = let r : some a_number ≡ some a_text = sym p ∙ ap (feed t) e ∙ q in let z : ◌≡◌ {A = ℕ} 0 1 = cc in
     omega arith
 
-pub sequence-number : (f : ℕ) → feed stopTimeUpdate f ≡ some aText → f ≡ 1 → ⊥
-unfolding feed fieldRows
-sequence-number f p e = clash stopTimeUpdate 1 f refl p (sym e)
+pub sequence_number : (f : ℕ) → feed stop_time_update f ≡ some a_text → f ≡ 1 → ⊥
+unfolding feed field_rows
+sequence_number f p e = clash stop_time_update 1 f refl p (sym e)
 
-stop-text : (f : ℕ) → feed stopTimeUpdate f ≡ some a_number → f ≡ 4 → ⊥
-unfolding feed fieldRows
-stop-text f p e = clash stopTimeUpdate f 4 p refl e
+stop_text : (f : ℕ) → feed stop_time_update f ≡ some a_number → f ≡ 4 → ⊥
+unfolding feed field_rows
+stop_text f p e = clash stop_time_update f 4 p refl e
 
-relationship-number : (f : ℕ) → feed stopTimeUpdate f ≡ some aText → f ≡ 5 → ⊥
-unfolding feed fieldRows
-relationship-number f p e = clash stopTimeUpdate 5 f refl p (sym e)
+relationship_number : (f : ℕ) → feed stop_time_update f ≡ some a_text → f ≡ 5 → ⊥
+unfolding feed field_rows
+relationship_number f p e = clash stop_time_update 5 f refl p (sym e)
 
-typed : (f u k v : ℕ) → feed stopTimeUpdate f ≡ some (aMessage u) → feed stopTimeUpdate k ≡ some (aMessage v) → f ≡ k
+typed : (f u k v : ℕ) → feed stop_time_update f ≡ some (a_message u) → feed stop_time_update k ≡ some (a_message v) → f ≡ k
     → u ≡ v
-typed f u k v p q e = let r : some (aMessage u) ≡ some (aMessage v) = sym p ∙ ap (feed stopTimeUpdate) e ∙ q in cc
+typed f u k v p q e = let r : some (a_message u) ≡ some (a_message v) = sym p ∙ ap (feed stop_time_update) e ∙ q in cc
 
-arrival-event : (f u : ℕ) → feed stopTimeUpdate f ≡ some (aMessage u) → f ≡ 2 → u ≡ stopTimeEvent
-unfolding feed fieldRows
-arrival-event f u p e = typed f u 2 stopTimeEvent p refl e
+arrival_event : (f u : ℕ) → feed stop_time_update f ≡ some (a_message u) → f ≡ 2 → u ≡ stop_time_event
+unfolding feed field_rows
+arrival_event f u p e = typed f u 2 stop_time_event p refl e
 
-departure-event : (f u : ℕ) → feed stopTimeUpdate f ≡ some (aMessage u) → f ≡ 3 → u ≡ stopTimeEvent
-unfolding feed fieldRows
-departure-event f u p e = typed f u 3 stopTimeEvent p refl e
+departure_event : (f u : ℕ) → feed stop_time_update f ≡ some (a_message u) → f ≡ 3 → u ≡ stop_time_event
+unfolding feed field_rows
+departure_event f u p e = typed f u 3 stop_time_event p refl e
 
 -- the loop over an event, over b
 pub record Events (s : List ℕ) (from : ℕ) (b : EventNumbers) (at : ℕ) (e i : Number) : Type 0 where
-  pub delay : Reading (plain value_of) (taking delay) feed stopTimeEvent s from b.delay at e
-  pub time : Reading (plain value_of) (taking time) feed stopTimeEvent s from b.time at i
+  pub delay : Reading (plain value_of) (taking delay) feed stop_time_event s from b.delay at e
+  pub time : Reading (plain value_of) (taking time) feed stop_time_event s from b.time at i
 
-pub event-starts : {s : List ℕ} {from : ℕ} (b : EventNumbers) → from ≤ length s
+pub event_starts : {s : List ℕ} {from : ℕ} (b : EventNumbers) → from ≤ length s
     → Events s from b from b.delay b.time
-event-starts b h =
+event_starts b h =
     record { delay = begins (record { inside = h; within = tt }); time = begins (record { inside = h; within = tt }) }
 
 module _ {s : List ℕ} {from : ℕ} {b : EventNumbers} {at : ℕ} {e i : Number} (R : Events s from b at e i) where
-  pub event-ends : length s ≤ at → EventReads s from b (record { delay = e; time = i })
-  event-ends h = record { delay = comes-to-end R.delay h; time = comes-to-end R.time h }
+  pub event_ends : length s ≤ at → EventReads s from b (record { delay = e; time = i })
+  event_ends h = record { delay = comes_to_end R.delay h; time = comes_to_end R.time h }
 
-  event-breaks : tree feed stopTimeEvent (drop at s) ≡ none → EventReads s from b (record { delay = e; time = i })
-  event-breaks h = record { delay = breaks-off R.delay h; time = breaks-off R.time h }
+  event_breaks : tree feed stop_time_event (drop at s) ≡ none → EventReads s from b (record { delay = e; time = i })
+  event_breaks h = record { delay = breaks_off R.delay h; time = breaks_off R.time h }
 
   module _ (h : at < length s) {o : GotKey} (k : o ≡ key_at s at) where
-    pub event-no-key : o ≡ GotKey.Broken → EventReads s from b (record { delay = e; time = i })
-    event-no-key g = record { delay = key-breaks R.delay h (sym g ∙ k); time = key-breaks R.time h (sym g ∙ k) }
+    pub event_no_key : o ≡ GotKey.Broken → EventReads s from b (record { delay = e; time = i })
+    event_no_key g = record { delay = key_breaks R.delay h (sym g ∙ k); time = key_breaks R.time h (sym g ∙ k) }
 
     module _ {f w : ℕ} {c : Cursor} (g : o ≡ GotKey.Read f w c) where
       module _ (z : w ≡ 0) {p : GotNumber} (q : p ≡ number_at s c.at) where
-        pub event-no-number : p ≡ GotNumber.Broken → EventReads s from b (record { delay = e; time = i })
-        event-no-number r = event-breaks (number-none s h k g z q feed stopTimeEvent r)
+        pub event_no_number : p ≡ GotNumber.Broken → EventReads s from b (record { delay = e; time = i })
+        event_no_number r = event_breaks (number_none s h k g z q feed stop_time_event r)
 
         module _ {m : ℕ} {a : Cursor} (r : p ≡ GotNumber.Read m a) where
-          step : feed stopTimeEvent f ≡ some a_number → Stepped feed stopTimeEvent s at (Step.Number f m a.at)
-          step = number_step s h k g z q r feed stopTimeEvent
+          step : feed stop_time_event f ≡ some a_number → Stepped feed stop_time_event s at (Step.Number f m a.at)
+          step = number_step s h k g z q r feed stop_time_event
 
-          over : Passed feed stopTimeEvent s at f a.at
-          over = number_passed s h k g z q r feed stopTimeEvent
+          over : Passed feed stop_time_event s at f a.at
+          over = number_passed s h k g z q r feed stop_time_event
 
-          pub event-delay : f ≡ 1 → Events s from b a.at (record { given = 1; value = m }) i
-          unfolding feed fieldRows
-          event-delay v =
+          pub event_delay : f ≡ 1 → Events s from b a.at (record { given = 1; value = m }) i
+          unfolding feed field_rows
+          event_delay v =
               record {
-                delay = mine-number delay R.delay (step (ap (feed stopTimeEvent) v)) v refl tt;
-                time = passes_on R.time over (taking-skips time (λ j. omega arith));
+                delay = mine_number delay R.delay (step (ap (feed stop_time_event) v)) v refl tt;
+                time = passes_on R.time over (taking_skips time (λ j. omega arith));
               }
 
-          pub event-time : (f ≡ 1 → ⊥) → f ≡ 2 → Events s from b a.at e (record { given = 1; value = m })
-          unfolding feed fieldRows
-          event-time u v =
+          pub event_time : (f ≡ 1 → ⊥) → f ≡ 2 → Events s from b a.at e (record { given = 1; value = m })
+          unfolding feed field_rows
+          event_time u v =
               record {
-                delay = passes_on R.delay over (taking-skips delay u);
-                time = mine-number time R.time (step (ap (feed stopTimeEvent) v)) v refl tt;
+                delay = passes_on R.delay over (taking_skips delay u);
+                time = mine_number time R.time (step (ap (feed stop_time_event) v)) v refl tt;
               }
 
-          pub event-number : (f ≡ 1 → ⊥) → (f ≡ 2 → ⊥) → Events s from b a.at e i
-          event-number u v =
+          pub event_number : (f ≡ 1 → ⊥) → (f ≡ 2 → ⊥) → Events s from b a.at e i
+          event_number u v =
               record {
-                delay = passes_on R.delay over (taking-skips delay u);
-                time = passes_on R.time over (taking-skips time v);
+                delay = passes_on R.delay over (taking_skips delay u);
+                time = passes_on R.time over (taking_skips time v);
               }
 
-      module _ (z : w ≡ 0 → ⊥) {p : Skipped} (q : p ≡ skippedAt s c.at f w 16) where
-        pub event-no-other : p ≡ Skipped.Broken → EventReads s from b (record { delay = e; time = i })
-        event-no-other r = event-breaks (other_none s h k g q feed stopTimeEvent r)
+      module _ (z : w ≡ 0 → ⊥) {p : Skipped} (q : p ≡ skipped_at s c.at f w 16) where
+        pub event_no_other : p ≡ Skipped.Broken → EventReads s from b (record { delay = e; time = i })
+        event_no_other r = event_breaks (other_none s h k g q feed stop_time_event r)
 
         module _ {a : Cursor} (r : p ≡ Skipped.Past a) where
-          beyond : Passed feed stopTimeEvent s at f a.at
-          beyond = other-passed s h k g q r feed stopTimeEvent
+          beyond : Passed feed stop_time_event s at f a.at
+          beyond = other_passed s h k g q r feed stop_time_event
 
-          pub event-other : Events s from b a.at e i
-          unfolding feed fieldRows
-          event-other =
+          pub event_other : Events s from b a.at e i
+          unfolding feed field_rows
+          event_other =
               record {
-                delay = past-number delay R.delay h (keyed s h k g) beyond refl z;
-                time = past-number time R.time h (keyed s h k g) beyond refl z;
+                delay = past_number delay R.delay h (keyed s h k g) beyond refl z;
+                time = past_number time R.time h (keyed s h k g) beyond refl z;
               }
 
 -- the events at field j of a stop_time_update
 pub record Within (j : ℕ) (s : List ℕ) (from at : ℕ) (e : EventNumbers) : Type 0 where
-  pub delay : Reading (plain value_of) (inside j (taking delay)) feed stopTimeUpdate s from noNumber at e.delay
-  pub time : Reading (plain value_of) (inside j (taking time)) feed stopTimeUpdate s from noNumber at e.time
+  pub delay : Reading (plain value_of) (inside j (taking delay)) feed stop_time_update s from no_number at e.delay
+  pub time : Reading (plain value_of) (inside j (taking time)) feed stop_time_update s from no_number at e.time
 
-within-starts : (j : ℕ) {s : List ℕ} {from : ℕ} {e : EventNumbers} → from ≤ length s → e ≡ noNumbers
+within_starts : (j : ℕ) {s : List ℕ} {from : ℕ} {e : EventNumbers} → from ≤ length s → e ≡ no_numbers
     → Within j s from from e
-within-starts j {s} {from} h p =
+within_starts j {s} {from} h p =
     subst (Within j s from from) (sym p)
     (record { delay = begins (record { inside = h; within = tt }); time = begins (record { inside = h; within = tt }) })
 
 module _ {j : ℕ} {s : List ℕ} {from at : ℕ} {e : EventNumbers} (R : Within j s from at e) where
-  within-ends : Stepped feed stopTimeUpdate s at Step.End → EventsRead j s from e
-  within-ends S = record { delay = says R.delay S; time = says R.time S }
+  within_ends : Stepped feed stop_time_update s at Step.End → EventsRead j s from e
+  within_ends S = record { delay = says R.delay S; time = says R.time S }
 
-  within-breaks : Stepped feed stopTimeUpdate s at Step.Broken → EventsRead j s from e
-  within-breaks S = record { delay = reader.stops R.delay S; time = reader.stops R.time S }
+  within_breaks : Stepped feed stop_time_update s at Step.Broken → EventsRead j s from e
+  within_breaks S = record { delay = reader.stops R.delay S; time = reader.stops R.time S }
 
-  within-number : {f m n : ℕ} → Stepped feed stopTimeUpdate s at (Step.Number f m n) → Within j s from n e
-  within-number S = record { delay = on-number R.delay S refl (λ h. h); time = on-number R.time S refl (λ h. h) }
+  within_number : {f m n : ℕ} → Stepped feed stop_time_update s at (Step.Number f m n) → Within j s from n e
+  within_number S = record { delay = on_number R.delay S refl (λ h. h); time = on_number R.time S refl (λ h. h) }
 
-  within_text : {f i l n : ℕ} → Stepped feed stopTimeUpdate s at (Step.Text f i l n) → Within j s from n e
-  within_text S = record { delay = on-text R.delay S refl (λ p h. h); time = on-text R.time S refl (λ p h. h) }
+  within_text : {f i l n : ℕ} → Stepped feed stop_time_update s at (Step.Text f i l n) → Within j s from n e
+  within_text S = record { delay = on_text R.delay S refl (λ p h. h); time = on_text R.time S refl (λ p h. h) }
 
-  within-passed : {f u i l n : ℕ} → Stepped feed stopTimeUpdate s at (Step.Message f u i l n) → (f ≡ j → ⊥)
+  within_passed : {f u i l n : ℕ} → Stepped feed stop_time_update s at (Step.Message f u i l n) → (f ≡ j → ⊥)
       → Within j s from n e
-  within-passed S h =
+  within_passed S h =
       record { delay = passed j (taking delay) R.delay S h; time = passed j (taking time) R.time S h }
 
-  within-taken : {f u i l n : ℕ} {r : EventNumbers} (x : List ℕ)
-      → Stepped feed stopTimeUpdate s at (Step.Message f u i l n) → f ≡ j → u ≡ stopTimeEvent → x ≡ take n s
+  within_taken : {f u i l n : ℕ} {r : EventNumbers} (x : List ℕ)
+      → Stepped feed stop_time_update s at (Step.Message f u i l n) → f ≡ j → u ≡ stop_time_event → x ≡ take n s
       → EventReads x i e r → Within j s from n r
-  within-taken {f} {u} {i} {l} {n} {r} x S h g p Q = record {
+  within_taken {f} {u} {i} {l} {n} {r} x S h g p Q = record {
     delay = taken j (taking delay) R.delay x S h p
         (subst (λ v. Reads (plain value_of) (taking delay) feed v x i e.delay r.delay) (sym g) Q.delay);
     time = taken j (taking time) R.time x S h p
@@ -203,29 +203,29 @@ module _ {j : ℕ} {s : List ℕ} {from at : ℕ} {e : EventNumbers} (R : Within
   }
 
 -- a message inside starts inside the first bytes up to its end
-pub begins-inside : (s : List ℕ) {x : List ℕ} {at i l n : ℕ} → x ≡ take n s → Lies s at i l n → i ≤ length x
-begins-inside s {x} {at} {i} {l} {n} e F = omega (arith, F, ap length e, length-take n s)
+pub begins_inside : (s : List ℕ) {x : List ℕ} {at i l n : ℕ} → x ≡ take n s → Lies s at i l n → i ≤ length x
+begins_inside s {x} {at} {i} {l} {n} e F = omega (arith, F, ap length e, length-take n s)
 
 -- the loop over a stop_time_update
 pub record Stops (s : List ℕ) (from at q : ℕ) (p : TextPart) (k : ℕ) (a d : EventNumbers) : Type 0 where
-  pub sequence : Reading (plain (λ n. n)) (taking sequence) feed stopTimeUpdate s from 0 at q
-  pub stop : Reading spans (taking stop) feed stopTimeUpdate s from noSpan at p
-  pub relationship : Reading (plain (λ n. n)) (taking relationship) feed stopTimeUpdate s from 0 at k
+  pub sequence : Reading (plain (λ n. n)) (taking sequence) feed stop_time_update s from 0 at q
+  pub stop : Reading spans (taking stop) feed stop_time_update s from no_span at p
+  pub relationship : Reading (plain (λ n. n)) (taking relationship) feed stop_time_update s from 0 at k
   pub arrival : Within 2 s from at a
   pub departure : Within 3 s from at d
 
-pub stops-start : {s : List ℕ} {from : ℕ} {a d : EventNumbers} → from ≤ length s → a ≡ noNumbers → d ≡ noNumbers
-    → Stops s from from 0 noSpan 0 a d
-stops-start h g g' = record {
+pub stops_start : {s : List ℕ} {from : ℕ} {a d : EventNumbers} → from ≤ length s → a ≡ no_numbers → d ≡ no_numbers
+    → Stops s from from 0 no_span 0 a d
+stops_start h g g' = record {
   sequence = begins (record { inside = h; within = tt });
   stop = begins (record { inside = h; within = omega arith });
   relationship = begins (record { inside = h; within = tt });
-  arrival = within-starts 2 h g;
-  departure = within-starts 3 h g';
+  arrival = within_starts 2 h g;
+  departure = within_starts 3 h g';
 }
 
 module _ {s : List ℕ} {from at q : ℕ} {p : TextPart} {k : ℕ} {a d : EventNumbers} (R : Stops s from at q p k a d) where
-  pub stops_end : {r : StopUpdate} → Stepped feed stopTimeUpdate s at Step.End → r ≡ fromStop q p k a d
+  pub stops_end : {r : StopUpdate} → Stepped feed stop_time_update s at Step.End → r ≡ from_stop q p k a d
       → StopReads s from r
   stops_end S e = record {
     q = q;
@@ -237,13 +237,13 @@ module _ {s : List ℕ} {from at q : ℕ} {p : TextPart} {k : ℕ} {a d : EventN
     sequence = says R.sequence S;
     stop = says R.stop S;
     relationship = says R.relationship S;
-    arrival = within-ends R.arrival S;
-    departure = within-ends R.departure S;
+    arrival = within_ends R.arrival S;
+    departure = within_ends R.departure S;
   }
 
-  pub stops-break : {r : StopUpdate} → Stepped feed stopTimeUpdate s at Step.Broken → r ≡ fromStop q p k a d
+  pub stops_break : {r : StopUpdate} → Stepped feed stop_time_update s at Step.Broken → r ≡ from_stop q p k a d
       → StopReads s from r
-  stops-break S e = record {
+  stops_break S e = record {
     q = q;
     p = p;
     k = k;
@@ -253,74 +253,74 @@ module _ {s : List ℕ} {from at q : ℕ} {p : TextPart} {k : ℕ} {a d : EventN
     sequence = reader.stops R.sequence S;
     stop = reader.stops R.stop S;
     relationship = reader.stops R.relationship S;
-    arrival = within-breaks R.arrival S;
-    departure = within-breaks R.departure S;
+    arrival = within_breaks R.arrival S;
+    departure = within_breaks R.departure S;
   }
 
-  module _ {f m n : ℕ} (S : Stepped feed stopTimeUpdate s at (Step.Number f m n)) where
-    numbered : {q' k' : ℕ} → Reading (plain (λ n. n)) (taking sequence) feed stopTimeUpdate s from 0 n q'
-        → Reading (plain (λ n. n)) (taking relationship) feed stopTimeUpdate s from 0 n k'
+  module _ {f m n : ℕ} (S : Stepped feed stop_time_update s at (Step.Number f m n)) where
+    numbered : {q' k' : ℕ} → Reading (plain (λ n. n)) (taking sequence) feed stop_time_update s from 0 n q'
+        → Reading (plain (λ n. n)) (taking relationship) feed stop_time_update s from 0 n k'
         → Stops s from n q' p k' a d
     numbered Q K = record {
       sequence = Q;
-      stop = other-number stop R.stop S (stop-text f S.typed);
+      stop = other_number stop R.stop S (stop_text f S.typed);
       relationship = K;
-      arrival = within-number R.arrival S;
-      departure = within-number R.departure S;
+      arrival = within_number R.arrival S;
+      departure = within_number R.departure S;
     }
 
-    pub stops-sequence : f ≡ 1 → Stops s from n m p k a d
-    stops-sequence h =
-        numbered (mine-number sequence R.sequence S h refl tt)
-        (other-number relationship R.relationship S (λ g. omega arith))
+    pub stops_sequence : f ≡ 1 → Stops s from n m p k a d
+    stops_sequence h =
+        numbered (mine_number sequence R.sequence S h refl tt)
+        (other_number relationship R.relationship S (λ g. omega arith))
 
-    pub stops-relationship : f ≡ 5 → Stops s from n q p m a d
-    stops-relationship h =
-        numbered (other-number sequence R.sequence S (λ g. omega arith))
-        (mine-number relationship R.relationship S h refl tt)
+    pub stops_relationship : f ≡ 5 → Stops s from n q p m a d
+    stops_relationship h =
+        numbered (other_number sequence R.sequence S (λ g. omega arith))
+        (mine_number relationship R.relationship S h refl tt)
 
-    pub stops-number : (f ≡ 1 → ⊥) → (f ≡ 5 → ⊥) → Stops s from n q p k a d
-    stops-number h h' =
-        numbered (other-number sequence R.sequence S h) (other-number relationship R.relationship S h')
+    pub stops_number : (f ≡ 1 → ⊥) → (f ≡ 5 → ⊥) → Stops s from n q p k a d
+    stops_number h h' =
+        numbered (other_number sequence R.sequence S h) (other_number relationship R.relationship S h')
 
-  module _ {f i l n : ℕ} (S : Stepped feed stopTimeUpdate s at (Step.Text f i l n)) where
-    texted : {p' : TextPart} → Reading spans (taking stop) feed stopTimeUpdate s from noSpan n p'
+  module _ {f i l n : ℕ} (S : Stepped feed stop_time_update s at (Step.Text f i l n)) where
+    texted : {p' : TextPart} → Reading spans (taking stop) feed stop_time_update s from no_span n p'
         → Stops s from n q p' k a d
     texted P = record {
-      sequence = other_text sequence R.sequence S (sequence-number f S.typed);
+      sequence = other_text sequence R.sequence S (sequence_number f S.typed);
       stop = P;
-      relationship = other_text relationship R.relationship S (relationship-number f S.typed);
+      relationship = other_text relationship R.relationship S (relationship_number f S.typed);
       arrival = within_text R.arrival S;
       departure = within_text R.departure S;
     }
 
-    pub stops-stop : f ≡ 4 → Stops s from n q (record { start = i; len = l }) k a d
-    stops-stop h = texted (mine-text stop R.stop S h refl (λ w. w))
+    pub stops_stop : f ≡ 4 → Stops s from n q (record { start = i; len = l }) k a d
+    stops_stop h = texted (mine_text stop R.stop S h refl (λ w. w))
 
-    pub stops-text : (f ≡ 4 → ⊥) → Stops s from n q p k a d
-    stops-text h = texted (other_text stop R.stop S h)
+    pub stops_text : (f ≡ 4 → ⊥) → Stops s from n q p k a d
+    stops_text h = texted (other_text stop R.stop S h)
 
-  module _ {f u i l n : ℕ} (S : Stepped feed stopTimeUpdate s at (Step.Message f u i l n)) where
+  module _ {f u i l n : ℕ} (S : Stepped feed stop_time_update s at (Step.Message f u i l n)) where
     messaged : {a' d' : EventNumbers} → Within 2 s from n a' → Within 3 s from n d' → Stops s from n q p k a' d'
     messaged A D = record {
-      sequence = no-message sequence R.sequence S;
-      stop = no-message stop R.stop S;
-      relationship = no-message relationship R.relationship S;
+      sequence = no_message sequence R.sequence S;
+      stop = no_message stop R.stop S;
+      relationship = no_message relationship R.relationship S;
       arrival = A;
       departure = D;
     }
 
-    pub stops-arrival : {r : EventNumbers} (x : List ℕ) → f ≡ 2 → x ≡ take n s → EventReads x i a r
+    pub stops_arrival : {r : EventNumbers} (x : List ℕ) → f ≡ 2 → x ≡ take n s → EventReads x i a r
         → Stops s from n q p k r d
-    stops-arrival x h e Q =
-        messaged (within-taken R.arrival x S h (arrival-event f u S.typed h) e Q)
-        (within-passed R.departure S (λ g. omega arith))
+    stops_arrival x h e Q =
+        messaged (within_taken R.arrival x S h (arrival_event f u S.typed h) e Q)
+        (within_passed R.departure S (λ g. omega arith))
 
-    pub stops-departure : {r : EventNumbers} (x : List ℕ) → f ≡ 3 → x ≡ take n s → EventReads x i d r
+    pub stops_departure : {r : EventNumbers} (x : List ℕ) → f ≡ 3 → x ≡ take n s → EventReads x i d r
         → Stops s from n q p k a r
-    stops-departure x h e Q =
-        messaged (within-passed R.arrival S (λ g. omega arith))
-        (within-taken R.departure x S h (departure-event f u S.typed h) e Q)
+    stops_departure x h e Q =
+        messaged (within_passed R.arrival S (λ g. omega arith))
+        (within_taken R.departure x S h (departure_event f u S.typed h) e Q)
 
-    pub stops-message : (f ≡ 2 → ⊥) → (f ≡ 3 → ⊥) → Stops s from n q p k a d
-    stops-message h h' = messaged (within-passed R.arrival S h) (within-passed R.departure S h')
+    pub stops_message : (f ≡ 2 → ⊥) → (f ≡ 3 → ⊥) → Stops s from n q p k a d
+    stops_message h h' = messaged (within_passed R.arrival S h) (within_passed R.departure S h')

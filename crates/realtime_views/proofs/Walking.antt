@@ -5,13 +5,13 @@ use mathlib.Core.List.{List, ◌∷◌, ◌++◌}
 use mathlib.Core.Option.{Option, none, some}
 use native.Mathlib.Omega.{arith}
 use lib.ListN.{length, take, drop, length-take}
-use Rattle.basics.specs.laws.Options.{none-some}
+use Rattle.basics.specs.Laws.Options.{none_some}
 use Rattle.realtime.specs.Tree.{Tree, end, tree, join, sub, rep}
-use Rattle.realtime.specs.Schema.{fieldRows, feed, feedMessage, feedEntity, tripUpdate, stopTimeUpdate}
-use Rattle.realtime_views.specs.laws.Reading.{front-part, front_rest}
-use Rattle.realtime_views.specs.laws.Seeks.{sub-first, sub-none, rep-join}
-use Rattle.realtime_views.specs.promises.Seeks.{Holding, Seeks}
-use Rattle.realtime_views.specs.promises.Walks.{left_of, left, SoundWalk, ahead, NextItem, NextEntity, NextUpdate}
+use Rattle.realtime.specs.Schema.{field_rows, feed, feed_message, feed_entity, trip_update, stop_time_update}
+use Rattle.realtime_views.specs.Laws.Reading.{front_part, front_rest}
+use Rattle.realtime_views.specs.Laws.Seeks.{sub_first, sub_none, rep_join}
+use Rattle.realtime_views.specs.Promises.Seeks.{Holding, Seeks}
+use Rattle.realtime_views.specs.Promises.Walks.{left_of, left, SoundWalk, ahead, NextItem, NextEntity, NextUpdate}
 use Rattle.realtime_views.specs.declared.Met.{Met}
 use Rattle.realtime_views.specs.declared.Walk.{Walk}
 use Rattle.realtime_views.specs.declared.Item.{Item}
@@ -28,13 +28,13 @@ pub leads : {a k : ℕ} {s : List ℕ} (w : Walk) → SoundWalk s w.outer w.end 
 leads w S = record { of = λ t u v H G l e. e; sound = S; fewer = omega arith }
 
 -- with the trees of the message that is open and of what stands behind it in view
-in-view : {P : Type 0} (a k : ℕ) (i o : Option Tree) (l : List Tree) → left_of a k i o ≡ some l
+in_view : {P : Type 0} (a k : ℕ) (i o : Option Tree) (l : List Tree) → left_of a k i o ≡ some l
     → ((m n : Tree) → i ≡ some m → o ≡ some n → l ≡ rep k m ++ rep k (sub a n) → P) → P
-in-view a k none o l e p = none-some e
-in-view a k (some m) none l e p = none-some e
-in-view a k (some m) (some n) l e p =
+in_view a k none o l e p = none_some e
+in_view a k (some m) none l e p = none_some e
+in_view a k (some m) (some n) l e p =
     let q : l ≡ rep k (join m (sub a n)) = cc in
-    p m n refl refl (q ∙ rep-join k m (sub a n))
+    p m n refl refl (q ∙ rep_join k m (sub a n))
 
 module _ {a k : ℕ} {s : List ℕ} {w : Walk} {outer stop at : ℕ} (L : Leads a k s w outer stop at) {x : List ℕ}
     (X : x ≡ take stop s) where
@@ -47,7 +47,7 @@ module _ {a k : ℕ} {s : List ℕ} {w : Walk} {outer stop at : ℕ} (L : Leads 
       → ((y z : Tree) → tree feed u (drop at x) ≡ some y → tree feed t (drop outer s) ≡ some z
       → l ≡ rep k y ++ rep k (sub a z) → P) → P
   left_here t u v H G l e =
-      in-view a k (tree feed u (drop at x)) (tree feed t (drop outer s)) l
+      in_view a k (tree feed u (drop at x)) (tree feed t (drop outer s)) l
       (ap (λ y. left_of a k (tree feed u (drop at y)) (tree feed t (drop outer s))) X ∙ L.of t u v H G l e)
 
   pub yields : {i m n : ℕ} → Seeks feed k x at (Met.Sought i m n)
@@ -58,7 +58,7 @@ module _ {a k : ℕ} {s : List ℕ} {w : Walk} {outer stop at : ℕ} (L : Leads 
         let (c, b, f, g, h) = S.of u v G y p in (
           c,
           rep k (join b (sub a z)),
-          r ∙ ap (λ j. j ++ rep k (sub a z)) f ∙ ap (λ j. c ∷ j) (sym (rep-join k b (sub a z))),
+          r ∙ ap (λ j. j ++ rep k (sub a z)) f ∙ ap (λ j. c ∷ j) (sym (rep_join k b (sub a z))),
           ap (tree feed v) (sym inner) ∙ g,
           ap (λ y. left_of a k (tree feed u (drop n y)) (tree feed t (drop outer s))) (sym X)
               ∙ ap (λ j. left_of a k j (tree feed t (drop outer s))) h ∙ ap (left_of a k (some b)) q,
@@ -76,7 +76,7 @@ module _ {a k : ℕ} {s : List ℕ} {w : Walk} {outer stop at : ℕ} (L : Leads 
     where
       inner : take m (drop i x) ≡ take m (drop i s)
       inner = ap (λ y. take m (drop i y)) X
-          ∙ front-part s stop i m (omega (arith, S.lying, size)) (omega (arith, L.sound))
+          ∙ front_part s stop i m (omega (arith, S.lying, size)) (omega (arith, L.sound))
 
   -- the message that is open has no more
   module _ (E : Seeks feed k x at Met.End) where
@@ -84,13 +84,13 @@ module _ {a k : ℕ} {s : List ℕ} {w : Walk} {outer stop at : ℕ} (L : Leads 
     all_done S = record {
       of = λ t u v H G l e.
           left_here t u v H G l e (λ y z p q r.
-          r ∙ ap (λ j. j ++ rep k (sub a z)) (E.of u v G y p) ∙ ap (rep k) (sub-none a z (S.of t u H z q)));
+          r ∙ ap (λ j. j ++ rep k (sub a z)) (E.of u v G y p) ∙ ap (rep k) (sub_none a z (S.of t u H z q)));
       lying = tt;
     }
 
     module _ {i m n : ℕ} (S : Seeks feed a s outer (Met.Sought i m n)) where
-      pub opens-less : length s - n + (length s - i) < length s - outer + (length s - at)
-      opens-less = omega (arith, S.lying, L.sound)
+      pub opens_less : length s - n + (length s - i) < length s - outer + (length s - at)
+      opens_less = omega (arith, S.lying, L.sound)
 
       pub opens : Leads a k s w n n i
       opens = record {
@@ -101,22 +101,22 @@ module _ {a k : ℕ} {s : List ℕ} {w : Walk} {outer stop at : ℕ} (L : Leads 
             ∙ ap (λ j. left_of a k j (tree feed t (drop n s))) g ∙ ap (left_of a k (some c)) h
             ∙ ap some
             (sym
-            (r ∙ ap (λ j. j ++ rep k (sub a z)) (E.of u v G y p) ∙ ap (rep k) (sub-first a z c b f))));
+            (r ∙ ap (λ j. j ++ rep k (sub a z)) (E.of u v G y p) ∙ ap (rep k) (sub_first a z c b f))));
         sound = record { ahead = omega (arith, S.lying); behind = omega arith; inside = S.lying.inside };
-        fewer = omega (arith, opens-less, L.fewer);
+        fewer = omega (arith, opens_less, L.fewer);
       }
 
 -- the types of the wrappers' items
-pub next-entity : {s : List ℕ} {w : Walk} {r : Item} → NextItem 0 2 s w r → NextEntity s w r
-unfolding feed fieldRows
-next-entity N = record {
-  of = N.of feedMessage feedMessage feedEntity (λ z. absurd (z refl)) (λ z. refl);
+pub next_entity : {s : List ℕ} {w : Walk} {r : Item} → NextItem 0 2 s w r → NextEntity s w r
+unfolding feed field_rows
+next_entity N = record {
+  of = N.of feed_message feed_message feed_entity (λ z. absurd (z refl)) (λ z. refl);
   lying = N.lying;
 }
 
-pub next-update : {s : List ℕ} {w : Walk} {r : Item} → NextItem 3 2 s w r → NextUpdate s w r
-unfolding feed fieldRows
-next-update N = record {
-  of = N.of feedEntity tripUpdate stopTimeUpdate (λ z. refl) (λ z. refl);
+pub next_update : {s : List ℕ} {w : Walk} {r : Item} → NextItem 3 2 s w r → NextUpdate s w r
+unfolding feed field_rows
+next_update N = record {
+  of = N.of feed_entity trip_update stop_time_update (λ z. refl) (λ z. refl);
   lying = N.lying;
 }

@@ -1,19 +1,19 @@
 // The merged messages of a feed, read after the validator: a broken message is answered with anything.
 ghost use Rattle.std.specs.Prelude.{◌≡◌, ◌+◌, ◌≤◌, eqb, length, cond};
-ghost use Rattle.realtime.specs.Schema.{feed, stopTimeUpdate};
-ghost use Rattle.realtime_views.specs.promises.Reading.{Ready, Reads};
-ghost use Rattle.realtime_views.specs.promises.Seeks.{Seeks};
-ghost use Rattle.realtime_views.specs.promises.Scalars.{FieldReads, OneRead, OneReadIn, OneReads, OneReadsIn};
-ghost use Rattle.realtime_views.specs.promises.Scalars.{TripReads, TripReady, UpdateReads, blank, kept, own};
-ghost use Rattle.realtime_views.specs.promises.Scalars.{scalar, scalars};
-ghost use Rattle.realtime_views.specs.promises.Narrow.{is_value, toDelay, toDirection, toHeader, toSpan};
-ghost use Rattle.realtime_views.specs.promises.Narrow.{toTimestamp, toTrip};
-ghost use Rattle.realtime_views.specs.promises.Numbers.{EventReads, LastNumber, NumberReads, StopReads, isPart};
-ghost use Rattle.realtime_views.specs.promises.Numbers.{fromDelay, fromEvent, fromStop, fromTime, noNumbers};
+ghost use Rattle.realtime.specs.Schema.{feed, stop_time_update};
+ghost use Rattle.realtime_views.specs.Promises.Reading.{Ready, Reads};
+ghost use Rattle.realtime_views.specs.Promises.Seeks.{Seeks};
+ghost use Rattle.realtime_views.specs.Promises.Scalars.{FieldReads, OneRead, OneReadIn, OneReads, OneReadsIn};
+ghost use Rattle.realtime_views.specs.Promises.Scalars.{TripReads, TripReady, UpdateReads, blank, kept, own};
+ghost use Rattle.realtime_views.specs.Promises.Scalars.{scalar, scalars};
+ghost use Rattle.realtime_views.specs.Promises.Narrow.{is_value, to_delay, to_direction, to_header, to_span};
+ghost use Rattle.realtime_views.specs.Promises.Narrow.{to_timestamp, to_trip};
+ghost use Rattle.realtime_views.specs.Promises.Numbers.{EventReads, LastNumber, NumberReads, StopReads, is_part};
+ghost use Rattle.realtime_views.specs.Promises.Numbers.{from_delay, from_event, from_stop, from_time, no_numbers};
 ghost use Rattle.realtime.specs.Typed as typed;
-ghost use Rattle.realtime_views.specs.promises.Walks.{NextEntity, NextItem, NextUpdate, SoundWalk};
-ghost use Rattle.realtime_views.specs.promises.Starts.{atItems, atMerged, atPlain};
-ghost use Rattle.realtime_views.specs.promises.Views.{DeletedRead, HeaderRead, SequenceRead, StopRead, TripRead};
+ghost use Rattle.realtime_views.specs.Promises.Walks.{NextEntity, NextItem, NextUpdate, SoundWalk};
+ghost use Rattle.realtime_views.specs.Promises.Starts.{at_items, at_merged, at_plain};
+ghost use Rattle.realtime_views.specs.Promises.Views.{DeletedRead, HeaderRead, SequenceRead, StopRead, TripRead};
 
 use realtime_read::fields::{
     feed_entity, feed_message, stop_time_event, stop_time_update, trip_update,
@@ -415,7 +415,7 @@ fn int64(n: u64) -> i64
 
 // The place of a scalar that is a text.
 pub fn span_of(x: Scalar) -> TextPart
-    ensures { result ≡ toSpan x }
+    ensures { result ≡ to_span x }
 {
     match x {
         Scalar::Text { start, len } => TextPart { start, len },
@@ -425,7 +425,7 @@ pub fn span_of(x: Scalar) -> TextPart
 }
 
 fn timestamp_of(x: Scalar) -> Timestamp
-    ensures { result ≡ toTimestamp x }
+    ensures { result ≡ to_timestamp x }
 {
     match x {
         Scalar::Number(n) => Timestamp::Given(n),
@@ -435,7 +435,7 @@ fn timestamp_of(x: Scalar) -> Timestamp
 }
 
 fn direction_of(x: Scalar) -> Direction
-    ensures { result ≡ toDirection x }
+    ensures { result ≡ to_direction x }
 {
     match x {
         Scalar::Number(n) => Direction::Given(uint32(n)),
@@ -445,7 +445,7 @@ fn direction_of(x: Scalar) -> Direction
 }
 
 fn delay_of(x: Scalar) -> Delay
-    ensures { result ≡ toDelay x }
+    ensures { result ≡ to_delay x }
 {
     match x {
         Scalar::Number(n) => Delay::Given(int32(n)),
@@ -465,7 +465,7 @@ fn is_value(v: u64, x: Scalar) -> bool
 }
 
 fn header_from(h: Scalars) -> Header
-    ensures { result ≡ toHeader h }
+    ensures { result ≡ to_header h }
 {
     let incrementality = h.f2;
     let timestamp = h.f3;
@@ -477,7 +477,7 @@ fn header_from(h: Scalars) -> Header
 
 // The trip of a descriptor's scalars and of its trip_update's delay.
 fn trip_from(d: Scalars, delay: Scalar) -> Trip
-    ensures { result ≡ toTrip d delay }
+    ensures { result ≡ to_trip d delay }
 {
     let id = d.f1;
     let time = d.f2;
@@ -512,7 +512,7 @@ pub struct EventNumbers {
 }
 
 fn no_numbers() -> EventNumbers
-    ensures { result ≡ noNumbers }
+    ensures { result ≡ no_numbers }
 {
     let delay = Number { given: 0, value: 0 };
     let time = Number { given: 0, value: 0 };
@@ -553,7 +553,7 @@ fn over_event(s: &[u8], from: usize, before: EventNumbers) -> EventNumbers
 }
 
 fn delay_from(n: Number) -> Delay
-    ensures { result ≡ fromDelay n }
+    ensures { result ≡ from_delay n }
 {
     if n.given == 1 {
         return Delay::Given(int32(n.value));
@@ -562,7 +562,7 @@ fn delay_from(n: Number) -> Delay
 }
 
 fn time_from(n: Number) -> Time
-    ensures { result ≡ fromTime n }
+    ensures { result ≡ from_time n }
 {
     if n.given == 1 {
         return Time::Given(int64(n.value));
@@ -571,7 +571,7 @@ fn time_from(n: Number) -> Time
 }
 
 fn event_from(e: EventNumbers) -> Event
-    ensures { result ≡ fromEvent e }
+    ensures { result ≡ from_event e }
 {
     let delay = e.delay;
     let time = e.time;
@@ -588,7 +588,7 @@ fn stop_from(
     arrival: EventNumbers,
     departure: EventNumbers,
 ) -> StopUpdate
-    ensures { result ≡ fromStop sequence stop relationship arrival departure }
+    ensures { result ≡ from_stop sequence stop relationship arrival departure }
 {
     StopUpdate {
         sequence: uint32(sequence),
@@ -701,7 +701,7 @@ fn last_number(s: &[u8], from: usize, k: u64) -> u64
 
 // Whether a byte is the key of a stop_time_update's text or of a message in it.
 fn is_part(b: u8) -> bool
-    ensures { result ≡ isPart b }
+    ensures { result ≡ is_part b }
 {
     if b == ARRIVAL_KEY {
         return true;
@@ -715,7 +715,7 @@ fn is_part(b: u8) -> bool
 // The last sequence, whatever the keys.
 fn any_sequence(s: &[u8], from: usize) -> u64
     requires { from ≤ length s.now }
-    ensures { NumberReads s.now from stopTimeUpdate 1 result }
+    ensures { NumberReads s.now from stop_time_update 1 result }
 {
     last_number(s, from, stop_time_update::STOP_SEQUENCE)
 }
@@ -723,7 +723,7 @@ fn any_sequence(s: &[u8], from: usize) -> u64
 // The last sequence of a stop_time_update from `from` to the end, by the bytes of its keys as in `over_stop`.
 fn last_sequence(s: &[u8], from: usize) -> u64
     requires { from ≤ length s.now }
-    ensures { NumberReads s.now from stopTimeUpdate 1 result }
+    ensures { NumberReads s.now from stop_time_update 1 result }
 {
     let mut at = from;
     let mut last: u64 = 0;
@@ -845,7 +845,7 @@ pub fn next_item(s: &[u8], a: u64, k: u64, walk: Walk) -> Item
 
 // The messages in one message that starts at `start` and ends at `end`, one after the other.
 pub fn items(start: usize, end: usize) -> Walk
-    ensures { result ≡ atItems start end }
+    ensures { result ≡ at_items start end }
 {
     Walk {
         outer: end,
@@ -856,7 +856,7 @@ pub fn items(start: usize, end: usize) -> Walk
 
 // The entities of a message, one after the other.
 pub fn entities(s: &[u8]) -> Walk
-    ensures { result ≡ atPlain s.now }
+    ensures { result ≡ at_plain s.now }
 {
     items(0, s.len())
 }
@@ -870,7 +870,7 @@ pub fn next_entity(s: &[u8], walk: Walk) -> Item
 
 // Those in all the messages at a field of one that starts at `start`, merged, one after the other.
 pub fn merged_items(start: usize) -> Walk
-    ensures { result ≡ atMerged start }
+    ensures { result ≡ at_merged start }
 {
     Walk {
         outer: start,

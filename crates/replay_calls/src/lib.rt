@@ -1,11 +1,11 @@
 // A script of calls, replayed on the calls themselves: from a fresh overlay on, one call after the other.
 ghost use Rattle.std.specs.Prelude.{◌≡◌, true, ◌≤◌, min, length, take};
-ghost use Rattle.decode.specs.Sizes.{mostOld};
-ghost use Rattle.panel.specs.Calls.{freshOverlay};
+ghost use Rattle.decode.specs.Sizes.{most_old};
+ghost use Rattle.panel.specs.Calls.{fresh_overlay};
 ghost use Rattle.panel.specs.Lengths.{sized, lengths};
-ghost use Rattle.replay_turn.specs.Lent.{lentTo};
+ghost use Rattle.replay_turn.specs.Lent.{lent_to};
 ghost use Rattle.replay_calls.specs.Replay.{ReplayHolds};
-ghost use Rattle.replay_calls.specs.promises.Turns.{Overlays, TurnsEnd, ScriptEnds};
+ghost use Rattle.replay_calls.specs.Promises.Turns.{Overlays, TurnsEnd, ScriptEnds};
 
 use formats_write::Put;
 use panel_output::Ending;
@@ -27,8 +27,8 @@ fn take_turns(
     order: &mut [u32],
 ) -> Put
     requires overlays { Overlays n lent a.old b.old }
-    requires a_value { take n a.old ≡ freshOverlay (sized n) }
-    ensures { TurnsEnd (sized n) (lentTo lent (length out.old) (length keys.old)
+    requires a_value { take n a.old ≡ fresh_overlay (sized n) }
+    ensures { TurnsEnd (sized n) (lent_to lent (length out.old) (length keys.old)
         (length marks.old) (length order.old)) s.now
         count start out.new result }
 {
@@ -53,7 +53,7 @@ fn take_turns(
 // A fresh overlay in the first n bytes.
 fn begin(n: usize, a: &mut [u8])
     requires { n ≤ length a.old }
-    ensures { take n a.new ≡ freshOverlay (sized n) }
+    ensures { take n a.new ≡ fresh_overlay (sized n) }
 {
     panel_report::fresh(n, &mut a[..n]);
 }
@@ -70,8 +70,8 @@ fn run_script(
     marks: &mut [u32],
     order: &mut [u32],
 ) -> Ending
-    requires { (lent ≤ length a.old) × (lent ≤ length b.old) × (n ≤ mostOld) }
-    ensures { ScriptEnds (sized n) (lentTo lent (length out.old) (length keys.old)
+    requires { (lent ≤ length a.old) × (lent ≤ length b.old) × (n ≤ most_old) }
+    ensures { ScriptEnds (sized n) (lent_to lent (length out.old) (length keys.old)
         (length marks.old) (length order.old)) s.now
         out.new result }
 {
@@ -106,8 +106,8 @@ pub fn replay(
     marks: &mut [u32],
     order: &mut [u32],
 ) -> u32
-    requires { n ≤ mostOld }
-    ensures { ReplayHolds (sized n) (lentTo (min (length a.old) (length b.old))
+    requires { n ≤ most_old }
+    ensures { ReplayHolds (sized n) (lent_to (min (length a.old) (length b.old))
         (length out.old) (length keys.old) (length marks.old)
         (length order.old)) s.now result out.new }
 {
@@ -127,7 +127,7 @@ pub extern "C" fn mipsuqal_replay(
     marks: &mut [u32],
     order: &mut [u32],
 ) -> u32
-    ensures { ReplayHolds lengths (lentTo (min (length a.old) (length b.old))
+    ensures { ReplayHolds lengths (lent_to (min (length a.old) (length b.old))
         (length out.old) (length keys.old) (length marks.old)
         (length order.old)) script.now result out.new }
 {

@@ -1,12 +1,12 @@
 // The calls of a script that write no overlay, each with its number before its output: a card, and a report.
 ghost use Rattle.std.specs.Prelude.{◌≡◌, ◌≤◌, ◌<◌, length};
-ghost use Rattle.decode.specs.Sizes.{mostOld};
+ghost use Rattle.decode.specs.Sizes.{most_old};
 ghost use Rattle.panel.specs.Calls as calls;
-ghost use Rattle.panel.specs.Lengths.{sized, cardWork};
+ghost use Rattle.panel.specs.Lengths.{sized, card_work};
 ghost use Rattle.replay_script.specs.Script.{within};
-ghost use Rattle.replay_writing.specs.promises.Ran.{Sound};
-ghost use Rattle.replay_reading.specs.promises.Told.{ToldReport, lengthsOf, ReadsCardWork, CardFits, Answers};
-ghost use Rattle.replay_reading.specs.promises.Told.{ToldCardOf, ToldCard};
+ghost use Rattle.replay_writing.specs.Promises.Ran.{Sound};
+ghost use Rattle.replay_reading.specs.Promises.Told.{ToldReport, lengths_of, ReadsCardWork, CardFits, Answers};
+ghost use Rattle.replay_reading.specs.Promises.Told.{ToldCardOf, ToldCard};
 
 use formats_write::Put;
 use replay_script::Asked;
@@ -70,7 +70,7 @@ fn card_work(s: &[u8], at: usize) -> CardWork
 
 // Whether they are parts of the published ones.
 fn is_lent(w: CardWork) -> bool
-    ensures { result ≡ within (lengthsOf w) cardWork }
+    ensures { result ≡ within (lengths_of w) card_work }
 {
     (w.candidates <= NUMBERS) & ((w.met <= NUMBERS) & ((w.noted <= PLACES) & (w.known <= KNOWN)))
 }
@@ -87,10 +87,10 @@ fn run_card(
     noted: &mut [u32],
     known: &mut [u32],
 ) -> u32
-    requires n_le_most_old { n ≤ mostOld }
+    requires n_le_most_old { n ≤ most_old }
     requires card_fits { CardFits w (length candidates.old) (length met.old) (length noted.old) (length known.old) }
     ensures { Answers (sized n) old.now
-        (calls.card card.now (length out.old) (lengthsOf w)) result out.new }
+        (calls.card card.now (length out.old) (lengths_of w)) result out.new }
 {
     let a = w.candidates;
     let b = w.met;
@@ -110,10 +110,10 @@ fn run_card(
 
 // A card on working buffers of its own, of the published lengths.
 fn run_card_here(n: usize, w: CardWork, old: &[u8], card: &[u8], out: &mut [u8]) -> u32
-    requires n_le_most_old { n ≤ mostOld }
+    requires n_le_most_old { n ≤ most_old }
     requires card_fits { CardFits w 256 256 8208 4096 }
     ensures { Answers (sized n) old.now
-        (calls.card card.now (length out.old) (lengthsOf w)) result out.new }
+        (calls.card card.now (length out.old) (lengths_of w)) result out.new }
 {
     let mut candidates = [0u16; NUMBERS];
     let mut met = [0u16; NUMBERS];
@@ -136,7 +136,7 @@ fn run_card_here(n: usize, w: CardWork, old: &[u8], card: &[u8], out: &mut [u8])
 fn card_of(n: usize, q: Asked, w: CardWork, s: &[u8], old: &[u8], out: &mut [u8], p: usize) -> Put
     requires sound { Sound n s.now q }
     requires card_fits { CardFits w 256 256 8208 4096 }
-    ensures { ToldCardOf (sized n) s.now q (lengthsOf w) old.now out.old p
+    ensures { ToldCardOf (sized n) s.now q (lengths_of w) old.now out.old p
         out.new result }
 {
     if out.len() <= p {

@@ -1,5 +1,5 @@
 pub mod Script
 pub mod Tells
 pub mod Told
-pub mod promises
-pub mod laws
+pub mod Promises
+pub mod Laws

@@ -5,12 +5,12 @@ mod table;
 
 ghost use Rattle.std.specs.Prelude.{◌≡◌, ℕ};
 ghost use Rattle.formats.specs.Format.{Value};
-ghost use Rattle.formats.specs.promises.Outcome.{skipTo};
-ghost use Rattle.formats_read.specs.promises.Fields.{Has};
-ghost use Rattle.formats_read.specs.promises.Here.{Here, Field};
-ghost use Rattle.formats_read.specs.promises.Lists.{Reaches};
-ghost use Rattle.replay_script.specs.Script.{callForm, lengthForm, lengthsForm, script};
-ghost use Rattle.replay_script.specs.promises.Asked.{ReadsCall, ReadsLength, Counted};
+ghost use Rattle.formats.specs.Promises.Outcome.{skip_to};
+ghost use Rattle.formats_read.specs.Promises.Fields.{Has};
+ghost use Rattle.formats_read.specs.Promises.Here.{Here, Field};
+ghost use Rattle.formats_read.specs.Promises.Lists.{Reaches};
+ghost use Rattle.replay_script.specs.Script.{call_form, length_form, lengths_form, script};
+ghost use Rattle.replay_script.specs.Promises.Asked.{ReadsCall, ReadsLength, Counted};
 
 use table::{CALL, DEPTH, FORMS, LENGTH, LENGTHS, SCRIPT};
 
@@ -29,15 +29,15 @@ pub struct Asked {
 
 // The place of field k of the call at `at`.
 fn field(k: u32, s: &[u8], at: usize) -> usize
-    ensures { (i : Has k callForm) (v : Value callForm) (q : ℕ) → Here callForm s.now at q v
-        → Field k callForm i s.now at q v result }
+    ensures { (i : Has k call_form) (v : Value call_form) (q : ℕ) → Here call_form s.now at q v
+        → Field k call_form i s.now at q v result }
 {
     formats_read::place(&FORMS, DEPTH, CALL, k, s, at)
 }
 
 // The place past the lengths at `at`.
 fn past_lengths(s: &[u8], at: usize) -> usize
-    ensures { (v : Value lengthsForm) (q : ℕ) → Here lengthsForm s.now at q v → result ≡ q }
+    ensures { (v : Value lengths_form) (q : ℕ) → Here lengths_form s.now at q v → result ≡ q }
 {
     formats_read::past(&FORMS, DEPTH, LENGTHS, s, at)
 }
@@ -62,7 +62,7 @@ pub fn read(s: &[u8], at: usize) -> Asked
 
 // The place of length i of those from `at` on.
 fn nth(s: &[u8], at: usize, i: u64) -> usize
-    ensures { Reaches lengthForm s.now at i result }
+    ensures { Reaches length_form s.now at i result }
 {
     formats_read::nth(&FORMS, DEPTH, LENGTH, s, at, i)
 }
@@ -81,7 +81,7 @@ pub fn length_at(s: &[u8], at: usize, i: u64) -> usize
 
 // The place past the script at the start.
 fn past(s: &[u8]) -> Skip
-    ensures { result ≡ skipTo script s.now 0 }
+    ensures { result ≡ skip_to script s.now 0 }
 {
     formats::pass(&FORMS, DEPTH, SCRIPT, s, 0)
 }

@@ -1,3 +1,3 @@
 pub mod Lent
-pub mod promises
-pub mod laws
+pub mod Promises
+pub mod Laws

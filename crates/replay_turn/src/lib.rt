@@ -1,11 +1,11 @@
 // A call of a script, run on the call itself: two overlays take turns, and of each call its number is told, and of a
 // card or a report its output.
 ghost use Rattle.std.specs.Prelude.{◌≡◌, cond, [], ◌∷◌, ◌≤◌, length, take};
-ghost use Rattle.decode.specs.Sizes.{mostOld};
+ghost use Rattle.decode.specs.Sizes.{most_old};
 ghost use Rattle.panel.specs.Lengths.{sized};
-ghost use Rattle.replay_writing.specs.promises.Ran.{Sound};
-ghost use Rattle.replay_turn.specs.Lent.{lentTo};
-ghost use Rattle.replay_turn.specs.promises.Turns.{current, acceptedOf, TellsNumber, ToldWriting, Turned};
+ghost use Rattle.replay_writing.specs.Promises.Ran.{Sound};
+ghost use Rattle.replay_turn.specs.Lent.{lent_to};
+ghost use Rattle.replay_turn.specs.Promises.Turns.{current, accepted_of, TellsNumber, ToldWriting, Turned};
 
 use formats_write::Put;
 use replay_script::Asked;
@@ -28,7 +28,7 @@ pub struct Turn {
 }
 
 fn is_accepted(r: Ran) -> bool
-    ensures { result ≡ acceptedOf r }
+    ensures { result ≡ accepted_of r }
 {
     match r {
         Ran::Unlent => false,
@@ -87,8 +87,8 @@ fn run_one(
     marks: &mut [u32],
     order: &mut [u32],
 ) -> Step
-    requires { (lent ≤ length new.old) × (n ≤ mostOld) }
-    ensures { Turned (sized n) (lentTo lent (length out.old) (length keys.old)
+    requires { (lent ≤ length new.old) × (n ≤ most_old) }
+    ensures { Turned (sized n) (lent_to lent (length out.old) (length keys.old)
         (length marks.old) (length order.old)) s.now at
         old.now out.old p (cond result.moved (take n new.new) old.now)
         out.new result.place result.next }
@@ -127,8 +127,8 @@ pub fn take_turn(
     marks: &mut [u32],
     order: &mut [u32],
 ) -> Turn
-    requires { (lent ≤ length a.old) × (lent ≤ length b.old) × (n ≤ lent) × (n ≤ mostOld) }
-    ensures { Turned (sized n) (lentTo lent (length out.old) (length keys.old)
+    requires { (lent ≤ length a.old) × (lent ≤ length b.old) × (n ≤ lent) × (n ≤ most_old) }
+    ensures { Turned (sized n) (lent_to lent (length out.old) (length keys.old)
         (length marks.old) (length order.old)) s.now at
         (current n first a.old b.old) out.old p
         (current n result.first a.new b.new) out.new result.place result.next }

@@ -1,12 +1,12 @@
 // The calls of a script that write an overlay, each into a part of what is lent.
 ghost use Rattle.std.specs.Prelude.{◌≡◌, true, [], ◌∷◌, ℕ, ◌≤◌, leb, ℤ, length};
 ghost use Rattle.std.proofs.Math.Seq.{slice};
-ghost use Rattle.formats_read.specs.promises.Here.{Here};
+ghost use Rattle.formats_read.specs.Promises.Here.{Here};
 ghost use Rattle.panel.specs.Calls as calls;
-ghost use Rattle.replay_script.specs.Script.{clockForm};
+ghost use Rattle.replay_script.specs.Script.{clock_form};
 ghost use Rattle.panel.specs.Lengths.{sized};
-ghost use Rattle.replay_writing.specs.promises.Ran.{Spans, RanAs, MessageRan};
-ghost use Rattle.replay_writing.specs.promises.Ran.{ReadsWork, within3, Fits, Sound, WritesAs};
+ghost use Rattle.replay_writing.specs.Promises.Ran.{Spans, RanAs, MessageRan};
+ghost use Rattle.replay_writing.specs.Promises.Ran.{ReadsWork, within3, Fits, Sound, WritesAs};
 
 use replay_script::Asked;
 
@@ -31,7 +31,7 @@ fn alert_sheet(n: usize, lent: usize, q: Asked, s: &[u8], old: &[u8], new: &mut 
     requires lent_in_bounds { lent ≤ length new.old }
     requires spans { Spans s.now q }
     ensures { RanAs (leb q.out lent) (sized n) old.now
-        (calls.alertSheet (slice q.feed.from q.feed.to s.now)
+        (calls.alert_sheet (slice q.feed.from q.feed.to s.now)
         (slice q.input.from q.input.to s.now) q.out []) new.new result }
 {
     let out = q.out;
@@ -56,9 +56,9 @@ fn alert_sheet(n: usize, lent: usize, q: Asked, s: &[u8], old: &[u8], new: &mut 
 fn vehicle_sheet(n: usize, lent: usize, q: Asked, s: &[u8], old: &[u8], new: &mut [u8]) -> Ran
     requires lent_in_bounds { lent ≤ length new.old }
     requires spans { Spans s.now q }
-    ensures { (z : ℤ) (e : ℕ) → Here clockForm s.now q.clock e z
+    ensures { (z : ℤ) (e : ℕ) → Here clock_form s.now q.clock e z
         → RanAs (leb q.out lent) (sized n) old.now
-        (calls.vehicleSheet (slice q.feed.from q.feed.to s.now)
+        (calls.vehicle_sheet (slice q.feed.from q.feed.to s.now)
         (slice q.input.from q.input.to s.now) z q.out []) new.new result }
 {
     let out = q.out;

@@ -27,9 +27,9 @@ module _ {s₀ : List ℕ} {v n : ℕ} {s : List ℕ} (F : Filled s₀ v n s) wh
   }
 
   -- up to e, as a part of its own
-  pub filled-block : (e : ℕ) (b : List ℕ) → n ≤ e → e ≤ length s₀ → b ≡ replicate (length (take (e - n) (drop n s))) v
+  pub filled_block : (e : ℕ) (b : List ℕ) → n ≤ e → e ≤ length s₀ → b ≡ replicate (length (take (e - n) (drop n s))) v
       → Filled s₀ v e (take n s ++ (b ++ drop (e - n) (drop n s)))
-  filled-block e b h h' f =
+  filled_block e b h h' f =
       let front : take n s ≡ replicate n v =
       ap (take n) F.is ∙ take_at (replicate n v) (drop n s₀) n (length-replicate n v) in
       let back : drop n s ≡ drop n s₀ =
@@ -48,7 +48,7 @@ module _ {s₀ : List ℕ} {v n : ℕ} {s : List ℕ} (F : Filled s₀ v n s) wh
         is = eq;
       }
 
-  pub filled-all : length s₀ ≤ n → s ≡ replicate (length s₀) v
-  filled-all h =
+  pub filled_all : length s₀ ≤ n → s ≡ replicate (length s₀) v
+  filled_all h =
       let e : n ≡ length s₀ = omega (arith, F.within) in
       F.is ∙ rw (e, drop-length s₀, append-nil)

@@ -18,12 +18,12 @@ pub record Pasted (d₀ : List ℕ) (at : ℕ) (s : List ℕ) (i : ℕ) (d : Lis
   pub long : length d ≡ length d₀
   pub is : d ≡ paste d₀ at s i
 
-pub pasted-none : (d : List ℕ) (at : ℕ) (s : List ℕ) → at + length s ≤ length d → Pasted d at s 0 d
-pasted-none d at s h = record { room = h; within = omega arith; long = refl; is = paste-zero d at s }
+pub pasted_none : (d : List ℕ) (at : ℕ) (s : List ℕ) → at + length s ≤ length d → Pasted d at s 0 d
+pasted_none d at s h = record { room = h; within = omega arith; long = refl; is = paste-zero d at s }
 
 module _ {d₀ : List ℕ} {at : ℕ} {s : List ℕ} {i : ℕ} {d : List ℕ} (P : Pasted d₀ at s i d) where
-  pub pasted-more : i < length s → Pasted d₀ at s (i + 1) (set d (at + i) (get_or s i 0))
-  pasted-more h = record {
+  pub pasted_more : i < length s → Pasted d₀ at s (i + 1) (set d (at + i) (get_or s i 0))
+  pasted_more h = record {
     room = P.room;
     within = omega arith;
     long = length-set d (at + i) (get_or s i 0) ∙ P.long;
@@ -32,9 +32,9 @@ module _ {d₀ : List ℕ} {at : ℕ} {s : List ℕ} {i : ℕ} {d : List ℕ} (P
   }
 
   -- k more, as a part of their own
-  pub pasted-block : (k : ℕ) (b : List ℕ) → i + k ≤ length s → b ≡ take (i + k - i) (drop i s)
+  pub pasted_block : (k : ℕ) (b : List ℕ) → i + k ≤ length s → b ≡ take (i + k - i) (drop i s)
       → Pasted d₀ at s (i + k) (take (at + i) d ++ (b ++ drop (at + i + k - (at + i)) (drop (at + i) d)))
-  pasted-block k b h e =
+  pasted_block k b h e =
       let room = P.room in
       let within = P.within in
       let m₁ : i + k - i ≡ k = omega arith in
@@ -52,21 +52,21 @@ module _ {d₀ : List ℕ} {at : ℕ} {s : List ℕ} {i : ℕ} {d : List ℕ} (P
         is = eq;
       }
 
-  pub pasted-all : length s ≤ i → d ≡ pasted d₀ at s
-  pasted-all h =
+  pub pasted_all : length s ≤ i → d ≡ pasted d₀ at s
+  pasted_all h =
       let e : i ≡ length s = omega (arith, P.within) in
       P.is ∙ rw (e, take-length s)
 
 -- what is left of s goes in behind
-pub pasted-rest : {d₀ : List ℕ} {at : ℕ} {s : List ℕ} {i : ℕ} {d d' : List ℕ} → Pasted d₀ at s i d
+pub pasted_rest : {d₀ : List ℕ} {at : ℕ} {s : List ℕ} {i : ℕ} {d d' : List ℕ} → Pasted d₀ at s i d
     → d' ≡ pasted d (at + i) (take (length s - i) (drop i s)) → d' ≡ pasted d₀ at s
-pasted-rest {d₀} {at} {s} {i} {d} {d'} P e =
+pasted_rest {d₀} {at} {s} {i} {d} {d'} P e =
     let k = length s - i in
     let m : length (take k (drop i s)) ≡ k = length-take-le k (drop i s) (omega (arith, length-drop i s)) in
     let m₁ : i + k - i ≡ k = omega arith in
     let m₂ : at + i + k - (at + i) ≡ k = omega arith in
-    let B = pasted-block P k (take k (drop i s)) (omega (arith, P.within)) (rw m₁) in
-    e ∙ rw (m, append_assoc (take (at + i) d), ← drop-drop k (at + i) d) (rw m₂ at (pasted-all B (omega arith)))
+    let B = pasted_block P k (take k (drop i s)) (omega (arith, P.within)) (rw m₁) in
+    e ∙ rw (m, append_assoc (take (at + i) d), ← drop-drop k (at + i) d) (rw m₂ at (pasted_all B (omega arith)))
 
 -- of n elements the first i are those of s
 pub record Copied (s : List ℕ) (n i : ℕ) (d : List ℕ) : Type 0 where

@@ -1,1 +1,1 @@
-pub mod promises
+pub mod Promises

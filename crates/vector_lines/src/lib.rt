@@ -1,6 +1,6 @@
 // The lines of a file of vectors, and hexadecimal digits: for the programs that run vectors.
 ghost use Rattle.std.specs.Prelude.{◌≤◌, ◌<◌, length};
-ghost use Rattle.vector_lines.specs.promises.Line.{Past};
+ghost use Rattle.vector_lines.specs.Promises.Line.{Past};
 
 // The value of a hexadecimal digit; 16 for any other byte.
 pub fn digit(c: u8) -> u8

@@ -4,9 +4,9 @@
 ghost use Rattle.std.specs.Prelude.{◌≡◌, T, not};
 ghost use Rattle.std.specs.Float.{binary64};
 ghost use Rattle.std.specs.Float.Ieee.{is_nan, nan_bits, of_bits, to_bits};
-ghost use Rattle.formats_write.specs.promises.Adds.{Adds};
-ghost use Rattle.vehicle_place.specs.promises.Coordinates.{coordinateOf, bits_of};
-ghost use Rattle.vehicle_place.specs.promises.Place.{ReadsPlace, place_w};
+ghost use Rattle.formats_write.specs.Promises.Adds.{Adds};
+ghost use Rattle.vehicle_place.specs.Promises.Coordinates.{coordinate_of, bits_of};
+ghost use Rattle.vehicle_place.specs.Promises.Place.{ReadsPlace, place_w};
 
 use formats::{OptionalNumber, OptionalSigned};
 use formats_write::Put;
@@ -41,7 +41,7 @@ fn pattern_of(x: f64) -> u64
 impl Coordinate {
     // The coordinate of 64 bits: a NaN's pattern has all ones in the exponent, and digits behind it.
     pub fn from_bits(n: u64) -> Self
-        ensures { result ≡ coordinateOf n }
+        ensures { result ≡ coordinate_of n }
     {
         if 0x7ff0000000000000 < n % 0x8000000000000000 {
             return Coordinate::NaN(n);

@@ -12,26 +12,26 @@ end_of s broken = 0
 end_of s (read f r) = length s - length r
 
 -- where the field at `at` ends; a field takes a byte at least, so 0 says that it is broken
-abbrev pub fieldEnd : List ℕ → ℕ → ℕ
-fieldEnd s at = end_of s (field 16 (drop at s))
+abbrev pub field_end : List ℕ → ℕ → ℕ
+field_end s at = end_of s (field 16 (drop at s))
 
-abbrev pub xorAll : ℕ → List ℕ → ℕ
-xorAll acc [] = acc
-xorAll acc (n ∷ l) = xorAll (bit_xor acc n) l
+abbrev pub xor_all : ℕ → List ℕ → ℕ
+xor_all acc [] = acc
+xor_all acc (n ∷ l) = xor_all (bit_xor acc n) l
 
-abbrev pub xorOf : ℕ → Option (List ℕ) → ℕ
-xorOf acc none = 0
-xorOf acc (some l) = xorAll acc l
+abbrev pub xor_of : ℕ → Option (List ℕ) → ℕ
+xor_of acc none = 0
+xor_of acc (some l) = xor_all acc l
 
 -- the exclusive or of the numbers, one behind the other up to the end
-abbrev pub xorNumbers : List ℕ → ℕ
-xorNumbers s = xorOf 0 (many varint (length s) s)
+abbrev pub xor_numbers : List ℕ → ℕ
+xor_numbers s = xor_of 0 (many varint (length s) s)
 
 -- d with s in front, where it fits
 abbrev pub copied : List ℕ → List ℕ → List ℕ
 copied d s = cond (leb (length s) (length d)) (pasted d 0 s) d
 
-abbrev pub orderNumber : Order → ℕ
-orderNumber Less = 0
-orderNumber Same = 1
-orderNumber More = 2
+abbrev pub order_number : Order → ℕ
+order_number Less = 0
+order_number Same = 1
+order_number More = 2

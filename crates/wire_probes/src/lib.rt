@@ -1,8 +1,8 @@
 // Calls of `slices` and `wire` for a C host: bench/bytes.c measures them, and runs the wire reader on an input too
 // long for a program's own arrays.
 ghost use Rattle.std.specs.Prelude.{◌≡◌, length, replicate};
-ghost use Rattle.slices.specs.Lists.{zeros, lexOf};
-ghost use Rattle.wire_probes.specs.Probes.{fieldEnd, xorNumbers, copied, orderNumber};
+ghost use Rattle.slices.specs.Lists.{zeros, lex_of};
+ghost use Rattle.wire_probes.specs.Probes.{field_end, xor_numbers, copied, order_number};
 
 use slices::Order;
 use wire::{Cursor, GotKey, GotNumber, Skipped};
@@ -10,7 +10,7 @@ use wire::{Cursor, GotKey, GotNumber, Skipped};
 // Where the field that starts at `at` ends; 0 where it is broken.
 #[unsafe(no_mangle)]
 pub extern "C" fn probes_field_end(s: &[u8], at: usize) -> usize
-    ensures { result ≡ fieldEnd s.now at }
+    ensures { result ≡ field_end s.now at }
 {
     let here = Cursor { at };
     match here.key(s) {
@@ -25,7 +25,7 @@ pub extern "C" fn probes_field_end(s: &[u8], at: usize) -> usize
 // The exclusive or of the numbers that s consists of; 0 where one is broken.
 #[unsafe(no_mangle)]
 pub extern "C" fn probes_xor_numbers(s: &[u8]) -> u64
-    ensures { result ≡ xorNumbers s.now }
+    ensures { result ≡ xor_numbers s.now }
 {
     let mut acc: u64 = 0;
     let mut at = 0;
@@ -71,7 +71,7 @@ pub extern "C" fn probes_copy(d: &mut [u8], s: &[u8])
 // 0, 1 or 2, as a is before b, the same, or behind it.
 #[unsafe(no_mangle)]
 pub extern "C" fn probes_compare(a: &[u8], b: &[u8]) -> u8
-    ensures { result ≡ orderNumber (lexOf a.now b.now) }
+    ensures { result ≡ order_number (lex_of a.now b.now) }
 {
     match slices::compare(a, b) {
         Order::Less => 0,

@@ -1,20 +1,20 @@
 -- `alerts_ids::ends_after_colon` meets its contract.
-use Rattle.alerts_ids.specs.laws.Ends.{colon-short, colon-differs, colon-same}
+use Rattle.alerts_ids.specs.Laws.Ends.{colon_short, colon_differs, colon_same}
 use borrow.Author.Rules.{rules}
 use Rattle.alerts_ids.proofs.ends_after_colon.Statement.{statement}
 use Rattle.alerts_ids.proofs.ends_after_colon.Tie as tie
 
-pub ends-after-colon-spec : {M : Type 1} → statement M
-ends-after-colon-spec =
+pub ends_after_colon_spec : {M : Type 1} → statement M
+ends_after_colon_spec =
     tie.close
     (tie.spec
-    (λ c. search (colon-short))
+    (λ c. search (colon_short))
     (λ c. search rules)
     (λ c. search rules)
     (λ c. search rules)
-    (λ c. search (colon-differs))
+    (λ c. search (colon_differs))
     (λ c. search rules)
     (λ c. search rules)
     (λ c. search rules)
     (λ c κs. search rules)
-    (λ c. search (colon-same)))
+    (λ c. search (colon_same)))

@@ -4,7 +4,7 @@ use Prim.Native.Nat.{◌-◌}
 use lib.ListN.{length, drop}
 use Rattle.basics.specs.Lists.{any}
 use Rattle.alerts.specs.Text.{alphanumeric}
-use Rattle.alerts_ids.specs.laws.Pieces.{some-here, some_more, some-none}
+use Rattle.alerts_ids.specs.Laws.Pieces.{some_here, some_more, some_none}
 use borrow.Author.Rules.{rules}
 use Rattle.alerts_ids.proofs.has_alphanumeric.Statement.{statement}
 use Rattle.alerts_ids.proofs.has_alphanumeric.Tie as tie
@@ -15,8 +15,8 @@ invariant-loop p i₀ i = any alphanumeric p ≡ any alphanumeric (drop i p)
 abbrev decreases-loop : tie.decreases-loop
 decreases-loop p i₀ i = length p - i
 
-pub has-alphanumeric-spec : {M : Type 1} → statement M
-has-alphanumeric-spec =
+pub has_alphanumeric_spec : {M : Type 1} → statement M
+has_alphanumeric_spec =
     tie.close
     (tie.spec
     invariant-loop
@@ -24,8 +24,8 @@ has-alphanumeric-spec =
     (λ c. refl)
     (λ c. search rules)
     (λ c κs. search rules)
-    (λ c. search (some-here))
+    (λ c. search (some_here))
     (λ c. search rules)
     (λ c. search rules)
     (λ c. search (some_more))
-    (λ c. search (some-none)))
+    (λ c. search (some_none)))

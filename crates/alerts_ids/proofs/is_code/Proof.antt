@@ -1,17 +1,17 @@
 -- `alerts_ids::is_code` meets its contract.
-use Rattle.alerts_ids.specs.laws.Pieces.{code-short, code-long, code_other, code-digits}
+use Rattle.alerts_ids.specs.Laws.Pieces.{code_short, code_long, code_other, code_digits}
 use borrow.Author.Rules.{rules}
 use Rattle.alerts_ids.proofs.is_code.Statement.{statement}
 use Rattle.alerts_ids.proofs.is_code.Tie as tie
 
-pub is-code-spec : {M : Type 1} → statement M
-is-code-spec =
+pub is_code_spec : {M : Type 1} → statement M
+is_code_spec =
     tie.close
     (tie.spec
-    (λ c. search (code-short))
-    (λ c. search (code-long))
+    (λ c. search (code_short))
+    (λ c. search (code_long))
     (λ c. search rules)
     (λ c κs. search rules)
     (λ c. search (code_other))
     (λ c κs. search rules)
-    (λ c. search (code-digits)))
+    (λ c. search (code_digits)))

@@ -1,5 +1,5 @@
 -- `alerts_ids::piece_start` meets its contract. The invariant: from a up to e there is no cut.
-use Rattle.alerts_ids.specs.laws.Pieces.{Uncut, uncut-start, uncut-more, cut-found, uncut-whole}
+use Rattle.alerts_ids.specs.Laws.Pieces.{Uncut, uncut_start, uncut_more, cut_found, uncut_whole}
 use borrow.Author.Rules.{rules}
 use Rattle.alerts_ids.proofs.piece_start.Statement.{statement}
 use Rattle.alerts_ids.proofs.piece_start.Tie as tie
@@ -10,17 +10,17 @@ invariant-loop x e a₀ a = Uncut x e a
 abbrev decreases-loop : tie.decreases-loop
 decreases-loop x e a₀ a = a
 
-pub piece-start-spec : {M : Type 1} → statement M
-piece-start-spec =
+pub piece_start_spec : {M : Type 1} → statement M
+piece_start_spec =
     tie.close
     (tie.spec
     invariant-loop
     decreases-loop
-    (λ c. search (uncut-start))
+    (λ c. search (uncut_start))
     (λ c. search rules)
     (λ c. search rules)
     (λ c κs. search rules)
-    (λ c. search (cut-found))
+    (λ c. search (cut_found))
     (λ c. search rules)
-    (λ c. search (uncut-more))
-    (λ c. search (uncut-whole)))
+    (λ c. search (uncut_more))
+    (λ c. search (uncut_whole)))

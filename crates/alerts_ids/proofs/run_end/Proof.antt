@@ -1,7 +1,7 @@
 -- `alerts_ids::run_end` meets its contract. The invariant: from a up to e there are letters and digits.
 use Prim.Native.Nat.{◌-◌}
 use lib.ListN.{length}
-use Rattle.alerts_ids.specs.laws.Pieces.{Lettered, lettered-start, lettered-more, run-broken, run-whole}
+use Rattle.alerts_ids.specs.Laws.Pieces.{Lettered, lettered_start, lettered_more, run_broken, run_whole}
 use borrow.Author.Rules.{rules}
 use Rattle.alerts_ids.proofs.run_end.Statement.{statement}
 use Rattle.alerts_ids.proofs.run_end.Tie as tie
@@ -12,17 +12,17 @@ invariant-loop x a e₀ e = Lettered x a e
 abbrev decreases-loop : tie.decreases-loop
 decreases-loop x a e₀ e = length x - e
 
-pub run-end-spec : {M : Type 1} → statement M
-run-end-spec =
+pub run_end_spec : {M : Type 1} → statement M
+run_end_spec =
     tie.close
     (tie.spec
     invariant-loop
     decreases-loop
-    (λ c. search (lettered-start))
+    (λ c. search (lettered_start))
     (λ c. search rules)
     (λ c κs. search rules)
-    (λ c. search (run-broken))
+    (λ c. search (run_broken))
     (λ c. search rules)
     (λ c. search rules)
-    (λ c. search (lettered-more))
-    (λ c. search (run-whole)))
+    (λ c. search (lettered_more))
+    (λ c. search (run_whole)))

@@ -1,7 +1,7 @@
 -- `alerts_ids::trim_start` meets its contract.
 use Prim.Native.Nat.{◌-◌}
 use lib.ListN.{length}
-use Rattle.alerts_ids.specs.laws.Ends.{Leads, leads-start, leads-more, leads-end, leads-all}
+use Rattle.alerts_ids.specs.Laws.Ends.{Leads, leads_start, leads_more, leads_end, leads_all}
 use borrow.Author.Rules.{rules}
 use Rattle.alerts_ids.proofs.trim_start.Statement.{statement}
 use Rattle.alerts_ids.proofs.trim_start.Tie as tie
@@ -12,22 +12,22 @@ invariant-loop s a₀ a = Leads s a
 abbrev decreases-loop : tie.decreases-loop
 decreases-loop s a₀ a = length s - a
 
-pub trim-start-spec : {M : Type 1} → statement M
-trim-start-spec =
+pub trim_start_spec : {M : Type 1} → statement M
+trim_start_spec =
     tie.close
     (tie.spec
     invariant-loop
     decreases-loop
-    (λ c. leads-start _)
+    (λ c. leads_start _)
     (λ c. search rules)
     (λ c. search rules)
     (λ c. search rules)
     (λ c. search rules)
-    (λ c. search (leads-end))
+    (λ c. search (leads_end))
     (λ c. search rules)
     (λ c. search rules)
-    (λ c. search (leads-more))
+    (λ c. search (leads_more))
     (λ c. search rules)
     (λ c. search rules)
     (λ c. search rules)
-    (λ c. search (leads-all)))
+    (λ c. search (leads_all)))

@@ -17,14 +17,14 @@ invariant-loop s n left₀ i₀ left i = Passed s n left i
 abbrev decreases-loop : tie.decreases-loop
 decreases-loop s n left₀ i₀ left i = length s - i
 
-loop-holds : tie.Need-loop-init invariant-loop decreases-loop
-loop-holds c = start _ _
+loop_holds : tie.Need-loop-init invariant-loop decreases-loop
+loop_holds c = start _ _
 
-shared-slice-read-goes-on : tie.Need-shared-slice-read-goes-on invariant-loop decreases-loop
-shared-slice-read-goes-on c = omega arith
+shared_slice_read_goes_on : tie.Need-shared-slice-read-goes-on invariant-loop decreases-loop
+shared_slice_read_goes_on c = omega arith
 
-goes-on-requires : tie.Need-goes-on-requires invariant-loop decreases-loop
-goes-on-requires c κs = search rules
+goes_on_requires : tie.Need-goes-on-requires invariant-loop decreases-loop
+goes_on_requires c κs = search rules
 
 returns : tie.Need-returns invariant-loop decreases-loop
 returns c =
@@ -32,17 +32,17 @@ returns c =
     c.before.before.before.before.loop-test.true
     (sym c.before.before.goes_on.ensures ∙ not-true _ c.before.if1.true) c.if2.true
 
-sub-left : tie.Need-overflow-sub-left invariant-loop decreases-loop
-sub-left c = omega arith
+sub_left : tie.Need-overflow-sub-left invariant-loop decreases-loop
+sub_left c = omega arith
 
-add-i : tie.Need-overflow-add-i invariant-loop decreases-loop
-add-i c = omega arith
+add_i : tie.Need-overflow-add-i invariant-loop decreases-loop
+add_i c = omega arith
 
-loop-less : tie.Need-loop-smaller invariant-loop decreases-loop
-loop-less c = omega arith
+loop_less : tie.Need-loop-smaller invariant-loop decreases-loop
+loop_less c = omega arith
 
-loop-again : tie.Need-loop-preserved invariant-loop decreases-loop
-loop-again c =
+loop_again : tie.Need-loop-preserved invariant-loop decreases-loop
+loop_again c =
     let inv = c.before.before.before.before.loop.invariant in
     let more = c.before.before.before.loop-test.true in
     let told = c.before.goes_on.ensures in
@@ -51,21 +51,21 @@ loop-again c =
     (λ w. rw w.1 (goes_on _ _ _ _ inv more (sym told ∙ not-false _ w.0.left)))
     c.if1.branch
 
-returns-2 : tie.Need-returns-2 invariant-loop decreases-loop
-returns-2 c = search (ended)
+returns_2 : tie.Need-returns-2 invariant-loop decreases-loop
+returns_2 c = search (ended)
 
-pub characters-end-spec : {M : Type 1} → statement M
-characters-end-spec =
+pub characters_end_spec : {M : Type 1} → statement M
+characters_end_spec =
     tie.close
     (tie.spec
     invariant-loop
     decreases-loop
-    loop-holds
-    shared-slice-read-goes-on
-    goes-on-requires
+    loop_holds
+    shared_slice_read_goes_on
+    goes_on_requires
     returns
-    sub-left
-    add-i
-    loop-less
-    loop-again
-    returns-2)
+    sub_left
+    add_i
+    loop_less
+    loop_again
+    returns_2)

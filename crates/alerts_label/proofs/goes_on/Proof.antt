@@ -1,13 +1,13 @@
 -- `alerts_label::goes_on` meets its contract.
-use Rattle.alerts_label.proofs.Characters.{continues-low, continues-high}
+use Rattle.alerts_label.proofs.Characters.{continues_low, continues_high}
 use Rattle.alerts_label.proofs.goes_on.Statement.{statement}
 use Rattle.alerts_label.proofs.goes_on.Tie as tie
 
 returns : tie.Need-returns
-returns c = search (continues-high)
+returns c = search (continues_high)
 
-returns-2 : tie.Need-returns-2
-returns-2 c = search (continues-low)
+returns_2 : tie.Need-returns-2
+returns_2 c = search (continues_low)
 
-pub goes-on-spec : {M : Type 1} → statement M
-goes-on-spec = tie.close (tie.spec returns returns-2)
+pub goes_on_spec : {M : Type 1} → statement M
+goes_on_spec = tie.close (tie.spec returns returns_2)

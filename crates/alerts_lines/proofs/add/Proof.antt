@@ -1,8 +1,8 @@
 -- `alerts_lines::add` meets its contract. The invariant: the lines up to k are added.
 use Prim.Native.Nat.{◌-◌}
-use Rattle.alerts_lines.specs.promises.Marks.{on}
+use Rattle.alerts_lines.specs.Promises.Marks.{on}
 use borrow.Author.Rules.{rules}
-use Rattle.alerts_lines.specs.laws.Marking.{Marking, marking-start, marking-end, marking-added}
+use Rattle.alerts_lines.specs.Laws.Marking.{Marking, marking_start, marking_end, marking_added}
 use Rattle.alerts_lines.proofs.add.Statement.{statement}
 use Rattle.alerts_lines.proofs.add.Tie as tie
 
@@ -18,13 +18,13 @@ add_spec =
     (tie.spec
     invariant-loop
     decreases-loop
-    (λ c. search (marking-start))
+    (λ c. search (marking_start))
     (λ c. search rules)
     (λ c. search rules)
     (λ c κs. search rules)
     (λ c. search rules)
     (λ c. search rules)
     (λ c. search rules)
-    (λ c. search (marking-added))
+    (λ c. search (marking_added))
     (λ c. search rules)
-    (λ c. search (marking-end)))
+    (λ c. search (marking_end)))

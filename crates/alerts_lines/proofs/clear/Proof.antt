@@ -1,7 +1,7 @@
 -- `alerts_lines::clear` meets its contract. The invariant: the lines up to k are unmarked.
 use Prim.Native.Nat.{◌-◌}
 use borrow.Author.Rules.{rules}
-use Rattle.alerts_lines.specs.laws.Marking.{Clearing, clearing-start, clearing-more, clearing-end}
+use Rattle.alerts_lines.specs.Laws.Marking.{Clearing, clearing_start, clearing_more, clearing_end}
 use Rattle.alerts_lines.proofs.clear.Statement.{statement}
 use Rattle.alerts_lines.proofs.clear.Tie as tie
 
@@ -17,10 +17,10 @@ clear_spec =
     (tie.spec
     invariant-loop
     decreases-loop
-    (λ c. search (clearing-start))
+    (λ c. search (clearing_start))
     (λ c. search rules)
     (λ c. search rules)
     (λ c. search rules)
-    (λ c. search (clearing-more))
+    (λ c. search (clearing_more))
     (λ c. search rules)
-    (λ c. search (clearing-end)))
+    (λ c. search (clearing_end)))

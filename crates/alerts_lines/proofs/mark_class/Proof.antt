@@ -1,11 +1,11 @@
 -- `alerts_lines::mark_class` meets its contract.
 use borrow.Author.Rules.{rules}
-use Rattle.alerts_lines.specs.laws.Rows.{added}
+use Rattle.alerts_lines.specs.Laws.Rows.{added}
 use Rattle.alerts_lines.proofs.mark_class.Statement.{statement}
 use Rattle.alerts_lines.proofs.mark_class.Tie as tie
 
-pub mark-class-spec : {M : Type 1} → statement M
-mark-class-spec =
+pub mark_class_spec : {M : Type 1} → statement M
+mark_class_spec =
     tie.close
     (tie.spec
     (λ c. search rules)

@@ -1,13 +1,13 @@
 -- `alerts_lines::mark_place` meets its contract.
-use Rattle.alerts_patterns.specs.laws.Searching.{room}
+use Rattle.alerts_patterns.specs.Laws.Searching.{room}
 use borrow.Author.Rules.{rules}
 use native.Mathlib.Omega.{arith}
-use Rattle.alerts_lines.specs.laws.Marking.{place_none, place_here}
+use Rattle.alerts_lines.specs.Laws.Marking.{place_none, place_here}
 use Rattle.alerts_lines.proofs.mark_place.Statement.{statement}
 use Rattle.alerts_lines.proofs.mark_place.Tie as tie
 
-pub mark-place-spec : {M : Type 1} → statement M
-mark-place-spec =
+pub mark_place_spec : {M : Type 1} → statement M
+mark_place_spec =
     tie.close
     (tie.spec
     (λ c κs. search rules)

@@ -2,7 +2,7 @@
 use Prim.Native.Nat.{◌-◌}
 use lib.ListN.{length}
 use borrow.Author.Rules.{rules}
-use Rattle.alerts_lines.specs.laws.Marking.{Scanned, scanned-end, scanned-first, scanned-next}
+use Rattle.alerts_lines.specs.Laws.Marking.{Scanned, scanned_end, scanned_first, scanned_next}
 use Rattle.alerts_lines.proofs.mark_row.Statement.{statement}
 use Rattle.alerts_lines.proofs.mark_row.Tie as tie
 
@@ -12,18 +12,18 @@ invariant-loop marks₀ s before first afters i₀ marks i = Scanned s before fi
 abbrev decreases-loop : tie.decreases-loop
 decreases-loop marks₀ s before first afters i₀ marks i = length s - i
 
-pub mark-row-spec : {M : Type 1} → statement M
-mark-row-spec =
+pub mark_row_spec : {M : Type 1} → statement M
+mark_row_spec =
     tie.close
     (tie.spec
     invariant-loop
     decreases-loop
     (λ c κs. search rules)
-    (λ c. search (scanned-first))
+    (λ c. search (scanned_first))
     (λ c κs. search rules)
     (λ c. search rules)
     (λ c κs. search rules)
     (λ c. search rules)
-    (λ c. search (scanned-next))
+    (λ c. search (scanned_next))
     (λ c. search rules)
-    (λ c. search (scanned-end)))
+    (λ c. search (scanned_end)))

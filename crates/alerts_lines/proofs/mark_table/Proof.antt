@@ -2,7 +2,7 @@
 use Prim.Native.Nat.{◌-◌}
 use lib.ListN.{length}
 use borrow.Author.Rules.{rules}
-use Rattle.alerts_lines.specs.laws.Marking.{Tabled, tabled_start, tabled-more, tabled-end}
+use Rattle.alerts_lines.specs.Laws.Marking.{Tabled, tabled_start, tabled_more, tabled_end}
 use Rattle.alerts_lines.proofs.mark_table.Statement.{statement}
 use Rattle.alerts_lines.proofs.mark_table.Tie as tie
 
@@ -12,8 +12,8 @@ invariant-loop marks₀ s first table at₀ e₀ marks at e = Tabled table first
 abbrev decreases-loop : tie.decreases-loop
 decreases-loop marks₀ s first table at₀ e₀ marks at e = length table - e
 
-pub mark-table-spec : {M : Type 1} → statement M
-mark-table-spec =
+pub mark_table_spec : {M : Type 1} → statement M
+mark_table_spec =
     tie.close
     (tie.spec
     invariant-loop
@@ -27,10 +27,10 @@ mark-table-spec =
     (λ c. search rules)
     (λ c κs. search rules)
     (λ c. search rules)
-    (λ c. search (tabled-more))
+    (λ c. search (tabled_more))
     (λ c. search rules)
     (λ c. search rules)
     (λ c. search rules)
     (λ c κs. search rules)
     (λ c. search rules)
-    (λ c. search (tabled-end)))
+    (λ c. search (tabled_end)))

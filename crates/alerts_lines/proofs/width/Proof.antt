@@ -1,5 +1,5 @@
 -- `alerts_lines::width` meets its contract.
-use Rattle.alerts_lines.specs.laws.Kinds.{width-1, width-2, width-3, width-4, width-5, width-6}
+use Rattle.alerts_lines.specs.Laws.Kinds.{width_1, width_2, width_3, width_4, width_5, width_6}
 use Rattle.alerts_lines.proofs.width.Statement.{statement}
 use Rattle.alerts_lines.proofs.width.Tie as tie
 
@@ -7,9 +7,9 @@ pub width_spec : {M : Type 1} → statement M
 width_spec =
     tie.close
     (tie.spec
-    (λ c. search (width-1))
-    (λ c. search (width-2))
-    (λ c. search (width-3))
-    (λ c. search (width-4))
-    (λ c. search (width-5))
-    (λ c. search (width-6)))
+    (λ c. search (width_1))
+    (λ c. search (width_2))
+    (λ c. search (width_3))
+    (λ c. search (width_4))
+    (λ c. search (width_5))
+    (λ c. search (width_6)))

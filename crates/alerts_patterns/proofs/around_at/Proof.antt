@@ -3,21 +3,21 @@ use Prim.Native.Nat.{◌+◌}
 use native.Mathlib.Omega.{arith}
 use lib.ListN.{length}
 use borrow.Author.Rules.{rules}
-use Rattle.alerts_patterns.specs.laws.Searching.{room, not-before, not-name, then-after}
+use Rattle.alerts_patterns.specs.Laws.Searching.{room, not_before, not_name, then_after}
 use Rattle.alerts_patterns.proofs.around_at.Statement.{statement}
 use Rattle.alerts_patterns.proofs.around_at.Tie as tie
 
-pub around-at-spec : {M : Type 1} → statement M
-around-at-spec =
+pub around_at_spec : {M : Type 1} → statement M
+around_at_spec =
     tie.close
     (tie.spec
     (λ c κs. search rules)
-    (λ c. search (not-before))
+    (λ c. search (not_before))
     (λ c.
     let a = c.before.before.before.before.before.before.args in
     omega (arith, room a.before.now a.s.now a.i _ c.before.begins-at.ensures c.if1.false))
     (λ c κs. search rules)
-    (λ c. search (not-name))
+    (λ c. search (not_name))
     (λ c.
     let a = c.before.before.before.before.before.before.before.before.args in
     let first =
@@ -30,4 +30,4 @@ around-at-spec =
           c.if2.false,
     ))
     (λ c κs. search rules)
-    (λ c. search (then-after)))
+    (λ c. search (then_after)))

@@ -3,12 +3,12 @@ use mathlib.Core.Path.{sym}
 use native.Mathlib.Omega.{arith}
 use lib.Seq.{length-take-le}
 use borrow.Author.Rules.{rules}
-use Rattle.alerts_patterns.specs.laws.Patterns.{unfilled, fills}
+use Rattle.alerts_patterns.specs.Laws.Patterns.{unfilled, fills}
 use Rattle.alerts_patterns.proofs.find_filled.Statement.{statement}
 use Rattle.alerts_patterns.proofs.find_filled.Tie as tie
 
-pub find-filled-spec : {M : Type 1} → statement M
-find-filled-spec =
+pub find_filled_spec : {M : Type 1} → statement M
+find_filled_spec =
     tie.close
     (tie.spec
     (λ c κs. search rules)

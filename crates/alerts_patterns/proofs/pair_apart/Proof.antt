@@ -1,11 +1,11 @@
 -- `alerts_patterns::pair_apart` meets its contract.
-use Rattle.alerts_patterns.specs.laws.Skipping.{pair_is}
+use Rattle.alerts_patterns.specs.Laws.Skipping.{pair_is}
 use borrow.Author.Rules.{rules}
 use Rattle.alerts_patterns.proofs.pair_apart.Statement.{statement}
 use Rattle.alerts_patterns.proofs.pair_apart.Tie as tie
 
-pub pair-apart-spec : {M : Type 1} → statement M
-pair-apart-spec =
+pub pair_apart_spec : {M : Type 1} → statement M
+pair_apart_spec =
     tie.close
     (tie.spec
     (λ c κs. search rules)

@@ -1,7 +1,7 @@
 -- `alerts_patterns::pair_far` meets its contract. The invariant: nothing stands before k.
 use Prim.Native.Nat.{◌-◌}
-use Rattle.alerts_patterns.specs.promises.Occurrence.{SeeksTo}
-use Rattle.alerts_patterns.specs.laws.Skipping.{to_start, far-then, far-more, far-alike}
+use Rattle.alerts_patterns.specs.Promises.Occurrence.{SeeksTo}
+use Rattle.alerts_patterns.specs.Laws.Skipping.{to_start, far_then, far_more, far_alike}
 use borrow.Author.Rules.{rules}
 use Rattle.alerts_patterns.proofs.pair_far.Statement.{statement}
 use Rattle.alerts_patterns.proofs.pair_far.Tie as tie
@@ -12,8 +12,8 @@ invariant-loop s i e a d lo hi k₀ k = SeeksTo a d lo hi s i e k
 abbrev decreases-loop : tie.decreases-loop
 decreases-loop s i e a d lo hi k₀ k = e - k
 
-pub pair-far-spec : {M : Type 1} → statement M
-pair-far-spec =
+pub pair_far_spec : {M : Type 1} → statement M
+pair_far_spec =
     tie.close
     (tie.spec
     invariant-loop
@@ -29,10 +29,10 @@ pair-far-spec =
     (λ c. search rules)
     (λ c. search rules)
     (λ c. search rules)
-    (λ c κs. search (rules, far-alike))
+    (λ c κs. search (rules, far_alike))
     (λ c κs. search rules)
-    (λ c. search (far-then))
+    (λ c. search (far_then))
     (λ c. search rules)
-    (λ c. search (far-more))
+    (λ c. search (far_more))
     (λ c κs. search rules)
-    (λ c. search (far-then)))
+    (λ c. search (far_then)))

@@ -11,8 +11,8 @@ invariant-loop p d₀ d = d < length p
 abbrev decreases-loop : tie.decreases-loop
 decreases-loop p d₀ d = d
 
-pub telling-spec : {M : Type 1} → statement M
-telling-spec =
+pub telling_spec : {M : Type 1} → statement M
+telling_spec =
     tie.close
     (tie.spec
     invariant-loop

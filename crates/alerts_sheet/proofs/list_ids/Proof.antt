@@ -3,10 +3,10 @@ use borrow.Author.Rules.{rules}
 use Prim.Native.Nat.{◌+◌}
 use native.Mathlib.Omega.{arith}
 use lib.ListN.{take}
-use Rattle.realtime_views.specs.promises.Walks.{ahead}
-use Rattle.realtime_views.specs.laws.Turns.{walks, there, less}
-use Rattle.alerts_sheet.proofs.Listing.{Listing, listing, lists-few, lists_length, listed, lists-past}
-use Rattle.alerts_sheet.proofs.Listing.{lists-on}
+use Rattle.realtime_views.specs.Promises.Walks.{ahead}
+use Rattle.realtime_views.specs.Laws.Turns.{walks, there, less}
+use Rattle.alerts_sheet.proofs.Listing.{Listing, listing, lists_few, lists_length, listed, lists_past}
+use Rattle.alerts_sheet.proofs.Listing.{lists_on}
 use Rattle.alerts_sheet.proofs.list_ids.Statement.{statement}
 use Rattle.alerts_sheet.proofs.list_ids.Tie as tie
 
@@ -24,11 +24,11 @@ to_start c = c.before.before.before.before
 abbrev to_item : tie.After-id-of invariant-loop decreases-loop → tie.After-at invariant-loop decreases-loop
 to_item c = c.before.before
 
-abbrev to-id : tie.After-write-id invariant-loop decreases-loop → tie.After-id-of invariant-loop decreases-loop
-to-id c = c.before.before.before.before
+abbrev to_id : tie.After-write-id invariant-loop decreases-loop → tie.After-id-of invariant-loop decreases-loop
+to_id c = c.before.before.before.before
 
-loop-holds : tie.Need-loop-init invariant-loop decreases-loop
-loop-holds c =
+loop_holds : tie.Need-loop-init invariant-loop decreases-loop
+loop_holds c =
     let start = to_start c in
     listing start.args.kind start.args.feed.now start.args.message.now start.args.start
     start.args.len start.pre.1.inside c.merged_items.ensures
@@ -45,79 +45,79 @@ returns c =
     listed at_part.before.loop.invariant at_part.part.ensures at_next.next-selector.ensures
     c.enum_told.given.1
 
-id-of-requires : tie.Need-id-of-requires invariant-loop decreases-loop
-id-of-requires c κs =
+id_of_requires : tie.Need-id-of-requires invariant-loop decreases-loop
+id_of_requires c κs =
     let at_item = c.before in
     let at_next = at_item.before.before in
     let at_part = at_next.before in
     there at_part.before.loop.invariant.walked at_part.part.ensures at_next.next-selector.ensures
     at_item.at.given.1
 
-write-id-requires : tie.Need-write-id-requires invariant-loop decreases-loop
-write-id-requires c κs =
-    let at-id = c.before.before.before in
-    let start = to_start (to_item at-id).before.before.before.before.before in
-    (start.pre.0, at-id.id-of.ensures.inside)
+write_id_requires : tie.Need-write-id-requires invariant-loop decreases-loop
+write_id_requires c κs =
+    let at_id = c.before.before.before in
+    let start = to_start (to_item at_id).before.before.before.before.before in
+    (start.pre.0, at_id.id-of.ensures.inside)
 
-add-count : tie.Need-overflow-add-count invariant-loop decreases-loop
-add-count c =
-    let turn = (to_item (to-id c.before.before)).before.before.before.before in
-    omega (arith, lists-few turn.loop.inv (to_start turn.before).pre.1)
+add_count : tie.Need-overflow-add-count invariant-loop decreases-loop
+add_count c =
+    let turn = (to_item (to_id c.before.before)).before.before.before.before in
+    omega (arith, lists_few turn.loop.inv (to_start turn.before).pre.1)
 
-loop-less : tie.Need-loop-smaller invariant-loop decreases-loop
-loop-less c =
-    let at_item = to_item (to-id c.before.before) in
+loop_less : tie.Need-loop-smaller invariant-loop decreases-loop
+loop_less c =
+    let at_item = to_item (to_id c.before.before) in
     let at_next = at_item.before.before in
     let at_part = at_next.before in
     less at_part.before.loop.inv.walked at_part.part.ensures at_next.next-selector.ensures
     at_item.at.given.1
 
-loop-again : tie.Need-loop-preserved invariant-loop decreases-loop
-loop-again c =
-    let at-write = c.before.before in
-    let at-id = to-id at-write in
-    let at_item = to_item at-id in
+loop_again : tie.Need-loop-preserved invariant-loop decreases-loop
+loop_again c =
+    let at_write = c.before.before in
+    let at_id = to_id at_write in
+    let at_item = to_item at_id in
     let at_next = at_item.before.before in
     let at_part = at_next.before in
-    lists-on at_part.before.loop.inv at_part.part.ensures at_next.next-selector.ensures
-    at_item.at.given.1 at-id.id-of.ensures at-write.before.before.if1.true at-write.write-id.ensures
+    lists_on at_part.before.loop.inv at_part.part.ensures at_next.next-selector.ensures
+    at_item.at.given.1 at_id.id-of.ensures at_write.before.before.if1.true at_write.write-id.ensures
 
-loop-less-2 : tie.Need-loop-smaller-2 invariant-loop decreases-loop
-loop-less-2 c =
+loop_less_2 : tie.Need-loop-smaller-2 invariant-loop decreases-loop
+loop_less_2 c =
     let at_item = to_item c.before.before in
     let at_next = at_item.before.before in
     let at_part = at_next.before in
     less at_part.before.loop.inv.walked at_part.part.ensures at_next.next-selector.ensures
     at_item.at.given.1
 
-loop-again-2 : tie.Need-loop-preserved-2 invariant-loop decreases-loop
-loop-again-2 c =
-    let at-id = c.before.before in
-    let at_item = to_item at-id in
+loop_again_2 : tie.Need-loop-preserved-2 invariant-loop decreases-loop
+loop_again_2 c =
+    let at_id = c.before.before in
+    let at_item = to_item at_id in
     let at_next = at_item.before.before in
     let at_part = at_next.before in
-    lists-past at_part.before.loop.inv at_part.part.ensures at_next.next-selector.ensures
-    at_item.at.given.1 at-id.id-of.ensures c.if1.false
+    lists_past at_part.before.loop.inv at_part.part.ensures at_next.next-selector.ensures
+    at_item.at.given.1 at_id.id-of.ensures c.if1.false
 
-pub list-ids-spec : {M : Type 1} → statement M
-list-ids-spec =
+pub list_ids_spec : {M : Type 1} → statement M
+list_ids_spec =
     tie.close
     (tie.spec
     invariant-loop
     decreases-loop
     (λ c. search rules)
     (λ c κs. search rules)
-    loop-holds
+    loop_holds
     (λ c κs. omega (arith, c.before.before.before.before.before.requires.1.inside))
     (λ c κs. walks c.before.loop.invariant.walked c.part.ensures)
     (λ c. search rules)
     same_length
     returns
     (λ c. search rules)
-    id-of-requires
-    write-id-requires
-    add-count
-    loop-less
-    loop-again
-    loop-less-2
-    loop-again-2)
+    id_of_requires
+    write_id_requires
+    add_count
+    loop_less
+    loop_again
+    loop_less_2
+    loop_again_2)

@@ -1,6 +1,6 @@
 -- `past_alerts` meets its contract.
 use Rattle.alerts.specs.Alert.{alert}
-use Rattle.formats_skip.specs.laws.Passes.{Passing, list-start, list_on, list-end}
+use Rattle.formats_skip.specs.Laws.Passes.{Passing, list_start, list_on, list_end}
 use borrow.Author.Rules.{rules}
 use Rattle.alerts_skip.proofs.past_alerts.Statement.{statement}
 use Rattle.alerts_skip.proofs.past_alerts.Tie as tie
@@ -11,16 +11,16 @@ invariant-loop s at p₀ left₀ p left = Passing alert s p₀ left₀ p left
 abbrev decreases-loop : tie.decreases-loop
 decreases-loop s at p₀ left₀ p left = left
 
-pub past-alerts-spec : {M : Type 1} → statement M
-past-alerts-spec =
+pub past_alerts_spec : {M : Type 1} → statement M
+past_alerts_spec =
     tie.close
     (tie.spec
     invariant-loop
     decreases-loop
     (λ c κs. search rules)
-    (λ c. list-start)
+    (λ c. list_start)
     (λ c κs. search rules)
     (λ c. search rules)
     (λ c. search rules)
     (λ c. search list_on)
-    (λ c. search list-end))
+    (λ c. search list_end))

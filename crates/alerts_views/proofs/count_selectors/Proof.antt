@@ -3,9 +3,9 @@ use borrow.Author.Rules.{rules}
 use Prim.Native.Nat.{◌+◌}
 use native.Mathlib.Omega.{arith}
 use lib.ListN.{length, take}
-use Rattle.realtime_views.specs.promises.Walks.{ahead}
-use Rattle.alerts_views.proofs.Counting.{Counting, counting, counts, fewer, selectors-counted, selectors-on}
-use Rattle.alerts_views.proofs.Counting.{selectors-many}
+use Rattle.realtime_views.specs.Promises.Walks.{ahead}
+use Rattle.alerts_views.proofs.Counting.{Counting, counting, counts, fewer, selectors_counted, selectors_on}
+use Rattle.alerts_views.proofs.Counting.{selectors_many}
 use Rattle.alerts_views.proofs.count_selectors.Statement.{statement}
 use Rattle.alerts_views.proofs.count_selectors.Tie as tie
 
@@ -15,8 +15,8 @@ invariant-loop s start len end walk₀ n₀ walk n = Counting s start len length
 abbrev decreases-loop : tie.decreases-loop
 decreases-loop s start len end walk₀ n₀ walk n = ahead (take (start + len) s) walk
 
-pub count-selectors-spec : {M : Type 1} → statement M
-count-selectors-spec =
+pub count_selectors_spec : {M : Type 1} → statement M
+count_selectors_spec =
     tie.close
     (tie.spec
     invariant-loop
@@ -27,9 +27,9 @@ count-selectors-spec =
     (λ c κs. omega (arith, c.before.before.before.before.requires))
     (λ c κs. search counts)
     (λ c. search rules)
-    (λ c. search selectors-counted)
+    (λ c. search selectors_counted)
     (λ c. search rules)
     (λ c. omega arith)
     (λ c. search fewer)
-    (λ c. search selectors-on)
-    (λ c. search selectors-many))
+    (λ c. search selectors_on)
+    (λ c. search selectors_many))

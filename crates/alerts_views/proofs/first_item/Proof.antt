@@ -4,8 +4,8 @@ use Rattle.alerts_views.proofs.Presence.{first_walks, first_read}
 use Rattle.alerts_views.proofs.first_item.Statement.{statement}
 use Rattle.alerts_views.proofs.first_item.Tie as tie
 
-pub first-item-spec : {M : Type 1} → statement M
-first-item-spec =
+pub first_item_spec : {M : Type 1} → statement M
+first_item_spec =
     tie.close
     (tie.spec
     (λ c. search rules)

@@ -4,7 +4,7 @@ use Rattle.alerts_views.proofs.Walking as walking
 use Rattle.alerts_views.proofs.next_entity.Statement.{statement}
 use Rattle.alerts_views.proofs.next_entity.Tie as tie
 
-pub next-entity-spec : {M : Type 1} → statement M
-next-entity-spec =
+pub next_entity_spec : {M : Type 1} → statement M
+next_entity_spec =
     tie.close
-    (tie.spec (λ c κs. search rules) (λ c. walking.next-entity c.next-item.ensures))
+    (tie.spec (λ c κs. search rules) (λ c. walking.next_entity c.next-item.ensures))

@@ -4,8 +4,8 @@ use Rattle.alerts_views.proofs.Keeping.{none_more, one_more, too_many}
 use Rattle.alerts_views.proofs.with_alert.Statement.{statement}
 use Rattle.alerts_views.proofs.with_alert.Tie as tie
 
-pub with-alert-spec : {M : Type 1} → statement M
-with-alert-spec =
+pub with_alert_spec : {M : Type 1} → statement M
+with_alert_spec =
     tie.close
     (tie.spec
     (λ c κs. search rules)

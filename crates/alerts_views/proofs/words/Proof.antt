@@ -4,11 +4,11 @@ use borrow.Author.Rules.{rules}
 use Prim.Native.Nat.{◌+◌}
 use native.Mathlib.Omega.{arith}
 use lib.ListN.{take}
-use Rattle.realtime_views.specs.promises.Walks.{ahead}
-use Rattle.alerts_views.specs.promises.Words.{Worded}
-use Rattle.realtime_views.specs.laws.Turns.{walks, there, less}
-use Rattle.alerts_views.proofs.Wording.{Wording, wording, strings-of, wordless, wording-on, worded}
-use Rattle.alerts_views.proofs.Wording.{first-there}
+use Rattle.realtime_views.specs.Promises.Walks.{ahead}
+use Rattle.alerts_views.specs.Promises.Words.{Worded}
+use Rattle.realtime_views.specs.Laws.Turns.{walks, there, less}
+use Rattle.alerts_views.proofs.Wording.{Wording, wording, strings_of, wordless, wording_on, worded}
+use Rattle.alerts_views.proofs.Wording.{first_there}
 use Rattle.alerts_views.proofs.words.Statement.{statement}
 use Rattle.alerts_views.proofs.words.Tie as tie
 
@@ -18,8 +18,8 @@ invariant-loop message start len k end walk₀ walk = Wording message start len 
 abbrev decreases-loop : tie.decreases-loop
 decreases-loop message start len k end walk₀ walk = ahead (take (start + len) message) walk
 
-loop-holds : tie.Need-loop-init invariant-loop decreases-loop
-loop-holds c =
+loop_holds : tie.Need-loop-init invariant-loop decreases-loop
+loop_holds c =
     let start = c.before.before in
     let a = start.args in
     wording a.message.now a.start a.len a.k start.requires.0 c.merged_items.ensures
@@ -38,66 +38,66 @@ returns : tie.Need-returns invariant-loop decreases-loop
 returns c =
     let n = c.before.before in
     wordless (turn n).loop.invariant (listed n) n.before.part.ensures
-    (strings-of (turn n).loop.invariant (listed n) n.before.part.ensures n.next-item.ensures)
+    (strings_of (turn n).loop.invariant (listed n) n.before.part.ensures n.next-item.ensures)
     c.enum_told.given.1
 
-first-item-requires : tie.Need-first-item-requires invariant-loop decreases-loop
-first-item-requires c κs =
+first_item_requires : tie.Need-first-item-requires invariant-loop decreases-loop
+first_item_requires c κs =
     let n = c.before.before.before in
     there (turn n).loop.invariant n.before.part.ensures
-    (strings-of (turn n).loop.invariant (listed n) n.before.part.ensures n.next-item.ensures)
+    (strings_of (turn n).loop.invariant (listed n) n.before.part.ensures n.next-item.ensures)
     c.before.found.given.1
 
-text-of-requires : tie.Need-text-of-requires invariant-loop decreases-loop
-text-of-requires c κs =
-    let at-first-item = c.before.before.before in
-    first-there at-first-item.first-item.ensures c.before.j.given.1
+text_of_requires : tie.Need-text-of-requires invariant-loop decreases-loop
+text_of_requires c κs =
+    let at_first_item = c.before.before.before in
+    first_there at_first_item.first-item.ensures c.before.j.given.1
 
-returns-2 : tie.Need-returns-2 invariant-loop decreases-loop
-returns-2 c =
-    let at-first-item = c.before.before.before.before in
-    let at-found = at-first-item.before.before in
-    let n = at-found.before.before in
+returns_2 : tie.Need-returns-2 invariant-loop decreases-loop
+returns_2 c =
+    let at_first_item = c.before.before.before.before in
+    let at_found = at_first_item.before.before in
+    let n = at_found.before.before in
     worded (turn n).loop.invariant (listed n) n.before.part.ensures
-    (strings-of (turn n).loop.invariant (listed n) n.before.part.ensures n.next-item.ensures)
-    at-found.found.given.1 at-first-item.first-item.ensures c.before.before.j.given.1
+    (strings_of (turn n).loop.invariant (listed n) n.before.part.ensures n.next-item.ensures)
+    at_found.found.given.1 at_first_item.first-item.ensures c.before.before.j.given.1
     c.text_of.ensures
 
-loop-less : tie.Need-loop-smaller invariant-loop decreases-loop
-loop-less c =
-    let at-found = c.before.before.before.before in
-    let n = at-found.before.before in
+loop_less : tie.Need-loop-smaller invariant-loop decreases-loop
+loop_less c =
+    let at_found = c.before.before.before.before in
+    let n = at_found.before.before in
     less (turn n).loop.invariant n.before.part.ensures
-    (strings-of (turn n).loop.invariant (listed n) n.before.part.ensures n.next-item.ensures)
-    at-found.found.given.1
+    (strings_of (turn n).loop.invariant (listed n) n.before.part.ensures n.next-item.ensures)
+    at_found.found.given.1
 
-loop-again : tie.Need-loop-preserved invariant-loop decreases-loop
-loop-again c =
-    let at-first-item = c.before.before in
-    let at-found = at-first-item.before.before in
-    let n = at-found.before.before in
-    wording-on (turn n).loop.invariant (listed n) n.before.part.ensures
-    (strings-of (turn n).loop.invariant (listed n) n.before.part.ensures n.next-item.ensures)
-    at-found.found.given.1 at-first-item.first-item.ensures c.enum-told2.given.1
+loop_again : tie.Need-loop-preserved invariant-loop decreases-loop
+loop_again c =
+    let at_first_item = c.before.before in
+    let at_found = at_first_item.before.before in
+    let n = at_found.before.before in
+    wording_on (turn n).loop.invariant (listed n) n.before.part.ensures
+    (strings_of (turn n).loop.invariant (listed n) n.before.part.ensures n.next-item.ensures)
+    at_found.found.given.1 at_first_item.first-item.ensures c.enum-told2.given.1
 
-pub words-spec : {M : Type 1} → statement M
-words-spec =
+pub words_spec : {M : Type 1} → statement M
+words_spec =
     tie.close
     (tie.spec
     invariant-loop
     decreases-loop
     (λ c. search rules)
     (λ c κs. search rules)
-    loop-holds
+    loop_holds
     (λ c κs. omega (arith, c.before.before.before.requires.0))
     (λ c κs. walks c.before.loop.invariant c.part.ensures)
     (λ c. search rules)
     (λ c. search rules)
     returns
-    first-item-requires
+    first_item_requires
     (λ c. search rules)
-    text-of-requires
-    returns-2
+    text_of_requires
+    returns_2
     (λ c. search rules)
-    loop-less
-    loop-again)
+    loop_less
+    loop_again)

@@ -3,8 +3,8 @@ use borrow.Author.Rules.{rules}
 use Rattle.calendar.proofs.date_digits.Statement.{statement}
 use Rattle.calendar.proofs.date_digits.Tie as tie
 
-pub date-digits-spec : {M : Type 1} → statement M
-date-digits-spec =
+pub date_digits_spec : {M : Type 1} → statement M
+date_digits_spec =
     tie.close
     (tie.spec
     (λ c κs. search rules)

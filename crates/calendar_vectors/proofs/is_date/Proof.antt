@@ -9,8 +9,8 @@ invariant-loop s at d i₀ i = i ≤ 8
 abbrev decreases-loop : tie.decreases-loop
 decreases-loop s at d i₀ i = 8 - i
 
-pub is-date-spec : {M : Type 1} → statement M
-is-date-spec =
+pub is_date_spec : {M : Type 1} → statement M
+is_date_spec =
     tie.close
     (tie.spec
     invariant-loop

@@ -9,8 +9,8 @@ invariant-loop s at n₀ i₀ n i = i ≤ 10
 abbrev decreases-loop : tie.decreases-loop
 decreases-loop s at n₀ i₀ n i = 10 - i
 
-pub seconds-spec : {M : Type 1} → statement M
-seconds-spec =
+pub seconds_spec : {M : Type 1} → statement M
+seconds_spec =
     tie.close
     (tie.spec
     invariant-loop

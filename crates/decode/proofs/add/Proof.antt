@@ -1,6 +1,6 @@
 -- `decode::add` writes a text. Assumes nothing.
 use borrow.Author.Rules.{rules}
-use Rattle.decode.proofs.Writing.{added-text}
+use Rattle.decode.proofs.Writing.{added_text}
 use Rattle.decode.proofs.add.Statement.{statement}
 use Rattle.decode.proofs.add.Tie as tie
 
@@ -13,7 +13,7 @@ returns c =
     let at_copy = c.before.before in
     let start = to_start at_copy in
     let a = start.args in
-    added-text a.out.now a.at a.x.now at_copy.copy.new.0 start.pre at_copy.copy.ensures
+    added_text a.out.now a.at a.x.now at_copy.copy.new.0 start.pre at_copy.copy.ensures
 
 pub add_spec : {M : Type 1} → statement M
 add_spec =

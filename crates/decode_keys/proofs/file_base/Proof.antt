@@ -4,16 +4,16 @@ use native.Mathlib.Omega.{arith}
 use Rattle.decode_keys.proofs.file_base.Statement.{statement}
 use Rattle.decode_keys.proofs.file_base.Tie as tie
 
-file-key-requires : tie.Need-file-key-requires
-file-key-requires c κs =
+file_key_requires : tie.Need-file-key-requires
+file_key_requires c κs =
     let start = c.before.before.before.before.before.before.before.before in
     (start.requires.0, (start.requires.1.id.0, omega (arith, start.requires.1.id.1)))
 
-pub file-base-spec : {M : Type 1} → statement M
-file-base-spec =
+pub file_base_spec : {M : Type 1} → statement M
+file_base_spec =
     tie.close
     (tie.spec
-    file-key-requires
+    file_key_requires
     (λ c. search rules)
     (λ c. search rules)
     (λ c. search rules)

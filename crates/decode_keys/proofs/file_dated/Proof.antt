@@ -5,39 +5,39 @@ use Rattle.decode_keys.proofs.file_dated.Statement.{statement}
 use Rattle.decode_keys.proofs.file_dated.Tie as tie
 
 -- the places that the needs go back to
-abbrev to-write-dated : tie.After-settle → tie.After-write-dated
-to-write-dated c = c.before.before.before.before.before.before
+abbrev to_write_dated : tie.After-settle → tie.After-write-dated
+to_write_dated c = c.before.before.before.before.before.before
 
 abbrev to_start : tie.After-write-dated → tie.Start
 to_start c = c.before.before.before.before.before.before
 
-write-dated-requires : tie.Need-write-dated-requires
-write-dated-requires c κs =
+write_dated_requires : tie.Need-write-dated-requires
+write_dated_requires c κs =
     let start = c.before.before.before.before.before in
     (record { counted = start.requires.0.few; keyed = start.requires.0.sound.keyed }, start.requires.1)
 
-settle-requires : tie.Need-settle-requires
-settle-requires c κs =
-    let at-write-dated = c.before.before.before.before.before in
-    let start = to_start at-write-dated in (
-      still start.pre.0.sound start.pre.0.few at-write-dated.write-dated.ensures,
-      (start.pre.0.few, at-write-dated.write-dated.ensures.short),
+settle_requires : tie.Need-settle-requires
+settle_requires c κs =
+    let at_write_dated = c.before.before.before.before.before in
+    let start = to_start at_write_dated in (
+      still start.pre.0.sound start.pre.0.few at_write_dated.write-dated.ensures,
+      (start.pre.0.few, at_write_dated.write-dated.ensures.short),
     )
 
 returns : tie.Need-returns
 returns c =
-    let at-settle = c.before.before.before.before in
-    let at-write-dated = to-write-dated at-settle in
-    let start = to_start at-write-dated in
-    filed start.pre.0.sound start.pre.0.few at-write-dated.write-dated.ensures
-    at-settle.settle.ensures
+    let at_settle = c.before.before.before.before in
+    let at_write_dated = to_write_dated at_settle in
+    let start = to_start at_write_dated in
+    filed start.pre.0.sound start.pre.0.few at_write_dated.write-dated.ensures
+    at_settle.settle.ensures
 
-pub file-dated-spec : {M : Type 1} → statement M
-file-dated-spec =
+pub file_dated_spec : {M : Type 1} → statement M
+file_dated_spec =
     tie.close
     (tie.spec
-    write-dated-requires
-    settle-requires
+    write_dated_requires
+    settle_requires
     (λ c. search rules)
     (λ c. search rules)
     (λ c. search rules)

@@ -5,41 +5,41 @@ use Rattle.decode_keys.proofs.file_incomplete.Statement.{statement}
 use Rattle.decode_keys.proofs.file_incomplete.Tie as tie
 
 -- the places that the needs go back to
-abbrev to-write-incomplete : tie.After-settle → tie.After-write-incomplete
-to-write-incomplete c = c.before.before.before.before.before.before
+abbrev to_write_incomplete : tie.After-settle → tie.After-write-incomplete
+to_write_incomplete c = c.before.before.before.before.before.before
 
 abbrev to_start : tie.After-write-incomplete → tie.Start
 to_start c = c.before.before.before.before.before.before.before
 
-write-incomplete-requires : tie.Need-write-incomplete-requires
-write-incomplete-requires c κs =
+write_incomplete_requires : tie.Need-write-incomplete-requires
+write_incomplete_requires c κs =
     let start = c.before.before.before.before.before.before in (
       record { counted = start.requires.0.few; keyed = start.requires.0.sound.keyed },
       start.requires.1,
     )
 
-settle-requires : tie.Need-settle-requires
-settle-requires c κs =
-    let at-write-incomplete = c.before.before.before.before.before in
-    let start = to_start at-write-incomplete in (
-      still start.pre.0.sound start.pre.0.few at-write-incomplete.write-incomplete.ensures,
-      (start.pre.0.few, at-write-incomplete.write-incomplete.ensures.short),
+settle_requires : tie.Need-settle-requires
+settle_requires c κs =
+    let at_write_incomplete = c.before.before.before.before.before in
+    let start = to_start at_write_incomplete in (
+      still start.pre.0.sound start.pre.0.few at_write_incomplete.write-incomplete.ensures,
+      (start.pre.0.few, at_write_incomplete.write-incomplete.ensures.short),
     )
 
 returns : tie.Need-returns
 returns c =
-    let at-settle = c.before.before.before.before in
-    let at-write-incomplete = to-write-incomplete at-settle in
-    let start = to_start at-write-incomplete in
-    filed start.pre.0.sound start.pre.0.few at-write-incomplete.write-incomplete.ensures
-    at-settle.settle.ensures
+    let at_settle = c.before.before.before.before in
+    let at_write_incomplete = to_write_incomplete at_settle in
+    let start = to_start at_write_incomplete in
+    filed start.pre.0.sound start.pre.0.few at_write_incomplete.write-incomplete.ensures
+    at_settle.settle.ensures
 
-pub file-incomplete-spec : {M : Type 1} → statement M
-file-incomplete-spec =
+pub file_incomplete_spec : {M : Type 1} → statement M
+file_incomplete_spec =
     tie.close
     (tie.spec
-    write-incomplete-requires
-    settle-requires
+    write_incomplete_requires
+    settle_requires
     (λ c. search rules)
     (λ c. search rules)
     (λ c. search rules)

@@ -6,8 +6,8 @@ use mir.Syntax.{w32, w64}
 use Rattle.decode_probes.proofs.event_numbers.Statement.{statement}
 use Rattle.decode_probes.proofs.event_numbers.Tie as tie
 
-pub event-numbers-spec : {M : Type 1} → statement M
-event-numbers-spec =
+pub event_numbers_spec : {M : Type 1} → statement M
+event_numbers_spec =
     tie.close
     (tie.spec
     (λ c κs. search rules)

@@ -3,8 +3,8 @@ use borrow.Author.Rules.{rules}
 use Rattle.decode_probes.proofs.header_numbers.Statement.{statement}
 use Rattle.decode_probes.proofs.header_numbers.Tie as tie
 
-pub header-numbers-spec : {M : Type 1} → statement M
-header-numbers-spec =
+pub header_numbers_spec : {M : Type 1} → statement M
+header_numbers_spec =
     tie.close
     (tie.spec
     (λ c κs. search rules)

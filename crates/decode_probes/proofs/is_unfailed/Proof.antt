@@ -5,8 +5,8 @@ use Rattle.decode_probes.specs.Indexing.{unfailed}
 use Rattle.decode_probes.proofs.is_unfailed.Statement.{statement}
 use Rattle.decode_probes.proofs.is_unfailed.Tie as tie
 
-pub is-unfailed-spec : {M : Type 1} → statement M
-is-unfailed-spec =
+pub is_unfailed_spec : {M : Type 1} → statement M
+is_unfailed_spec =
     tie.close
     (tie.spec
     (λ c. search rules)

@@ -4,40 +4,40 @@ use mathlib.Core.Path.{sym, ap, ◌∙◌}
 use Rattle.realtime.specs.Judge.{rules}
 use Rattle.realtime.specs.Schema.{feed}
 use Rattle.realtime.specs.Tree.{tree}
-use Rattle.decode_probes.proofs.Reading.{unbroken, asked-whole}
+use Rattle.decode_probes.proofs.Reading.{unbroken, asked_whole}
 use Rattle.decode_probes.proofs.is_whole.Statement.{statement}
 use Rattle.decode_probes.proofs.is_whole.Tie as tie
 
 returns : tie.Need-returns
 returns c =
-    let at-judge = c.before.before in
-    let start = at-judge.before.before in
-    ap unbroken (sym c.enum_told.given.1 ∙ at-judge.judge.ensures) ∙ asked-whole rules start.args.message
+    let at_judge = c.before.before in
+    let start = at_judge.before.before in
+    ap unbroken (sym c.enum_told.given.1 ∙ at_judge.judge.ensures) ∙ asked_whole rules start.args.message
     (tree feed start.args.message start.args.s.now)
 
-returns-2 : tie.Need-returns-2
-returns-2 c =
-    let at-judge = c.before.before in
-    let start = at-judge.before.before in
-    ap unbroken (sym c.enum-told2.given.1 ∙ at-judge.judge.ensures) ∙ asked-whole rules
+returns_2 : tie.Need-returns-2
+returns_2 c =
+    let at_judge = c.before.before in
+    let start = at_judge.before.before in
+    ap unbroken (sym c.enum-told2.given.1 ∙ at_judge.judge.ensures) ∙ asked_whole rules
     start.args.message (tree feed start.args.message start.args.s.now)
 
-returns-3 : tie.Need-returns-3
-returns-3 c =
-    let at-judge = c.before.before in
-    let start = at-judge.before.before in
-    ap unbroken (sym c.enum-told3.given.1 ∙ at-judge.judge.ensures) ∙ asked-whole rules
+returns_3 : tie.Need-returns-3
+returns_3 c =
+    let at_judge = c.before.before in
+    let start = at_judge.before.before in
+    ap unbroken (sym c.enum-told3.given.1 ∙ at_judge.judge.ensures) ∙ asked_whole rules
     start.args.message (tree feed start.args.message start.args.s.now)
 
-returns-4 : tie.Need-returns-4
-returns-4 c =
-    let at-judge = c.before.before in
-    let start = at-judge.before.before in
-    ap unbroken (sym c.enum-told4.given.1 ∙ at-judge.judge.ensures) ∙ asked-whole rules
+returns_4 : tie.Need-returns-4
+returns_4 c =
+    let at_judge = c.before.before in
+    let start = at_judge.before.before in
+    ap unbroken (sym c.enum-told4.given.1 ∙ at_judge.judge.ensures) ∙ asked_whole rules
     start.args.message (tree feed start.args.message start.args.s.now)
 
-pub is-whole-spec : {M : Type 1} → statement M
-is-whole-spec =
+pub is_whole_spec : {M : Type 1} → statement M
+is_whole_spec =
     tie.close
     (tie.spec
     (λ c κs. search rules)
@@ -46,6 +46,6 @@ is-whole-spec =
     (λ c. search rules)
     (λ c. search rules)
     returns
-    returns-2
-    returns-3
-    returns-4)
+    returns_2
+    returns_3
+    returns_4)

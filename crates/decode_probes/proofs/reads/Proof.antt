@@ -15,8 +15,8 @@ returns c =
     let start = to_start at_part in
     c.same.ensures ∙ ap (λ y. same y start.args.x.now) at_part.part.ensures
 
-pub reads-spec : {M : Type 1} → statement M
-reads-spec =
+pub reads_spec : {M : Type 1} → statement M
+reads_spec =
     tie.close
     (tie.spec
     (λ c κs. search rules)

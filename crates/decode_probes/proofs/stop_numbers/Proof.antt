@@ -3,8 +3,8 @@ use borrow.Author.Rules.{rules}
 use Rattle.decode_probes.proofs.stop_numbers.Statement.{statement}
 use Rattle.decode_probes.proofs.stop_numbers.Tie as tie
 
-pub stop-numbers-spec : {M : Type 1} → statement M
-stop-numbers-spec =
+pub stop_numbers_spec : {M : Type 1} → statement M
+stop_numbers_spec =
     tie.close
     (tie.spec
     (λ c κs. search rules)

@@ -6,8 +6,8 @@ use mir.Syntax.{w32}
 use Rattle.decode_probes.proofs.trip_numbers.Statement.{statement}
 use Rattle.decode_probes.proofs.trip_numbers.Tie as tie
 
-pub trip-numbers-spec : {M : Type 1} → statement M
-trip-numbers-spec =
+pub trip_numbers_spec : {M : Type 1} → statement M
+trip_numbers_spec =
     tie.close
     (tie.spec
     (λ c κs. search rules)

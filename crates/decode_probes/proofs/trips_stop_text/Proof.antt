@@ -2,10 +2,10 @@
 use borrow.Author.Rules.{rules}
 use mathlib.Core.Path.{sym, ap, ◌∙◌}
 use mathlib.Core.Bool.{false}
-use Rattle.realtime.specs.Schema.{stopTimeUpdate}
+use Rattle.realtime.specs.Schema.{stop_time_update}
 use Rattle.basics.specs.Texts.{same}
-use Rattle.realtime.specs.Views.{stopUpdate}
-use Rattle.decode_probes.proofs.Reading.{of-whole, of-broken, all_of}
+use Rattle.realtime.specs.Views.{stop_update}
+use Rattle.decode_probes.proofs.Reading.{of_whole_holds, of_broken, all_of}
 use Rattle.decode_probes.proofs.trips_stop_text.Statement.{statement}
 use Rattle.decode_probes.proofs.trips_stop_text.Tie as tie
 
@@ -15,30 +15,30 @@ to_start c = c.before.before.before
 
 returns : tie.Need-returns
 returns c =
-    let at-stop-of = c.before.before in
-    let then1 = at-stop-of.before in
-    let at-is-whole = then1.before in
-    let start = to_start at-is-whole in
+    let at_stop_of = c.before.before in
+    let then1 = at_stop_of.before in
+    let at_is_whole = then1.before in
+    let start = to_start at_is_whole in
     let a = start.args in
-    of-whole false (λ m. same (stopUpdate m).stop a.stop.now) stopTimeUpdate a.u.now
-    (sym at-is-whole.is_whole.ensures ∙ then1.if1.true)
+    of_whole_holds false (λ m. same (stop_update m).stop a.stop.now) stop_time_update a.u.now
+    (sym at_is_whole.is_whole.ensures ∙ then1.if1.true)
     (λ m e. c.reads.ensures ∙ ap (λ v. same v.stop a.stop.now)
-    (at-stop-of.stop-of.ensures.of m (all_of stopTimeUpdate a.u.now e)))
+    (at_stop_of.stop-of.ensures.of m (all_of stop_time_update a.u.now e)))
 
-returns-2 : tie.Need-returns-2
-returns-2 c =
-    let at-is-whole = c.before in
-    let start = to_start at-is-whole in
+returns_2 : tie.Need-returns-2
+returns_2 c =
+    let at_is_whole = c.before in
+    let start = to_start at_is_whole in
     let a = start.args in
-    of-broken false (λ m. same (stopUpdate m).stop a.stop.now) stopTimeUpdate a.u.now
-    (sym at-is-whole.is_whole.ensures ∙ c.if1.false)
+    of_broken false (λ m. same (stop_update m).stop a.stop.now) stop_time_update a.u.now
+    (sym at_is_whole.is_whole.ensures ∙ c.if1.false)
 
-pub trips-stop-text-spec : {M : Type 1} → statement M
-trips-stop-text-spec =
+pub trips_stop_text_spec : {M : Type 1} → statement M
+trips_stop_text_spec =
     tie.close
     (tie.spec
     (λ c κs. search rules)
     (λ c κs. search rules)
     (λ c κs. search rules)
     returns
-    returns-2)
+    returns_2)

@@ -1,13 +1,13 @@
 -- `date_place` meets its contract.
-use Rattle.formats_skip.specs.laws.Leads.{lead-here, lead-small, lead-optional-signed}
+use Rattle.formats_skip.specs.Laws.Leads.{lead_here, lead_small, lead_optional_signed}
 use borrow.Author.Rules.{rules}
 use Rattle.decode_skip.proofs.date_place.Statement.{statement}
 use Rattle.decode_skip.proofs.date_place.Tie as tie
 
-pub date-place-spec : {M : Type 1} → statement M
-date-place-spec =
+pub date_place_spec : {M : Type 1} → statement M
+date_place_spec =
     tie.close
     (tie.spec
     (λ c κs. search rules)
     (λ c κs. search rules)
-    (λ c. search (lead-here, lead-small 0, lead-optional-signed 1)))
+    (λ c. search (lead_here, lead_small 0, lead_optional_signed 1)))

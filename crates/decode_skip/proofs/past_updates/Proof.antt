@@ -1,27 +1,27 @@
 -- `past_updates` meets its contract.
-use Rattle.decode.specs.Trip.{number32, stopUpdate}
+use Rattle.decode.specs.Trip.{number32, stop_update}
 use Rattle.formats.specs.Format.{◌&◌}
-use Rattle.formats_skip.specs.laws.Passes.{Passing, list-start, list_on, list-end}
+use Rattle.formats_skip.specs.Laws.Passes.{Passing, list_start, list_on, list_end}
 use borrow.Author.Rules.{rules}
 use Rattle.decode_skip.proofs.past_updates.Statement.{statement}
 use Rattle.decode_skip.proofs.past_updates.Tie as tie
 
 abbrev invariant-loop : tie.invariant-loop
-invariant-loop s at p₀ left₀ p left = Passing (number32 & stopUpdate) s p₀ left₀ p left
+invariant-loop s at p₀ left₀ p left = Passing (number32 & stop_update) s p₀ left₀ p left
 
 abbrev decreases-loop : tie.decreases-loop
 decreases-loop s at p₀ left₀ p left = left
 
-pub past-updates-spec : {M : Type 1} → statement M
-past-updates-spec =
+pub past_updates_spec : {M : Type 1} → statement M
+past_updates_spec =
     tie.close
     (tie.spec
     invariant-loop
     decreases-loop
     (λ c κs. search rules)
-    (λ c. list-start)
+    (λ c. list_start)
     (λ c κs. search rules)
     (λ c. search rules)
     (λ c. search rules)
     (λ c. search list_on)
-    (λ c. search list-end))
+    (λ c. search list_end))

@@ -1,11 +1,11 @@
 -- `updates_place` meets its contract.
-use Rattle.formats_skip.specs.laws.Leads.{lead-here, lead-small, lead-text, lead-optional-number, lead-optional-signed}
+use Rattle.formats_skip.specs.Laws.Leads.{lead_here, lead_small, lead_text, lead_optional_number, lead_optional_signed}
 use borrow.Author.Rules.{rules}
 use Rattle.decode_skip.proofs.updates_place.Statement.{statement}
 use Rattle.decode_skip.proofs.updates_place.Tie as tie
 
-pub updates-place-spec : {M : Type 1} → statement M
-updates-place-spec =
+pub updates_place_spec : {M : Type 1} → statement M
+updates_place_spec =
     tie.close
     (tie.spec
     (λ c κs. search rules)
@@ -15,5 +15,5 @@ updates-place-spec =
     (λ c κs. search rules)
     (λ c κs. search rules)
     (λ c. search
-    (lead-here, lead-text 0, lead-optional-number 1, lead-text 2, lead-text 3, lead-small 4, lead-optional-signed 5)
+    (lead_here, lead_text 0, lead_optional_number 1, lead_text 2, lead_text 3, lead_small 4, lead_optional_signed 5)
     depth 9))

@@ -4,8 +4,8 @@ use borrow.Author.Rules.{rules}
 use Rattle.decode_slots.proofs.key_order.Statement.{statement}
 use Rattle.decode_slots.proofs.key_order.Tie as tie
 
-pub key-order-spec : {M : Type 1} → statement M
-key-order-spec =
+pub key_order_spec : {M : Type 1} → statement M
+key_order_spec =
     tie.close
     (tie.spec
     (λ c. search rules)

@@ -1,6 +1,6 @@
 -- `decode_trips::again` meets its contract.
-use Rattle.decode_trips.specs.laws.Again.{again-full, again-back, again-out, again-long, again-far, again-over}
-use Rattle.decode_trips.specs.laws.Again.{again-done}
+use Rattle.decode_trips.specs.Laws.Again.{again_full, again_back, again_out, again_long, again_far, again_over}
+use Rattle.decode_trips.specs.Laws.Again.{again_done}
 use borrow.Author.Rules.{rules}
 use lib.ListN.{length-take}
 use native.Mathlib.Omega.{arith}
@@ -13,13 +13,13 @@ again_spec =
     (tie.spec
     (λ c. search rules)
     (λ c. search rules)
-    (λ c. search again-full)
-    (λ c. search again-back)
-    (λ c. search again-out)
-    (λ c. search again-long)
-    (λ c. search again-far)
+    (λ c. search again_full)
+    (λ c. search again_back)
+    (λ c. search again_out)
+    (λ c. search again_long)
+    (λ c. search again_far)
     (λ c. search rules)
-    (λ c. search again-over)
+    (λ c. search again_over)
     (λ c. search rules)
     (λ c. search rules)
     (λ c. search rules)
@@ -29,4 +29,4 @@ again_spec =
     (λ c κs. simp length-take (omega arith))
     (λ c. search rules)
     (λ c. search rules)
-    (λ c. search again-done))
+    (λ c. search again_done))

@@ -1,11 +1,11 @@
 -- `decode_trips::write_next` meets its contract.
-use Rattle.decode_trips.specs.laws.Again.{copied}
+use Rattle.decode_trips.specs.Laws.Again.{copied}
 use borrow.Author.Rules.{rules}
 use Rattle.decode_trips.proofs.write_next.Statement.{statement}
 use Rattle.decode_trips.proofs.write_next.Tie as tie
 
-pub write-next-spec : {M : Type 1} → statement M
-write-next-spec =
+pub write_next_spec : {M : Type 1} → statement M
+write_next_spec =
     tie.close
     (tie.spec
     (λ c κs. search rules)

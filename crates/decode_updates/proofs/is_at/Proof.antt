@@ -6,8 +6,8 @@ use borrow.Author.Tests.{lt-ltb, le-ltb}
 use Rattle.decode_updates.proofs.is_at.Statement.{statement}
 use Rattle.decode_updates.proofs.is_at.Tie as tie
 
-pub is-at-spec : {M : Type 1} → statement M
-is-at-spec =
+pub is_at_spec : {M : Type 1} → statement M
+is_at_spec =
     tie.close
     (tie.spec
     (λ c. rw (le-ltb c.before.args.r c.before.args.n (omega arith)))

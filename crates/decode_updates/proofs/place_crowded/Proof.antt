@@ -1,8 +1,8 @@
 -- `decode_updates::place_crowded`: an old record is not asked, nor one that is known. Assumes nothing.
 use native.Mathlib.Omega.{arith}
-use Rattle.decode_updates.proofs.Crowding.{place-old, place-known, place-reads, place-new}
-use Rattle.realtime.specs.Schema.{feedEntity}
-use Rattle.decode_slots.specs.promises.Places.{Readable}
+use Rattle.decode_updates.proofs.Crowding.{place_old, place_known, place_reads, place_new}
+use Rattle.realtime.specs.Schema.{feed_entity}
+use Rattle.decode_slots.specs.Promises.Places.{Readable}
 use borrow.Author.Rules.{rules}
 use Rattle.decode_updates.proofs.place_crowded.Statement.{statement}
 use Rattle.decode_updates.proofs.place_crowded.Tie as tie
@@ -11,28 +11,28 @@ use Rattle.decode_updates.proofs.place_crowded.Tie as tie
 abbrev to_start : tie.Joined2 → tie.Start
 to_start c = c.before.before.before
 
-stood : (c : tie.Joined2) → let a = (to_start c).args in Readable feedEntity a.message.now (a.from, a.to)
+stood : (c : tie.Joined2) → let a = (to_start c).args in Readable feed_entity a.message.now (a.from, a.to)
 stood c =
     let start = to_start c in
-    place-reads start.args.message.now start.args.from start.args.to start.pre.1.1 (search rules)
+    place_reads start.args.message.now start.args.from start.args.to start.pre.1.1 (search rules)
 
 old : tie.Need-returns
-old c = search place-old
+old c = search place_old
 
 known : tie.Need-returns-2
-known c = search place-known
+known c = search place_known
 
 forward : tie.Need-overflow-sub-is-crowded
 forward c = (stood c).forward
 
-is-crowded-requires : tie.Need-is-crowded-requires
-is-crowded-requires c κs =
+is_crowded_requires : tie.Need-is-crowded-requires
+is_crowded_requires c κs =
     let R = stood c in
     (omega (arith, R.forward, R.inside), search rules)
 
 asked : tie.Need-returns-3
-asked c = search place-new
+asked c = search place_new
 
-pub place-crowded-spec : {M : Type 1} → statement M
-place-crowded-spec =
-    tie.close (tie.spec old known forward is-crowded-requires asked)
+pub place_crowded_spec : {M : Type 1} → statement M
+place_crowded_spec =
+    tie.close (tie.spec old known forward is_crowded_requires asked)

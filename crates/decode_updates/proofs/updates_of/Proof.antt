@@ -3,9 +3,9 @@ use borrow.Author.Rules.{rules}
 use Prim.Native.Nat.{◌+◌, ◌≤◌}
 use native.Mathlib.Omega.{arith}
 use lib.ListN.{take}
-use Rattle.realtime_views.specs.promises.Walks.{ahead}
-use Rattle.realtime_views.specs.laws.Turns.{walks, there, less}
-use Rattle.decode_updates.proofs.Listing.{Listing, listing, listed, lists-on, lists-many}
+use Rattle.realtime_views.specs.Promises.Walks.{ahead}
+use Rattle.realtime_views.specs.Laws.Turns.{walks, there, less}
+use Rattle.decode_updates.proofs.Listing.{Listing, listing, listed, lists_on, lists_many}
 use Rattle.decode_updates.proofs.updates_of.Statement.{statement}
 use Rattle.decode_updates.proofs.updates_of.Tie as tie
 
@@ -16,17 +16,17 @@ abbrev decreases-loop : tie.decreases-loop
 decreases-loop updates₀ s start len end walk₀ n₀ updates walk n = ahead (take (start + len) s) walk
 
 -- the places that the needs go back to
-abbrev to-note : tie.Else1 invariant-loop decreases-loop → tie.After-note invariant-loop decreases-loop
-to-note c = c.before.before.before
+abbrev to_note : tie.Else1 invariant-loop decreases-loop → tie.After-note invariant-loop decreases-loop
+to_note c = c.before.before.before
 
-abbrev to-note-from-then1 : tie.Then1 invariant-loop decreases-loop → tie.After-note invariant-loop decreases-loop
-to-note-from-then1 c = c.before.before.before
+abbrev to_note_from_then1 : tie.Then1 invariant-loop decreases-loop → tie.After-note invariant-loop decreases-loop
+to_note_from_then1 c = c.before.before.before
 
 abbrev to_start : tie.After-merged-items invariant-loop decreases-loop → tie.Start invariant-loop decreases-loop
 to_start c = c.before.before.before
 
-loop-holds : tie.Need-loop-init invariant-loop decreases-loop
-loop-holds c =
+loop_holds : tie.Need-loop-init invariant-loop decreases-loop
+loop_holds c =
     let start = to_start c in (
       listing start.args.message.now start.args.start start.args.len start.pre.1.0 start.pre.0
           c.merged_items.ensures,
@@ -41,128 +41,128 @@ same_length c =
 
 none_left : tie.Need-returns invariant-loop decreases-loop
 none_left c =
-    let at-next-update = c.before.before in
-    let at_part = at-next-update.before in
+    let at_next_update = c.before.before in
+    let at_part = at_next_update.before in
     let turn = at_part.before in
-    listed turn.loop.invariant.0 at_part.part.ensures at-next-update.next-update.ensures
+    listed turn.loop.invariant.0 at_part.part.ensures at_next_update.next-update.ensures
     c.enum_told.given.1 turn.loop.invariant.1
 
-sequence-at-requires : tie.Need-sequence-at-requires invariant-loop decreases-loop
-sequence-at-requires c κs =
+sequence_at_requires : tie.Need-sequence-at-requires invariant-loop decreases-loop
+sequence_at_requires c κs =
     let at_item = c.before in
-    let at-next-update = at_item.before.before in
-    let at_part = at-next-update.before in
+    let at_next_update = at_item.before.before in
+    let at_part = at_next_update.before in
     let turn = at_part.before in
-    there turn.loop.invariant.0.walked at_part.part.ensures at-next-update.next-update.ensures
+    there turn.loop.invariant.0.walked at_part.part.ensures at_next_update.next-update.ensures
     at_item.at.given.1
 
-cast-note : tie.Need-overflow-cast-note invariant-loop decreases-loop
-cast-note c =
+cast_note : tie.Need-overflow-cast-note invariant-loop decreases-loop
+cast_note c =
     let at_item = c.before.before.before in
-    let at-next-update = at_item.before.before in
-    let at_part = at-next-update.before in
+    let at_next_update = at_item.before.before in
+    let at_part = at_next_update.before in
     let turn = at_part.before in
     let start = to_start turn.before in
     omega (
       arith,
-      there turn.loop.invariant.0.walked at_part.part.ensures at-next-update.next-update.ensures
+      there turn.loop.invariant.0.walked at_part.part.ensures at_next_update.next-update.ensures
           at_item.at.given.1,
       start.pre.1.1,
     )
 
-add-note : tie.Need-overflow-add-note invariant-loop decreases-loop
-add-note c =
+add_note : tie.Need-overflow-add-note invariant-loop decreases-loop
+add_note c =
     let at_item = c.before.before.before in
-    let at-next-update = at_item.before.before in
-    let at_part = at-next-update.before in
+    let at_next_update = at_item.before.before in
+    let at_part = at_next_update.before in
     let turn = at_part.before in
     let start = to_start turn.before in
     omega (
       arith,
-      there turn.loop.invariant.0.walked at_part.part.ensures at-next-update.next-update.ensures
+      there turn.loop.invariant.0.walked at_part.part.ensures at_next_update.next-update.ensures
           at_item.at.given.1,
       start.pre.1.1,
     )
 
-cast-note-2 : tie.Need-overflow-cast-note-2 invariant-loop decreases-loop
-cast-note-2 c =
+cast_note_2 : tie.Need-overflow-cast-note-2 invariant-loop decreases-loop
+cast_note_2 c =
     let at_item = c.before.before.before in
-    let at-next-update = at_item.before.before in
-    let at_part = at-next-update.before in
+    let at_next_update = at_item.before.before in
+    let at_part = at_next_update.before in
     let turn = at_part.before in
     let start = to_start turn.before in
     omega (
       arith,
-      there turn.loop.invariant.0.walked at_part.part.ensures at-next-update.next-update.ensures
+      there turn.loop.invariant.0.walked at_part.part.ensures at_next_update.next-update.ensures
           at_item.at.given.1,
       start.pre.1.1,
     )
 
-note-requires : tie.Need-note-requires invariant-loop decreases-loop
-note-requires c κs =
+note_requires : tie.Need-note-requires invariant-loop decreases-loop
+note_requires c κs =
     let turn = c.before.before.before.before.before.before.before in
     (turn.loop.invariant.0.lined, turn.loop.invariant.1)
 
-same-length-2 : tie.Need-same-length-2 invariant-loop decreases-loop
-same-length-2 c =
-    let at-note = to-note-from-then1 c in
-    let start = to_start at-note.before.before.before.before.before.before.before.before.before in
-    omega (arith, at-note.note.ensures.lined.long, start.pre.0)
+same_length_2 : tie.Need-same-length-2 invariant-loop decreases-loop
+same_length_2 c =
+    let at_note = to_note_from_then1 c in
+    let start = to_start at_note.before.before.before.before.before.before.before.before.before in
+    omega (arith, at_note.note.ensures.lined.long, start.pre.0)
 
 too_many : tie.Need-returns-2 invariant-loop decreases-loop
 too_many c =
-    let at-note = to-note-from-then1 c in
-    let at-sequence-at = at-note.before.before in
-    let at_item = at-sequence-at.before.before in
-    let at-next-update = at_item.before.before in
-    let at_part = at-next-update.before in
+    let at_note = to_note_from_then1 c in
+    let at_sequence_at = at_note.before.before in
+    let at_item = at_sequence_at.before.before in
+    let at_next_update = at_item.before.before in
+    let at_part = at_next_update.before in
     let turn = at_part.before in
-    lists-many (lists-on turn.loop.inv.0 at_part.part.ensures at-next-update.next-update.ensures
-    at_item.at.given.1 at-sequence-at.sequence-at.ensures at-note.note.ensures) c.if1.true
+    lists_many (lists_on turn.loop.inv.0 at_part.part.ensures at_next_update.next-update.ensures
+    at_item.at.given.1 at_sequence_at.sequence-at.ensures at_note.note.ensures) c.if1.true
 
-loop-less : tie.Need-loop-smaller invariant-loop decreases-loop
-loop-less c =
-    let at_item = (to-note c).before.before.before.before in
-    let at-next-update = at_item.before.before in
-    let at_part = at-next-update.before in
+loop_less : tie.Need-loop-smaller invariant-loop decreases-loop
+loop_less c =
+    let at_item = (to_note c).before.before.before.before in
+    let at_next_update = at_item.before.before in
+    let at_part = at_next_update.before in
     let turn = at_part.before in
-    less turn.loop.inv.0.walked at_part.part.ensures at-next-update.next-update.ensures
+    less turn.loop.inv.0.walked at_part.part.ensures at_next_update.next-update.ensures
     at_item.at.given.1
 
-loop-again : tie.Need-loop-preserved invariant-loop decreases-loop
-loop-again c =
-    let at-note = to-note c in
-    let at-sequence-at = at-note.before.before in
-    let at_item = at-sequence-at.before.before in
-    let at-next-update = at_item.before.before in
-    let at_part = at-next-update.before in
+loop_again : tie.Need-loop-preserved invariant-loop decreases-loop
+loop_again c =
+    let at_note = to_note c in
+    let at_sequence_at = at_note.before.before in
+    let at_item = at_sequence_at.before.before in
+    let at_next_update = at_item.before.before in
+    let at_part = at_next_update.before in
     let turn = at_part.before in (
-      lists-on turn.loop.inv.0 at_part.part.ensures at-next-update.next-update.ensures
-          at_item.at.given.1 at-sequence-at.sequence-at.ensures at-note.note.ensures,
+      lists_on turn.loop.inv.0 at_part.part.ensures at_next_update.next-update.ensures
+          at_item.at.given.1 at_sequence_at.sequence-at.ensures at_note.note.ensures,
       c.if1.false,
     )
 
-pub updates-of-spec : {M : Type 1} → statement M
-updates-of-spec =
+pub updates_of_spec : {M : Type 1} → statement M
+updates_of_spec =
     tie.close
     (tie.spec
     invariant-loop
     decreases-loop
     (λ c. search rules)
     (λ c κs. search rules)
-    loop-holds
+    loop_holds
     (λ c κs. omega (arith, c.before.before.before.before.requires.1.0))
     (λ c κs. walks c.before.loop.invariant.0.walked c.part.ensures)
     (λ c. search rules)
     same_length
     none_left
     (λ c. search rules)
-    sequence-at-requires
-    cast-note
-    add-note
-    cast-note-2
-    note-requires
-    same-length-2
+    sequence_at_requires
+    cast_note
+    add_note
+    cast_note_2
+    note_requires
+    same_length_2
     too_many
-    loop-less
-    loop-again)
+    loop_less
+    loop_again)

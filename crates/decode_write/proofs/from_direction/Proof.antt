@@ -2,17 +2,17 @@
 use borrow.Author.Rules.{rules}
 use mathlib.Core.Path.{sym, ap}
 use Rattle.basics.specs.Options.{maybe}
-use Rattle.realtime_views.specs.promises.Views.{viewDirection}
+use Rattle.realtime_views.specs.Promises.Views.{view_direction}
 use Rattle.decode_write.proofs.from_direction.Statement.{statement}
 use Rattle.decode_write.proofs.from_direction.Tie as tie
 
 returns : tie.Need-returns
 returns c =
-    let at-d = c.before in
-    ap (λ x. maybe (viewDirection x)) (sym at-d.d.given.1)
+    let at_d = c.before in
+    ap (λ x. maybe (view_direction x)) (sym at_d.d.given.1)
 
-pub from-direction-spec : {M : Type 1} → statement M
-from-direction-spec =
+pub from_direction_spec : {M : Type 1} → statement M
+from_direction_spec =
     tie.close
     (tie.spec
     (λ c. search rules)

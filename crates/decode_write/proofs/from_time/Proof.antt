@@ -6,18 +6,18 @@ use mir.Facts.{to_z-of_z}
 use mir.Syntax.{w64}
 use mir.Val.{SFits}
 use Rattle.basics.specs.Options.{maybe}
-use Rattle.realtime_views.specs.promises.Views.{viewTime}
+use Rattle.realtime_views.specs.Promises.Views.{view_time}
 use Rattle.decode_write.proofs.from_time.Statement.{statement}
 use Rattle.decode_write.proofs.from_time.Tie as tie
 
 returns : tie.Need-returns
 returns c =
-    let at-t = c.before in
-    let f : SFits w64 at-t.t.given.0.0 = search rules in
-    ap inr (to_z-of_z f) ∙ ap (λ x. maybe (viewTime x)) (sym at-t.t.given.1)
+    let at_t = c.before in
+    let f : SFits w64 at_t.t.given.0.0 = search rules in
+    ap inr (to_z-of_z f) ∙ ap (λ x. maybe (view_time x)) (sym at_t.t.given.1)
 
-pub from-time-spec : {M : Type 1} → statement M
-from-time-spec =
+pub from_time_spec : {M : Type 1} → statement M
+from_time_spec =
     tie.close
     (tie.spec
     (λ c. search rules)

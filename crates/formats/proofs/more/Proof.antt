@@ -1,9 +1,9 @@
 -- `formats::more`: what is found from the next group on is the number. Assumes nothing.
 use native.Mathlib.Omega.{arith}
 use borrow.Author.Rules.{rules}
-use Rattle.formats.specs.promises.Number.{Rest}
-use Rattle.formats.proofs.Groups.{begins, ends, last-good, last-bad, zero-bad, one-good, goes_on}
-use Rattle.formats.proofs.Groups.{last_fits, unit-fits, end-part-fits, end_fits, next-part-fits, next_fits}
+use Rattle.formats.specs.Promises.Number.{Rest}
+use Rattle.formats.proofs.Groups.{begins, ends, last_good, last_bad, zero_bad, one_good, goes_on}
+use Rattle.formats.proofs.Groups.{last_fits, unit_fits, end_part_fits, end_fits, next_part_fits, next_fits}
 use Rattle.formats.proofs.more.Statement.{statement}
 use Rattle.formats.proofs.more.Tie as tie
 
@@ -13,8 +13,8 @@ invariant-loop s at low p₀ n₀ unit₀ left₀ p n unit left = Rest s at low 
 abbrev decreases-loop : tie.decreases-loop
 decreases-loop s at low p₀ n₀ unit₀ left₀ p n unit left = left
 
-pub more-spec : {M : Type 1} → statement M
-more-spec =
+pub more_spec : {M : Type 1} → statement M
+more_spec =
     tie.close
     (tie.spec
     invariant-loop
@@ -24,16 +24,16 @@ more-spec =
     (λ c κs. search rules)
     (λ c. search last_fits)
     (λ c. search rules)
-    (λ c. search last-good)
-    (λ c. search last-bad)
-    (λ c. search zero-bad)
-    (λ c. search end-part-fits)
+    (λ c. search last_good)
+    (λ c. search last_bad)
+    (λ c. search zero_bad)
+    (λ c. search end_part_fits)
     (λ c. search end_fits)
     (λ c. search rules)
-    (λ c. search one-good)
-    (λ c. search next-part-fits)
+    (λ c. search one_good)
+    (λ c. search next_part_fits)
     (λ c. search next_fits)
-    (λ c. search unit-fits)
+    (λ c. search unit_fits)
     (λ c. omega arith)
     (λ c. search rules)
     (λ c. omega arith)

@@ -1,11 +1,11 @@
 -- `formats_check::number_five` meets its contract.
 use borrow.Author.Rules.{rules}
-use Rattle.formats_check.specs.laws.Five.{one-got}
+use Rattle.formats_check.specs.Laws.Five.{one_got}
 use Rattle.formats_check.proofs.number_five.Statement.{statement}
 use Rattle.formats_check.proofs.number_five.Tie as tie
 
-pub number-five-spec : {M : Type 1} → statement M
-number-five-spec =
+pub number_five_spec : {M : Type 1} → statement M
+number_five_spec =
     tie.close
     (tie.spec
     (λ c κs. search rules)
@@ -18,4 +18,4 @@ number-five-spec =
     (λ c. search rules)
     (λ c κs. search rules)
     (λ c. search rules)
-    (λ c. search one-got))
+    (λ c. search one_got))

@@ -2,8 +2,8 @@
 use Prim.Native.Nat.{◌≤◌}
 use Rattle.formats.specs.Class.{printable}
 use Rattle.formats.specs.Format.{text}
-use Rattle.formats_check.specs.laws.Checked.{check-in}
-use Rattle.formats_check.specs.laws.Walks.{Eaching, each-end, each-no, each-so, each_start}
+use Rattle.formats_check.specs.Laws.Checked.{check_in}
+use Rattle.formats_check.specs.Laws.Walks.{Eaching, each_end, each_no, each_so, each_start}
 use borrow.Author.Rules.{rules}
 use lib.ListN.{length}
 use Rattle.formats_check.proofs.printables_from.Statement.{statement}
@@ -15,45 +15,45 @@ invariant-loop n limit s at p₀ left₀ p left = (p ≤ length s) × Eaching (t
 abbrev decreases-loop : tie.decreases-loop
 decreases-loop n limit s at p₀ left₀ p left = left
 
-loop-holds : tie.Need-loop-init invariant-loop decreases-loop
-loop-holds c = (search rules, search each_start)
+loop_holds : tie.Need-loop-init invariant-loop decreases-loop
+loop_holds c = (search rules, search each_start)
 
-printable-requires : tie.Need-printable-requires invariant-loop decreases-loop
-printable-requires c κs = search rules
+printable_requires : tie.Need-printable-requires invariant-loop decreases-loop
+printable_requires c κs = search rules
 
-enum-known-q : tie.Need-enum-known-q invariant-loop decreases-loop
-enum-known-q c = search rules
+enum_known_q : tie.Need-enum-known-q invariant-loop decreases-loop
+enum_known_q c = search rules
 
 enum_told : tie.Need-enum-told invariant-loop decreases-loop
 enum_told c = search rules
 
 returns : tie.Need-returns invariant-loop decreases-loop
-returns c = search each-no
+returns c = search each_no
 
-sub-left : tie.Need-overflow-sub-left invariant-loop decreases-loop
-sub-left c = search rules
+sub_left : tie.Need-overflow-sub-left invariant-loop decreases-loop
+sub_left c = search rules
 
-loop-less : tie.Need-loop-smaller invariant-loop decreases-loop
-loop-less c = search rules
+loop_less : tie.Need-loop-smaller invariant-loop decreases-loop
+loop_less c = search rules
 
-loop-again : tie.Need-loop-preserved invariant-loop decreases-loop
-loop-again c = (search check-in, search each-so)
+loop_again : tie.Need-loop-preserved invariant-loop decreases-loop
+loop_again c = (search check_in, search each_so)
 
-returns-2 : tie.Need-returns-2 invariant-loop decreases-loop
-returns-2 c = search each-end
+returns_2 : tie.Need-returns-2 invariant-loop decreases-loop
+returns_2 c = search each_end
 
-pub printables-from-spec : {M : Type 1} → statement M
-printables-from-spec =
+pub printables_from_spec : {M : Type 1} → statement M
+printables_from_spec =
     tie.close
     (tie.spec
     invariant-loop
     decreases-loop
-    loop-holds
-    printable-requires
-    enum-known-q
+    loop_holds
+    printable_requires
+    enum_known_q
     enum_told
     returns
-    sub-left
-    loop-less
-    loop-again
-    returns-2)
+    sub_left
+    loop_less
+    loop_again
+    returns_2)

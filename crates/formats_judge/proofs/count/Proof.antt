@@ -1,5 +1,5 @@
 -- `formats_judge::count` meets its contract.
-use Rattle.formats_judge.proofs.Rules.{count-in, count-over}
+use Rattle.formats_judge.proofs.Rules.{count_in, count_over}
 use Rattle.formats_judge.proofs.count.Statement.{statement}
 use Rattle.formats_judge.proofs.count.Tie as tie
 
@@ -7,5 +7,5 @@ pub count_spec : {M : Type 1} → statement M
 count_spec =
     tie.close
     (tie.spec
-    (λ c. search count-in)
-    (λ c. search count-over))
+    (λ c. search count_in)
+    (λ c. search count_over))

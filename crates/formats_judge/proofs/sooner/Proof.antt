@@ -1,13 +1,13 @@
 -- `formats_judge::sooner` meets its contract.
-use Rattle.formats_judge.proofs.Rules.{sooner-zero, sooner-none, sooner-first, sooner-second}
+use Rattle.formats_judge.proofs.Rules.{sooner_zero, sooner_none, sooner_first, sooner_second}
 use Rattle.formats_judge.proofs.sooner.Statement.{statement}
 use Rattle.formats_judge.proofs.sooner.Tie as tie
 
-pub sooner-spec : {M : Type 1} → statement M
-sooner-spec =
+pub sooner_spec : {M : Type 1} → statement M
+sooner_spec =
     tie.close
     (tie.spec
-    (λ c. search sooner-zero)
-    (λ c. search sooner-none)
-    (λ c. search sooner-first)
-    (λ c. search sooner-second))
+    (λ c. search sooner_zero)
+    (λ c. search sooner_none)
+    (λ c. search sooner_first)
+    (λ c. search sooner_second))

@@ -4,10 +4,10 @@ use Rattle.formats_read.proofs.float.Tie as tie
 use Rattle.formats_read.proofs.float.Statement.{statement}
 use borrow.Author.Rules.{rules}
 
-pub float-spec : {M : Type 1} → statement M
-float-spec = tie.close (tie.spec
+pub float_spec : {M : Type 1} → statement M
+float_spec = tie.close (tie.spec
     (λ c κs. search rules)
     (λ c. search rules)
     (λ c. search rules)
-    (λ c. λ n q h. absurd (search (Laws.float-none)))
+    (λ c. λ n q h. absurd (search (Laws.float_none)))
     (λ c. λ n q h. search (Laws.float_got)))

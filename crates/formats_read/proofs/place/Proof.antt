@@ -4,10 +4,10 @@ use Rattle.formats_read.proofs.place.Tie as tie
 use Rattle.formats_read.proofs.place.Statement.{statement}
 use borrow.Author.Rules.{rules}
 
-pub place-spec : {M : Type 1} → statement M
-place-spec =
+pub place_spec : {M : Type 1} → statement M
+place_spec =
     tie.close (tie.spec
-    (λ c. λ i v q h. absurd (search (Laws.in-s)))
+    (λ c. λ i v q h. absurd (search (Laws.in_s)))
     (λ c κs. search rules)
     (λ c. search rules)
     (λ c. search rules)

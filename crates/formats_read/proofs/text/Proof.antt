@@ -4,11 +4,11 @@ use Rattle.formats_read.proofs.text.Tie as tie
 use Rattle.formats_read.proofs.text.Statement.{statement}
 use borrow.Author.Rules.{rules}
 
-pub text-spec : {M : Type 1} → statement M
-text-spec = tie.close (tie.spec
+pub text_spec : {M : Type 1} → statement M
+text_spec = tie.close (tie.spec
     (λ c κs. search rules)
     (λ c. search (Laws.text_out))
     (λ c. search rules)
-    (λ c. search (Laws.text-over))
+    (λ c. search (Laws.text_over))
     (λ c. search rules)
     (λ c. search (Laws.text_in)))

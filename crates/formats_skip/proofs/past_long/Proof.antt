@@ -2,7 +2,7 @@
 use Prim.Native.Nat.{◌-◌}
 use lib.ListN.{length}
 use borrow.Author.Rules.{rules}
-use Rattle.formats_skip.specs.laws.Number.{Scanned, scan-start, scan-on, scan-low, scan-out}
+use Rattle.formats_skip.specs.Laws.Number.{Scanned, scan_start, scan_on, scan_low, scan_out}
 use Rattle.formats_skip.proofs.past_long.Statement.{statement}
 use Rattle.formats_skip.proofs.past_long.Tie as tie
 
@@ -12,15 +12,15 @@ invariant-loop s at p₀ p = Scanned s at p
 abbrev decreases-loop : tie.decreases-loop
 decreases-loop s at p₀ p = length s - p
 
-pub past-long-spec : {M : Type 1} → statement M
-past-long-spec =
+pub past_long_spec : {M : Type 1} → statement M
+past_long_spec =
     tie.close
     (tie.spec invariant-loop decreases-loop
-    (λ c. scan-start)
+    (λ c. scan_start)
     (λ c. search rules)
     (λ c. search rules)
-    (λ c. search scan-low)
+    (λ c. search scan_low)
     (λ c. search rules)
     (λ c. search rules)
-    (λ c. search scan-on)
-    (λ c. search scan-out))
+    (λ c. search scan_on)
+    (λ c. search scan_out))

@@ -1,7 +1,7 @@
 -- `past_texts` meets its contract.
 use Rattle.formats.specs.Class.{any}
 use Rattle.formats.specs.Format.{text}
-use Rattle.formats_skip.specs.laws.Passes.{Passing, list-start, list_on, list-end}
+use Rattle.formats_skip.specs.Laws.Passes.{Passing, list_start, list_on, list_end}
 use borrow.Author.Rules.{rules}
 use Rattle.formats_skip.proofs.past_texts.Statement.{statement}
 use Rattle.formats_skip.proofs.past_texts.Tie as tie
@@ -12,16 +12,16 @@ invariant-loop s at p₀ left₀ p left = Passing (text 0 any) s p₀ left₀ p 
 abbrev decreases-loop : tie.decreases-loop
 decreases-loop s at p₀ left₀ p left = left
 
-pub past-texts-spec : {M : Type 1} → statement M
-past-texts-spec =
+pub past_texts_spec : {M : Type 1} → statement M
+past_texts_spec =
     tie.close
     (tie.spec
     invariant-loop
     decreases-loop
     (λ c κs. search rules)
-    (λ c. list-start)
+    (λ c. list_start)
     (λ c κs. search rules)
     (λ c. search rules)
     (λ c. search rules)
     (λ c. search list_on)
-    (λ c. search list-end))
+    (λ c. search list_end))

@@ -3,7 +3,7 @@ use borrow.Author.Rules.{rules}
 use Prim.Native.Nat.{◌-◌, ◌≤◌}
 use lib.ListN.{length}
 use native.Mathlib.Omega.{arith}
-use Rattle.formats_text.proofs.Printable.{Passed, passed_start, passed-eight, passed-no, passed-last}
+use Rattle.formats_text.proofs.Printable.{Passed, passed_start, passed_eight, passed_no, passed_last}
 use Rattle.formats_text.proofs.all_printable.Statement.{statement}
 use Rattle.formats_text.proofs.all_printable.Tie as tie
 
@@ -13,8 +13,8 @@ invariant-loop v i₀ i = (i ≤ length v) × Passed v i
 abbrev decreases-loop : tie.decreases-loop
 decreases-loop v i₀ i = length v - i
 
-pub all-printable-spec : {M : Type 1} → statement M
-all-printable-spec =
+pub all_printable_spec : {M : Type 1} → statement M
+all_printable_spec =
     tie.close
     (tie.spec
     invariant-loop
@@ -26,8 +26,8 @@ all-printable-spec =
     (λ c κs. omega arith)
     (λ c. search rules)
     (λ c. omega arith)
-    (λ c. (omega arith, search passed-eight))
-    (λ c. search passed-no)
+    (λ c. (omega arith, search passed_eight))
+    (λ c. search passed_no)
     (λ c. search rules)
     (λ c. search rules)
-    (λ c. search passed-last))
+    (λ c. search passed_last))

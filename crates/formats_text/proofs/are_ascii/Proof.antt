@@ -1,5 +1,5 @@
 -- `formats_text::are_ascii` meets its contract.
-use Rattle.formats_text.specs.promises.Span.{ascii}
+use Rattle.formats_text.specs.Promises.Span.{ascii}
 use Rattle.formats_text.proofs.Spans.{span_eight}
 use borrow.Author.Rules.{rules}
 use Rattle.formats_text.proofs.are_ascii.Statement.{statement}
@@ -8,8 +8,8 @@ use Rattle.formats_text.proofs.are_ascii.Tie as tie
 returns : tie.Need-returns
 returns c = search (span_eight ascii)
 
-pub are-ascii-spec : {M : Type 1} → statement M
-are-ascii-spec =
+pub are_ascii_spec : {M : Type 1} → statement M
+are_ascii_spec =
     tie.close
     (tie.spec
     (λ c. search rules)

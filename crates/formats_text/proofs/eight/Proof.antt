@@ -8,8 +8,8 @@ use Rattle.formats_text.proofs.eight.Tie as tie
 returns : tie.Need-returns
 returns c = search (span_eight (allowed printable))
 
-pub eight-spec : {M : Type 1} → statement M
-eight-spec =
+pub eight_spec : {M : Type 1} → statement M
+eight_spec =
     tie.close
     (tie.spec
     (λ c. search rules)

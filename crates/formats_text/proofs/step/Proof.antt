@@ -1,6 +1,6 @@
 -- `formats_text::step` meets its contract.
 use borrow.Author.Rules.{rules}
-use Rattle.formats_text.proofs.Leads.{step-lead, step-low, step-high, step-good}
+use Rattle.formats_text.proofs.Leads.{step_lead, step_low, step_high, step_good}
 use Rattle.formats_text.proofs.step.Statement.{statement}
 use Rattle.formats_text.proofs.step.Tie as tie
 
@@ -9,8 +9,8 @@ step_spec =
     tie.close
     (tie.spec
     (λ c κs. search rules)
-    (λ c. search step-lead)
-    (λ c. search step-low)
-    (λ c. search step-high)
+    (λ c. search step_lead)
+    (λ c. search step_low)
+    (λ c. search step_high)
     (λ c. search rules)
-    (λ c. search step-good))
+    (λ c. search step_good))

@@ -1,14 +1,14 @@
 -- `optional_number` meets its contract.
 use Rattle.formats_write.proofs.Laws
 use Rattle.formats_write.proofs.optional_number.Tie as tie
-use Rattle.formats.specs.Number.{numberW}
+use Rattle.formats.specs.Number.{number_w}
 use Rattle.formats_write.proofs.optional_number.Statement.{statement}
-use Rattle.formats_write.specs.promises.Given.{givenNumber}
+use Rattle.formats_write.specs.Promises.Given.{given_number}
 use borrow.Author.Rules.{rules}
 use mathlib.Core.Path.{ap}
 
-pub optional-number-spec : {M : Type 1} → statement M
-optional-number-spec =
+pub optional_number_spec : {M : Type 1} → statement M
+optional_number_spec =
     tie.close
     (tie.spec
     (λ c. search rules)
@@ -17,9 +17,9 @@ optional-number-spec =
     (λ c κs. search rules)
     (λ c κs. search rules)
     (λ c. search rules)
-    (λ c. Laws.absent-is numberW (ap givenNumber c.before.before.before.before.enum_told.given.1)
+    (λ c. Laws.absent_is number_w (ap given_number c.before.before.before.before.enum_told.given.1)
     c.before.before.byte.ensures)
     (λ c. search rules)
-    (λ c. Laws.present-is numberW _
-    (ap givenNumber c.before.before.before.before.before.before.before.before.before.v.given.1)
+    (λ c. Laws.present_is number_w _
+    (ap given_number c.before.before.before.before.before.before.before.before.before.v.given.1)
     c.before.before.before.before.before.before.byte2.ensures c.before.before.number.ensures))

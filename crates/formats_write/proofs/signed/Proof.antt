@@ -7,8 +7,8 @@ use borrow.Author.Rules.{rules}
 use mathlib.Core.Path.{◌∙◌, ap}
 use mir.Facts.{to_z-of_z}
 
-pub signed-spec : {M : Type 1} → statement M
-signed-spec = tie.close (tie.spec
+pub signed_spec : {M : Type 1} → statement M
+signed_spec = tie.close (tie.spec
     (λ c κs. search rules)
     (λ c κs. search rules)
     (λ c. search rules)

@@ -5,13 +5,13 @@ use Rattle.formats_write.proofs.text.Statement.{statement}
 use borrow.Author.Rules.{rules}
 use native.Mathlib.Omega.{arith}
 
-pub text-spec : {M : Type 1} → statement M
-text-spec = tie.close (tie.spec
+pub text_spec : {M : Type 1} → statement M
+text_spec = tie.close (tie.spec
     (λ c. λ h k. absurd (omega arith))
     (λ c κs. search rules)
     (λ c κs. search rules)
     (λ c. search rules)
-    (λ c. λ h k. Laws.text-is
+    (λ c. λ h k. Laws.text_is
     c.before.before.before.before.before.before.before.before.before.before.before.args.s.now
     c.before.before.before.before.before.before.before.before.before.before.before.args.from
     c.before.before.before.before.before.before.before.before.before.before.before.args.to h k

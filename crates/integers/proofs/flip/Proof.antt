@@ -3,7 +3,7 @@ use Rattle.integers.proofs.Laws
 use Rattle.integers.proofs.flip.Tie as tie
 use Rattle.integers.proofs.flip.Statement.{statement}
 
-pub flip-spec : {M : Type 1} → statement M
-flip-spec = tie.close (tie.spec
-    (λ c. search (Laws.flip-fits))
+pub flip_spec : {M : Type 1} → statement M
+flip_spec = tie.close (tie.spec
+    (λ c. search (Laws.flip_fits))
     (λ c. search (Laws.flip_is)))

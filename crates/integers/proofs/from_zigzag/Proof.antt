@@ -4,9 +4,9 @@ use Rattle.integers.proofs.from_zigzag.Tie as tie
 use Rattle.integers.proofs.from_zigzag.Statement.{statement}
 use borrow.Author.Rules.{rules}
 
-pub from-zigzag-spec : {M : Type 1} → statement M
-from-zigzag-spec = tie.close (tie.spec
+pub from_zigzag_spec : {M : Type 1} → statement M
+from_zigzag_spec = tie.close (tie.spec
     (λ c κs. search rules)
-    (λ c. search (Laws.zagged-even, c.before.before.ranges))
+    (λ c. search (Laws.zagged_even, c.before.before.ranges))
     (λ c κs. search rules)
-    (λ c. search (Laws.zagged-odd)))
+    (λ c. search (Laws.zagged_odd)))

@@ -4,7 +4,7 @@ use Rattle.integers.proofs.integer.Tie as tie
 use Rattle.integers.proofs.integer.Statement.{statement}
 use borrow.Author.Rules.{rules}
 
-pub integer-spec : {M : Type 1} → statement M
-integer-spec = tie.close (tie.spec
+pub integer_spec : {M : Type 1} → statement M
+integer_spec = tie.close (tie.spec
     (λ c. search rules)
-    (λ c. search (Laws.integer-is)))
+    (λ c. search (Laws.integer_is)))

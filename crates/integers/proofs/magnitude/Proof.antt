@@ -4,14 +4,14 @@ use Rattle.integers.proofs.magnitude.Tie as tie
 use Rattle.integers.proofs.magnitude.Statement.{statement}
 use borrow.Author.Rules.{rules}
 
-pub magnitude-spec : {M : Type 1} → statement M
-magnitude-spec =
+pub magnitude_spec : {M : Type 1} → statement M
+magnitude_spec =
     tie.close (tie.spec
     (λ c κs. search rules)
-    (λ c κs. Laws.flip-natural c.before.before.args.z c.before.before.ranges.z c.flip.result
+    (λ c κs. Laws.flip_natural c.before.before.args.z c.before.before.ranges.z c.flip.result
     c.before.if1.true c.flip.ensures)
-    (λ c. Laws.magnitude-neg c.before.before.before.args.z c.before.before.before.ranges.z
+    (λ c. Laws.magnitude_neg c.before.before.before.args.z c.before.before.before.ranges.z
     c.before.flip.result c.natural.result c.before.flip.ensures c.natural.ensures)
-    (λ c κs. Laws.above-natural c.before.args.z c.before.ranges.z c.if1.false)
-    (λ c. Laws.magnitude-pos c.before.before.args.z c.before.before.ranges.z c.natural2.result
+    (λ c κs. Laws.above_natural c.before.args.z c.before.ranges.z c.if1.false)
+    (λ c. Laws.magnitude_pos c.before.before.args.z c.before.before.ranges.z c.natural2.result
     c.natural2.ensures))

@@ -1,6 +1,6 @@
 -- `each_candidate`: the candidates behind k are met.
-use Rattle.journey_alerts.specs.promises.Alerts.{EachMet}
-use Rattle.journey_alerts.specs.laws.Alerts.{each_start, each_step, each-stop}
+use Rattle.journey_alerts.specs.Promises.Alerts.{EachMet}
+use Rattle.journey_alerts.specs.Laws.Alerts.{each_start, each_step, each_stop}
 use Prim.Native.Nat.{◌-◌}
 use mathlib.Core.Path.{◌≡◌, refl}
 use lib.ListN.{length}
@@ -27,22 +27,22 @@ abbrev begun : tie.At-loop invariant-loop decreases-loop → tie.Start invariant
 begun c = c.before.before.before.before.before.before.before.before.before
 
 -- what is known, in the room that the texts have now
-meet-alert-requires : tie.Need-meet-alert-requires invariant-loop decreases-loop
-meet-alert-requires c κs =
+meet_alert_requires : tie.Need-meet-alert-requires invariant-loop decreases-loop
+meet_alert_requires c κs =
     let p = c.before.before.before.before.before in
     let l = p.before.before.before in
     let i = l.loop.invariant in
     let h = (begun l).requires in
     (h.0, ((i.4.sound, h.1.0.1), rw (← i.0) at i.4.knows))
 
-add-k : tie.Need-overflow-add-k invariant-loop decreases-loop
-add-k c =
+add_k : tie.Need-overflow-add-k invariant-loop decreases-loop
+add_k c =
     let p = placed (met c) in
     let t = p.before.before in
     search (rules, t.loop-test.taken, (begun t.before).fits.n)
 
-loop-again : tie.Need-loop-preserved invariant-loop decreases-loop
-loop-again c =
+loop_again : tie.Need-loop-preserved invariant-loop decreases-loop
+loop_again c =
     let m = met c in
     let p = placed m in
     let l = p.before.before.before in (
@@ -54,8 +54,8 @@ loop-again c =
           p.place_at.ensures l.loop.inv.0 m.meet-alert.ensures,
     )
 
-pub each-candidate-spec : {M : Type 1} → statement M
-each-candidate-spec =
+pub each_candidate_spec : {M : Type 1} → statement M
+each_candidate_spec =
     tie.close
     (tie.spec
     invariant-loop
@@ -64,12 +64,12 @@ each-candidate-spec =
     (λ c κs. search rules)
     (λ c κs. search rules)
     (λ c κs. search rules)
-    meet-alert-requires
-    add-k
+    meet_alert_requires
+    add_k
     (λ c. search rules)
-    loop-again
-    (λ c. search rules)
-    (λ c. search rules)
+    loop_again
     (λ c. search rules)
     (λ c. search rules)
-    (λ c. search each-stop))
+    (λ c. search rules)
+    (λ c. search rules)
+    (λ c. search each_stop))

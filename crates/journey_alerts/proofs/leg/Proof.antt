@@ -1,5 +1,5 @@
 -- `leg` meets its contract.
-use Rattle.journey_alerts.specs.laws.Leg.{leg-none, leg-some}
+use Rattle.journey_alerts.specs.Laws.Leg.{leg_none, leg_some}
 use borrow.Author.Rules.{rules}
 use Rattle.journey_alerts.proofs.leg.Statement.{statement}
 use Rattle.journey_alerts.proofs.leg.Tie as tie
@@ -13,13 +13,13 @@ returns c =
     let a = c.before.before in
     let t = a.before.before.before in
     let h = (begun t).requires.1.1 in
-    leg-none t.texts.ensures a.alerts.ensures c.enum_told.given.1 h.0 h.1
+    leg_none t.texts.ensures a.alerts.ensures c.enum_told.given.1 h.0 h.1
 
-returns-2 : tie.Need-returns-2
-returns-2 c = search leg-some
+returns_2 : tie.Need-returns-2
+returns_2 c = search leg_some
 
-pub leg-spec : {M : Type 1} → statement M
-leg-spec =
+pub leg_spec : {M : Type 1} → statement M
+leg_spec =
     tie.close
     (tie.spec
     (λ c κs. search rules)
@@ -36,4 +36,4 @@ leg-spec =
     (λ c. search rules)
     (λ c. search rules)
     (λ c. search rules)
-    returns-2)
+    returns_2)

@@ -1,11 +1,11 @@
 -- `number_at` meets its contract.
-use Rattle.journey_alerts.specs.laws.Places.{beyond}
+use Rattle.journey_alerts.specs.Laws.Places.{beyond}
 use borrow.Author.Rules.{rules}
 use Rattle.journey_alerts.proofs.number_at.Statement.{statement}
 use Rattle.journey_alerts.proofs.number_at.Tie as tie
 
-pub number-at-spec : {M : Type 1} → statement M
-number-at-spec =
+pub number_at_spec : {M : Type 1} → statement M
+number_at_spec =
     tie.close
     (tie.spec
     (λ c. search beyond)

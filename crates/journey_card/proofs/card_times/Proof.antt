@@ -1,7 +1,7 @@
 -- `card_times` meets its contract.
 use Rattle.journey_card.proofs.card_times.Statement.{statement}
 use Rattle.journey_card.proofs.card_times.Tie as tie
-use Rattle.journey_card.specs.laws.Head.{reads_times}
+use Rattle.journey_card.specs.Laws.Head.{reads_times}
 use borrow.Author.Rules.{rules}
 
 returns : tie.Need-returns
@@ -12,8 +12,8 @@ returns c =
     (record { sfits = c.before.before.given-or.type-inv }) (record { sfits = c.given-or2.type-inv }) c.before.before.before.signed.ensures c.before.signed2.ensures
     c.before.before.given-or.ensures c.given-or2.ensures
 
-pub card-times-spec : {M : Type 1} → statement M
-card-times-spec =
+pub card_times_spec : {M : Type 1} → statement M
+card_times_spec =
     tie.close (tie.spec
     (λ c κs. search rules)
     (λ c κs. search rules)

@@ -1,13 +1,13 @@
 -- `head` meets its contract.
 use Rattle.journey_card.proofs.head.Statement.{statement}
 use Rattle.journey_card.proofs.head.Tie as tie
-use Rattle.journey_card.specs.laws.Head.{head-out, head_in}
+use Rattle.journey_card.specs.Laws.Head.{head_out, head_in}
 use borrow.Author.Rules.{rules}
 use mir.Syntax.{w64}
 use mir.Val.{SFits}
 
-returns-2 : tie.Need-returns-2
-returns-2 c =
+returns_2 : tie.Need-returns-2
+returns_2 c =
     let t = c.before.before.before.before.before.before.before.before.card-times.result in
     let f : SFits w64 t.departure = search rules in
     let g : SFits w64 t.arrival = search rules in
@@ -18,10 +18,10 @@ returns-2 c =
 pub head_spec : {M : Type 1} → statement M
 head_spec =
     tie.close (tie.spec
-    (λ c. head-out c.if1.true)
+    (λ c. head_out c.if1.true)
     (λ c κs. search rules)
     (λ c κs. search rules)
     (λ c κs. search rules)
     (λ c κs. search rules)
     (λ c. search rules)
-    returns-2)
+    returns_2)

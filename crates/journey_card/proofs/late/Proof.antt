@@ -1,7 +1,7 @@
 -- `late` meets its contract.
 use Rattle.journey_card.proofs.late.Statement.{statement}
 use Rattle.journey_card.proofs.late.Tie as tie
-use Rattle.journey_card.specs.laws.Steps.{late-none, late-departs, late-arrives}
+use Rattle.journey_card.specs.Laws.Steps.{late_none, late_departs, late_arrives}
 use borrow.Author.Rules.{rules}
 use mir.Syntax.{w32}
 use mir.Val.{SFits}
@@ -11,24 +11,24 @@ returns c =
     let r = c.before.before.before.before.before.before.before.before.before.args.r in
     let f : SFits w32 r.departs.delay = search rules in
     let g : SFits w32 r.arrives.delay = search rules in
-    late-arrives r c.before.before.before.before.before.before.live.ensures f c.before.before.before.zero.ensures g c.zero2.ensures c.before.before.before.before.before.if1.true c.before.before.if2.true
+    late_arrives r c.before.before.before.before.before.before.live.ensures f c.before.before.before.zero.ensures g c.zero2.ensures c.before.before.before.before.before.if1.true c.before.before.if2.true
 
-returns-2 : tie.Need-returns-2
-returns-2 c =
+returns_2 : tie.Need-returns-2
+returns_2 c =
     let r = c.before.before.before.before.before.before.before.args.r in
     let f : SFits w32 r.departs.delay = search rules in
-    late-departs r c.before.before.before.before.live.ensures f c.before.zero.ensures c.before.before.before.if1.true c.if2.false
+    late_departs r c.before.before.before.before.live.ensures f c.before.zero.ensures c.before.before.before.if1.true c.if2.false
 
-returns-3 : tie.Need-returns-3
-returns-3 c =
-    late-none c.before.before.before.before.args.r c.before.live.ensures c.if1.false
+returns_3 : tie.Need-returns-3
+returns_3 c =
+    late_none c.before.before.before.before.args.r c.before.live.ensures c.if1.false
 
-pub late-spec : {M : Type 1} → statement M
-late-spec =
+pub late_spec : {M : Type 1} → statement M
+late_spec =
     tie.close (tie.spec
     (λ c κs. search rules)
     (λ c κs. search rules)
     (λ c κs. search rules)
     returns
-    returns-2
-    returns-3)
+    returns_2
+    returns_3)

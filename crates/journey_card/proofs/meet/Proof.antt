@@ -1,7 +1,7 @@
 -- `meet` meets its contract.
 use Rattle.journey_card.proofs.meet.Statement.{statement}
 use Rattle.journey_card.proofs.meet.Tie as tie
-use Rattle.journey_card.specs.laws.Steps.{met}
+use Rattle.journey_card.specs.Laws.Steps.{met}
 use borrow.Author.Rules.{rules}
 use mir.Syntax.{w64}
 use mir.Val.{SFits}
@@ -15,8 +15,8 @@ returns c =
     c.before.before.before.before.before.before.before.taken.result c.before.before.before.before.before.taken2.result f g c.before.before.before.before.before.before.before.before.before.before.live.ensures c.before.before.before.before.before.before.before.before.before.late.ensures c.before.before.before.before.before.before.before.taken.ensures c.before.before.before.before.before.taken2.ensures
     c.before.before.before.before.choose.ensures c.before.before.before.or.ensures c.before.before.or2.ensures c.before.or3.ensures c.or4.ensures
 
-pub meet-spec : {M : Type 1} → statement M
-meet-spec =
+pub meet_spec : {M : Type 1} → statement M
+meet_spec =
     tie.close (tie.spec
     (λ c κs. search rules)
     (λ c κs. search rules)

@@ -3,8 +3,8 @@ use borrow.Author.Rules.{rules}
 use mathlib.Core.Path.{◌≡◌, refl}
 use Prim.Native.Nat.{◌-◌, ◌≤◌}
 use lib.ListN.{length}
-use Rattle.journey_enrich.specs.promises.Enrich.{HeadersUpTo}
-use Rattle.journey_enrich.specs.laws.Headers.{headers-begin, headers-step, headers-end}
+use Rattle.journey_enrich.specs.Promises.Enrich.{HeadersUpTo}
+use Rattle.journey_enrich.specs.Laws.Headers.{headers_begin, headers_step, headers_end}
 use Rattle.journey_enrich.proofs.each_header.Statement.{statement}
 use Rattle.journey_enrich.proofs.each_header.Tie as tie
 
@@ -15,24 +15,24 @@ invariant-loop b froms tos n out₀ i₀ k₀ out i k =
 abbrev decreases-loop : tie.decreases-loop
 decreases-loop b froms tos n out₀ i₀ k₀ out i k = n - i
 
-loop-holds : tie.Need-loop-init invariant-loop decreases-loop
-loop-holds c = (refl, search rules, headers-begin)
+loop_holds : tie.Need-loop-init invariant-loop decreases-loop
+loop_holds c = (refl, search rules, headers_begin)
 
-loop-again : tie.Need-loop-preserved invariant-loop decreases-loop
-loop-again c = (search rules, search rules, search headers-step)
+loop_again : tie.Need-loop-preserved invariant-loop decreases-loop
+loop_again c = (search rules, search rules, search headers_step)
 
-pub each-header-spec : {M : Type 1} → statement M
-each-header-spec =
+pub each_header_spec : {M : Type 1} → statement M
+each_header_spec =
     tie.close
     (tie.spec
     invariant-loop
     decreases-loop
-    loop-holds
+    loop_holds
     (λ c κs. search rules)
     (λ c κs. search rules)
     (λ c κs. search rules)
     (λ c. search rules)
     (λ c. search rules)
-    loop-again
+    loop_again
     (λ c. c.before.loop.invariant.0)
-    (λ c. search headers-end))
+    (λ c. search headers_end))

@@ -1,7 +1,7 @@
 -- `finish` meets its contract.
 use Rattle.journey_finish.proofs.finish.Statement.{statement}
 use Rattle.journey_finish.proofs.finish.Tie as tie
-use Rattle.journey_finish.specs.laws.Finish.{finished}
+use Rattle.journey_finish.specs.Laws.Finish.{finished}
 use borrow.Author.Rules.{rules}
 
 pub finish_spec : {M : Type 1} → statement M

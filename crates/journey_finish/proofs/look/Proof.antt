@@ -1,7 +1,7 @@
 -- `look` meets its contract.
 use Rattle.journey_finish.proofs.look.Statement.{statement}
 use Rattle.journey_finish.proofs.look.Tie as tie
-use Rattle.journey_finish.specs.laws.Finish.{looked}
+use Rattle.journey_finish.specs.Laws.Finish.{looked}
 use borrow.Author.Rules.{rules}
 
 pub look_spec : {M : Type 1} → statement M

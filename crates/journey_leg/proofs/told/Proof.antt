@@ -1,7 +1,7 @@
 -- `told` meets its contract.
 use Rattle.journey_leg.proofs.told.Statement.{statement}
 use Rattle.journey_leg.proofs.told.Tie as tie
-use Rattle.journey_leg.specs.laws.Leg.{all_told}
+use Rattle.journey_leg.specs.Laws.Leg.{all_told}
 use borrow.Author.Rules.{rules}
 use mir.Syntax.{w32, w64}
 use mir.Val.{SFits}
@@ -20,8 +20,8 @@ returns c =
     c.before.before.before.before.before.before.before.before.before.wide.ensures c.before.before.before.wide2.ensures
     c.before.before.before.before.before.before.before.before.before.before.before.before.before.before.before.before.before.before.before.optional-signed.ensures c.before.before.before.before.before.before.before.before.before.before.before.before.before.before.optional-signed2.ensures c.before.before.before.before.before.before.before.before.optional-signed3.ensures c.before.before.optional-signed4.ensures
 
-pub told-spec : {M : Type 1} → statement M
-told-spec =
+pub told_spec : {M : Type 1} → statement M
+told_spec =
     tie.close (tie.spec
     (λ c κs. search rules)
     (λ c κs. search rules)

@@ -1,5 +1,5 @@
 -- `each_leg`: the legs behind p are seen.
-use Rattle.journey_survey.specs.laws.Legs.{Walking, lent-kept, sound_none, walk_start, walk_step, walk-stop}
+use Rattle.journey_survey.specs.Laws.Legs.{Walking, lent_kept, sound_none, walk_start, walk_step, walk_stop}
 use mathlib.Core.Path.{◌≡◌, refl}
 use lib.ListN.{length}
 use borrow.Author.Rules.{rules}
@@ -19,19 +19,19 @@ decreases-loop s at n b noted candidates₀ met₀ known₀ froms₀ tos₀ p₀
 abbrev begun : tie.After-begin invariant-loop decreases-loop → tie.Start invariant-loop decreases-loop
 begun c = c.before.before.before.before.before.before.before.before.before
 
-loop-holds : tie.Need-loop-init invariant-loop decreases-loop
-loop-holds c = let h = (begun c).requires.1.1 in
+loop_holds : tie.Need-loop-init invariant-loop decreases-loop
+loop_holds c = let h = (begun c).requires.1.1 in
     (refl, refl, refl, refl, refl, walk_start (sound_none h.0 h.1) h.2)
 
-leg-requires : tie.Need-leg-requires invariant-loop decreases-loop
-leg-requires c κs =
+leg_requires : tie.Need-leg-requires invariant-loop decreases-loop
+leg_requires c κs =
     let l = c.before.before.before.before.before.before in
     let i = l.loop.invariant in
     let h = (begun l.before).pre in
-    (h.0, (lent-kept h.1.0 i.0 i.1, (i.5.sound, i.5.knows)))
+    (h.0, (lent_kept h.1.0 i.0 i.1, (i.5.sound, i.5.knows)))
 
-loop-again : tie.Need-loop-preserved invariant-loop decreases-loop
-loop-again c =
+loop_again : tie.Need-loop-preserved invariant-loop decreases-loop
+loop_again c =
     let g = c.before.before.before.before.before.before.before.before.before.before.before in
     let t = g.before.before.before.before.before.before in (
       search rules,
@@ -44,21 +44,21 @@ loop-again c =
 
 returns : tie.Need-returns invariant-loop decreases-loop
 returns c =
-    let l = c.before in walk-stop l.loop.invariant.5 c.loop-test.false l.before.begin.ensures refl
+    let l = c.before in walk_stop l.loop.invariant.5 c.loop-test.false l.before.begin.ensures refl
 
-pub each-leg-spec : {M : Type 1} → statement M
-each-leg-spec =
+pub each_leg_spec : {M : Type 1} → statement M
+each_leg_spec =
     tie.close
     (tie.spec
     invariant-loop
     decreases-loop
     (λ c κs. search rules)
-    loop-holds
-    leg-requires
+    loop_holds
+    leg_requires
     (λ c κs. search rules)
     (λ c. search rules)
     (λ c. search rules)
-    loop-again
+    loop_again
     (λ c. search rules)
     (λ c. search rules)
     (λ c. search rules)

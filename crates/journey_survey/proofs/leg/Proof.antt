@@ -1,5 +1,5 @@
 -- `leg` meets its contract.
-use Rattle.journey_survey.specs.laws.Legs.{leg-out, leg-walk, leg-taken}
+use Rattle.journey_survey.specs.Laws.Legs.{leg_out, leg_walk, leg_taken}
 use borrow.Author.Rules.{rules}
 use Rattle.journey_survey.proofs.leg.Statement.{statement}
 use Rattle.journey_survey.proofs.leg.Tie as tie
@@ -16,13 +16,13 @@ taken c =
     let a = alerted c in
     let l = looked a in
     let t = l.before in
-    leg-taken t.before.tag.ensures t.if2.taken l.look.ensures a.leg.ensures c.one_more.ensures
+    leg_taken t.before.tag.ensures t.if2.taken l.look.ensures a.leg.ensures c.one_more.ensures
 
-pub leg-spec : {M : Type 1} → statement M
-leg-spec =
+pub leg_spec : {M : Type 1} → statement M
+leg_spec =
     tie.close
     (tie.spec
-    (λ c. search leg-out)
+    (λ c. search leg_out)
     (λ c κs. search rules)
     (λ c. search rules)
     (λ c κs. search rules)
@@ -34,4 +34,4 @@ leg-spec =
     (λ c. search rules)
     (λ c. search rules)
     taken
-    (λ c. search leg-walk))
+    (λ c. search leg_walk))

@@ -1,11 +1,11 @@
 -- `cancelled` meets its contract.
 use Rattle.journey_times.proofs.cancelled.Statement.{statement}
 use Rattle.journey_times.proofs.cancelled.Tie as tie
-use Rattle.journey_times.specs.laws.Places.{cancels}
+use Rattle.journey_times.specs.Laws.Places.{cancels}
 use borrow.Author.Rules.{rules}
 
-pub cancelled-spec : {M : Type 1} → statement M
-cancelled-spec =
+pub cancelled_spec : {M : Type 1} → statement M
+cancelled_spec =
     tie.close (tie.spec
     (λ c κs. search rules)
     (λ c κs. search rules)

@@ -6,8 +6,8 @@ use mathlib.Core.Path.{◌∙◌}
 use mathlib.Core.Path.{refl}
 use mir.Facts.{to_z-of_z}
 
-pub untold-spec : {M : Type 1} → statement M
-untold-spec =
+pub untold_spec : {M : Type 1} → statement M
+untold_spec =
     tie.close (tie.spec
     (λ c κs. search rules)
     (λ c. c.delayed.ensures ∙ rw (to_z-of_z c.before.ranges.at) refl))

@@ -1,7 +1,7 @@
 -- `keys_ascend` meets its contract.
 use native.Mathlib.Omega.{arith}
 use borrow.Author.Rules.{rules}
-use Rattle.overlay_ascends.specs.laws.Ascends.{Climb, climb-start, climb-on, climb-fails, no_keys, climb-end}
+use Rattle.overlay_ascends.specs.Laws.Ascends.{Climb, climb_start, climb_on, climb_fails, no_keys, climb_end}
 use Rattle.overlay_ascends.proofs.keys_ascend.Statement.{statement}
 use Rattle.overlay_ascends.proofs.keys_ascend.Tie as tie
 
@@ -15,7 +15,7 @@ none : tie.Need-returns invariant-loop decreases-loop
 none c = no_keys c.before.number.ensures c.if1.true
 
 first : tie.Need-loop-init invariant-loop decreases-loop
-first c = climb-start c.before.text.ensures c.past-vehicle-entry.ensures c.before.before.if1.false
+first c = climb_start c.before.text.ensures c.past-vehicle-entry.ensures c.before.before.if1.false
 
 inside : tie.Need-precedes-requires invariant-loop decreases-loop
 inside c κs =
@@ -29,7 +29,7 @@ at c = c.before.before.before.before.before
 again : tie.Need-loop-preserved invariant-loop decreases-loop
 again c =
     let t = c.before.before in
-    climb-on t.before.text2.ensures c.past-vehicle-entry2.ensures (at c).loop.invariant
+    climb_on t.before.text2.ensures c.past-vehicle-entry2.ensures (at c).loop.invariant
     t.before.before.loop-test.true t.precedes.ensures c.before.if2.true
 
 fails : tie.Need-returns-2 invariant-loop decreases-loop
@@ -38,16 +38,16 @@ fails c =
     let k = t.before in
     let i = k.before.before in
     let n = i.before.before.before.before in
-    climb-fails k.text2.ensures i.loop.invariant k.before.loop-test.true n.number.ensures
+    climb_fails k.text2.ensures i.loop.invariant k.before.loop-test.true n.number.ensures
     t.precedes.ensures c.if2.false
 
 all : tie.Need-returns-3 invariant-loop decreases-loop
 all c =
     let at = c.before in
-    climb-end at.before.before.before.before.number.ensures at.loop.invariant c.loop-test.false
+    climb_end at.before.before.before.before.number.ensures at.loop.invariant c.loop-test.false
 
-pub keys-ascend-spec : {M : Type 1} → statement M
-keys-ascend-spec = tie.close (tie.spec
+pub keys_ascend_spec : {M : Type 1} → statement M
+keys_ascend_spec = tie.close (tie.spec
     invariant-loop
     decreases-loop
     (λ c κs. search rules)

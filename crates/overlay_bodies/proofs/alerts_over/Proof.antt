@@ -1,6 +1,6 @@
 -- `alerts_over` meets its contract.
 use borrow.Author.Rules.{rules}
-use Rattle.overlay_bodies.specs.laws.Bodies.{alerts-over}
+use Rattle.overlay_bodies.specs.Laws.Bodies.{alerts_over}
 use Rattle.overlay_bodies.proofs.alerts_over.Statement.{statement}
 use Rattle.overlay_bodies.proofs.alerts_over.Tie as tie
 
@@ -9,10 +9,10 @@ copied c = c.before.before.before.before.before.before
 
 returns : tie.Need-returns
 returns c = λ vs F e A S.
-    alerts-over A S (copied c).stretch.ensures c.before.before.stretch2.ensures
+    alerts_over A S (copied c).stretch.ensures c.before.before.stretch2.ensures
 
-pub alerts-over-spec : {M : Type 1} → statement M
-alerts-over-spec = tie.close (tie.spec
+pub alerts_over_spec : {M : Type 1} → statement M
+alerts_over_spec = tie.close (tie.spec
     (λ c κs. search rules)
     (λ c κs. search rules)
     (λ c. search rules)

@@ -1,6 +1,6 @@
 -- `write_front` meets its contract.
 use borrow.Author.Rules.{rules}
-use Rattle.overlay_bodies.specs.laws.Bodies.{front-written}
+use Rattle.overlay_bodies.specs.Laws.Bodies.{front_written}
 use Rattle.overlay_bodies.proofs.write_front.Statement.{statement}
 use Rattle.overlay_bodies.proofs.write_front.Tie as tie
 
@@ -16,11 +16,11 @@ copied c = c.before.before.before
 returns : tie.Need-returns
 returns c = λ F e S.
     let n = read (counted c) in
-    front-written S (copied n).stretch.ensures n.number.ensures (counted c).number2.ensures
+    front_written S (copied n).stretch.ensures n.number.ensures (counted c).number2.ensures
     c.before.before.stretch2.ensures
 
-pub write-front-spec : {M : Type 1} → statement M
-write-front-spec = tie.close (tie.spec
+pub write_front_spec : {M : Type 1} → statement M
+write_front_spec = tie.close (tie.spec
     (λ c κs. search rules)
     (λ c κs. search rules)
     (λ c κs. search rules)

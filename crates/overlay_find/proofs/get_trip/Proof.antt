@@ -1,13 +1,13 @@
 -- `get_trip` meets its contract.
-use Rattle.overlay_find.specs.laws.Looks.{whole-key, short-key, no_key}
+use Rattle.overlay_find.specs.Laws.Looks.{whole_key, short_key, no_key}
 use borrow.Author.Rules.{rules}
 use lib.ListN.{length-take}
 use native.Mathlib.Omega.{arith}
 use Rattle.overlay_find.proofs.get_trip.Statement.{statement}
 use Rattle.overlay_find.proofs.get_trip.Tie as tie
 
-pub get-trip-spec : {M : Type 1} → statement M
-get-trip-spec =
+pub get_trip_spec : {M : Type 1} → statement M
+get_trip_spec =
     tie.close
     (tie.spec
     (λ c κs. search rules)
@@ -19,6 +19,6 @@ get-trip-spec =
     (omega (arith, c.before.before.before.before.last-at.ensures.within _ c.before.before.k.given.1)))
     (λ c κs. search rules)
     (λ c. search rules)
-    (λ c. search whole-key)
-    (λ c. search short-key)
+    (λ c. search whole_key)
+    (λ c. search short_key)
     (λ c. search no_key))

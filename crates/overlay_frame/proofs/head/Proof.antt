@@ -1,6 +1,6 @@
 -- `head` meets its contract: three writers, one after the other.
 use borrow.Author.Rules.{rules}
-use Rattle.formats_write.specs.laws.Adds.{then}
+use Rattle.formats_write.specs.Laws.Adds.{then}
 use Rattle.overlay_frame.proofs.head.Statement.{statement}
 use Rattle.overlay_frame.proofs.head.Tie as tie
 

@@ -1,6 +1,6 @@
 -- `opening` meets its contract.
 use borrow.Author.Rules.{rules}
-use Rattle.overlay_frame.specs.laws.Frame.{opened}
+use Rattle.overlay_frame.specs.Laws.Frame.{opened}
 use Rattle.overlay_frame.proofs.opening.Statement.{statement}
 use Rattle.overlay_frame.proofs.opening.Tie as tie
 
@@ -21,8 +21,8 @@ returns c = λ q s to S. let h = headed (copied c) in
     opened S (start (counted h)).args.version (counted h).read_head.ensures h.head.ensures
     (copied c).stretch.ensures c.before.before.text.ensures
 
-pub opening-spec : {M : Type 1} → statement M
-opening-spec = tie.close (tie.spec
+pub opening_spec : {M : Type 1} → statement M
+opening_spec = tie.close (tie.spec
     (λ c κs. search rules)
     (λ c κs. search rules)
     (λ c κs. search rules)

@@ -1,49 +1,49 @@
 -- `overlay_keyed::trips` meets its contract.
-use Rattle.formats_check.specs.laws.Elements.{in_place}
-use Rattle.formats_check.specs.laws.Climbing.{climbs-no, climbs-many, climbs-so}
-use Rattle.overlay_noted.specs.laws.Passes.{unless-no}
-use Rattle.overlay_noted.specs.laws.Entries.{trips-put}
+use Rattle.formats_check.specs.Laws.Elements.{in_place}
+use Rattle.formats_check.specs.Laws.Climbing.{climbs_no, climbs_many, climbs_so}
+use Rattle.overlay_noted.specs.Laws.Passes.{unless_no}
+use Rattle.overlay_noted.specs.Laws.Entries.{trips_put}
 use borrow.Author.Rules.{rules}
 use Rattle.overlay_keyed.proofs.trips.Statement.{statement}
 use Rattle.overlay_keyed.proofs.trips.Tie as tie
 
-number-at-requires : tie.Need-number-at-requires
-number-at-requires c κs = search rules
+number_at_requires : tie.Need-number-at-requires
+number_at_requires c κs = search rules
 
-enum-known-n : tie.Need-enum-known-n
-enum-known-n c = search rules
+enum_known_n : tie.Need-enum-known-n
+enum_known_n c = search rules
 
 enum_told : tie.Need-enum-told
 enum_told c = search rules
 
 returns : tie.Need-returns
-returns c = (search climbs-no, unless-no)
+returns c = (search climbs_no, unless_no)
 
-returns-2 : tie.Need-returns-2
-returns-2 c = (search climbs-many, unless-no)
+returns_2 : tie.Need-returns-2
+returns_2 c = (search climbs_many, unless_no)
 
-has-at-requires : tie.Need-has-at-requires
-has-at-requires c κs = search rules
+has_at_requires : tie.Need-has-at-requires
+has_at_requires c κs = search rules
 
-trips-from-requires : tie.Need-trips-from-requires
-trips-from-requires c κs = (search rules, (search in_place, search rules))
+trips_from_requires : tie.Need-trips-from-requires
+trips_from_requires c κs = (search rules, (search in_place, search rules))
 
 same_length : tie.Need-same-length
 same_length c = search rules
 
-returns-3 : tie.Need-returns-3
-returns-3 c = (search climbs-so, search trips-put)
+returns_3 : tie.Need-returns-3
+returns_3 c = (search climbs_so, search trips_put)
 
-pub trips-spec : {M : Type 1} → statement M
-trips-spec =
+pub trips_spec : {M : Type 1} → statement M
+trips_spec =
     tie.close
     (tie.spec
-    number-at-requires
-    enum-known-n
+    number_at_requires
+    enum_known_n
     enum_told
     returns
-    returns-2
-    has-at-requires
-    trips-from-requires
+    returns_2
+    has_at_requires
+    trips_from_requires
     same_length
-    returns-3)
+    returns_3)

@@ -1,140 +1,140 @@
 -- `overlay_keys::decimal` meets its contract.
 use native.Mathlib.Omega.{arith}
 use borrow.Author.Rules.{rules}
-use Rattle.overlay_keys.specs.laws.Piece.{piece_inside, decimal-none, decimal-one, decimal-stop, decimal-more}
+use Rattle.overlay_keys.specs.Laws.Piece.{piece_inside, decimal_none, decimal_one, decimal_stop, decimal_more}
 use Prim.Native.Nat.{ℕ, ◌<◌}
 use borrow.Fn.Kinds.{In}
 use borrow.Fn.PlainCycle.{Measures, is, falls, and}
 use Rattle.overlay_keys.proofs.decimal.Reads as decimal
-use Rattle.overlay_keys.proofs.decimal.Kinds as decimal-kinds
-use Rattle.overlay_keys.proofs.+decimal.Lts-decimal as decimal-lts
-use Rattle.overlay_keys.proofs.byte.Reads as byte-Reads
+use Rattle.overlay_keys.proofs.decimal.Kinds as decimal_kinds
+use Rattle.overlay_keys.proofs.+decimal.Lts-decimal as decimal_lts
+use Rattle.overlay_keys.proofs.byte.Reads as byte_reads
 use Rattle.overlay_keys.proofs.+decimal.{statement}
 use Rattle.overlay_keys.proofs.+decimal.Tie.{close}
 
-abbrev μ-decimal : Measures 1 decimal-kinds.ps ℕ
-μ-decimal κs a = a.0
+abbrev μ_decimal : Measures 1 decimal_kinds.ps ℕ
+μ_decimal κs a = a.0
 
-abbrev decimal-at : ℕ → In 1 decimal-kinds.ps
-decimal-at t = and 1 decimal-kinds.ps (is 1 decimal-kinds.ps μ-decimal t) decimal.Pre
+abbrev decimal_at : ℕ → In 1 decimal_kinds.ps
+decimal_at t = and 1 decimal_kinds.ps (is 1 decimal_kinds.ps μ_decimal t) decimal.Pre
 
-abbrev decimal-below : ℕ → In 1 decimal-kinds.ps
-decimal-below t = and 1 decimal-kinds.ps (falls 1 decimal-kinds.ps ◌<◌ μ-decimal t) decimal.Pre
+abbrev decimal_below : ℕ → In 1 decimal_kinds.ps
+decimal_below t = and 1 decimal_kinds.ps (falls 1 decimal_kinds.ps ◌<◌ μ_decimal t) decimal.Pre
 
-decimal-returns : (t : ℕ) → decimal-lts.Need-returns (
-  byte-Reads.Asked,
-  byte-Reads.Learnt,
-  decimal-below t,
+decimal_returns : (t : ℕ) → decimal_lts.Need-returns (
+  byte_reads.Asked,
+  byte_reads.Learnt,
+  decimal_below t,
   decimal.Post,
-) (decimal-at t) decimal.Post
-decimal-returns t c = search decimal-none
+) (decimal_at t) decimal.Post
+decimal_returns t c = search decimal_none
 
-decimal-add-byte : (t : ℕ) → decimal-lts.Need-overflow-add-byte (
-  byte-Reads.Asked,
-  byte-Reads.Learnt,
-  decimal-below t,
+decimal_add_byte : (t : ℕ) → decimal_lts.Need-overflow-add-byte (
+  byte_reads.Asked,
+  byte_reads.Learnt,
+  decimal_below t,
   decimal.Post,
-) (decimal-at t) decimal.Post
-decimal-add-byte t c = search rules
+) (decimal_at t) decimal.Post
+decimal_add_byte t c = search rules
 
-decimal-byte-requires : (t : ℕ) → decimal-lts.Need-byte-requires (
-  byte-Reads.Asked,
-  byte-Reads.Learnt,
-  decimal-below t,
+decimal_byte_requires : (t : ℕ) → decimal_lts.Need-byte-requires (
+  byte_reads.Asked,
+  byte_reads.Learnt,
+  decimal_below t,
   decimal.Post,
-) (decimal-at t) decimal.Post
-decimal-byte-requires t c κs = search rules
+) (decimal_at t) decimal.Post
+decimal_byte_requires t c κs = search rules
 
-decimal-returns-2 : (t : ℕ) → decimal-lts.Need-returns-2 (
-  byte-Reads.Asked,
-  byte-Reads.Learnt,
-  decimal-below t,
+decimal_returns_2 : (t : ℕ) → decimal_lts.Need-returns-2 (
+  byte_reads.Asked,
+  byte_reads.Learnt,
+  decimal_below t,
   decimal.Post,
-) (decimal-at t) decimal.Post
-decimal-returns-2 t c = search decimal-one
+) (decimal_at t) decimal.Post
+decimal_returns_2 t c = search decimal_one
 
-decimal-sub-decimal : (t : ℕ) → decimal-lts.Need-overflow-sub-decimal (
-  byte-Reads.Asked,
-  byte-Reads.Learnt,
-  decimal-below t,
+decimal_sub_decimal : (t : ℕ) → decimal_lts.Need-overflow-sub-decimal (
+  byte_reads.Asked,
+  byte_reads.Learnt,
+  decimal_below t,
   decimal.Post,
-) (decimal-at t) decimal.Post
-decimal-sub-decimal t c = search rules
+) (decimal_at t) decimal.Post
+decimal_sub_decimal t c = search rules
 
-decimal-decimal-requires : (t : ℕ) → decimal-lts.Need-decimal-requires (
-  byte-Reads.Asked,
-  byte-Reads.Learnt,
-  decimal-below t,
+decimal_decimal_requires : (t : ℕ) → decimal_lts.Need-decimal-requires (
+  byte_reads.Asked,
+  byte_reads.Learnt,
+  decimal_below t,
   decimal.Post,
-) (decimal-at t) decimal.Post
-decimal-decimal-requires t c κs = (omega arith, search rules)
+) (decimal_at t) decimal.Post
+decimal_decimal_requires t c κs = (omega arith, search rules)
 
-decimal-enum-known-m : (t : ℕ) → decimal-lts.Need-enum-known-m (
-  byte-Reads.Asked,
-  byte-Reads.Learnt,
-  decimal-below t,
+decimal_enum_known_m : (t : ℕ) → decimal_lts.Need-enum-known-m (
+  byte_reads.Asked,
+  byte_reads.Learnt,
+  decimal_below t,
   decimal.Post,
-) (decimal-at t) decimal.Post
-decimal-enum-known-m t c = search rules
+) (decimal_at t) decimal.Post
+decimal_enum_known_m t c = search rules
 
-decimal-enum-told : (t : ℕ) → decimal-lts.Need-enum-told (
-  byte-Reads.Asked,
-  byte-Reads.Learnt,
-  decimal-below t,
+decimal_enum_told : (t : ℕ) → decimal_lts.Need-enum-told (
+  byte_reads.Asked,
+  byte_reads.Learnt,
+  decimal_below t,
   decimal.Post,
-) (decimal-at t) decimal.Post
-decimal-enum-told t c = search rules
+) (decimal_at t) decimal.Post
+decimal_enum_told t c = search rules
 
-decimal-returns-3 : (t : ℕ) → decimal-lts.Need-returns-3 (
-  byte-Reads.Asked,
-  byte-Reads.Learnt,
-  decimal-below t,
+decimal_returns_3 : (t : ℕ) → decimal_lts.Need-returns-3 (
+  byte_reads.Asked,
+  byte_reads.Learnt,
+  decimal_below t,
   decimal.Post,
-) (decimal-at t) decimal.Post
-decimal-returns-3 t c = search decimal-stop
+) (decimal_at t) decimal.Post
+decimal_returns_3 t c = search decimal_stop
 
-decimal-add-byte-2 : (t : ℕ) → decimal-lts.Need-overflow-add-byte-2 (
-  byte-Reads.Asked,
-  byte-Reads.Learnt,
-  decimal-below t,
+decimal_add_byte_2 : (t : ℕ) → decimal_lts.Need-overflow-add-byte-2 (
+  byte_reads.Asked,
+  byte_reads.Learnt,
+  decimal_below t,
   decimal.Post,
-) (decimal-at t) decimal.Post
-decimal-add-byte-2 t c = omega arith
+) (decimal_at t) decimal.Post
+decimal_add_byte_2 t c = omega arith
 
-decimal-byte-requires-2 : (t : ℕ) → decimal-lts.Need-byte-requires-2 (
-  byte-Reads.Asked,
-  byte-Reads.Learnt,
-  decimal-below t,
+decimal_byte_requires_2 : (t : ℕ) → decimal_lts.Need-byte-requires-2 (
+  byte_reads.Asked,
+  byte_reads.Learnt,
+  decimal_below t,
   decimal.Post,
-) (decimal-at t) decimal.Post
-decimal-byte-requires-2 t c κs = search piece_inside
+) (decimal_at t) decimal.Post
+decimal_byte_requires_2 t c κs = search piece_inside
 
-decimal-returns-4 : (t : ℕ) → decimal-lts.Need-returns-4 (
-  byte-Reads.Asked,
-  byte-Reads.Learnt,
-  decimal-below t,
+decimal_returns_4 : (t : ℕ) → decimal_lts.Need-returns-4 (
+  byte_reads.Asked,
+  byte_reads.Learnt,
+  decimal_below t,
   decimal.Post,
-) (decimal-at t) decimal.Post
-decimal-returns-4 t c = search decimal-more
+) (decimal_at t) decimal.Post
+decimal_returns_4 t c = search decimal_more
 
-pub +decimal-spec : {M : Type 1} → statement M
-+decimal-spec = close μ-decimal λ t. decimal-lts.spec (
-  byte-Reads.Asked,
-  byte-Reads.Learnt,
-  decimal-below t,
+pub +decimal_spec : {M : Type 1} → statement M
++decimal_spec = close μ_decimal λ t. decimal_lts.spec (
+  byte_reads.Asked,
+  byte_reads.Learnt,
+  decimal_below t,
   decimal.Post,
 )
-    (decimal-at t)
+    (decimal_at t)
     decimal.Post
-    (decimal-returns t)
-    (decimal-add-byte t)
-    (decimal-byte-requires t)
-    (decimal-returns-2 t)
-    (decimal-sub-decimal t)
-    (decimal-decimal-requires t)
-    (decimal-enum-known-m t)
-    (decimal-enum-told t)
-    (decimal-returns-3 t)
-    (decimal-add-byte-2 t)
-    (decimal-byte-requires-2 t)
-    (decimal-returns-4 t)
+    (decimal_returns t)
+    (decimal_add_byte t)
+    (decimal_byte_requires t)
+    (decimal_returns_2 t)
+    (decimal_sub_decimal t)
+    (decimal_decimal_requires t)
+    (decimal_enum_known_m t)
+    (decimal_enum_told t)
+    (decimal_returns_3 t)
+    (decimal_add_byte_2 t)
+    (decimal_byte_requires_2 t)
+    (decimal_returns_4 t)

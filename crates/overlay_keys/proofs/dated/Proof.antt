@@ -1,95 +1,95 @@
 -- `overlay_keys::dated` meets its contract.
-use Rattle.overlay_keys.specs.laws.Keys.{dated-long, dated-mark, dated-none, dated-other, dated-short, dated-so}
-use Rattle.overlay_keys.specs.laws.Piece.{piece_inside}
+use Rattle.overlay_keys.specs.Laws.Keys.{dated_long, dated_mark, dated_none, dated_other, dated_short, dated_so}
+use Rattle.overlay_keys.specs.Laws.Piece.{piece_inside}
 use borrow.Author.Rules.{rules}
 use Rattle.overlay_keys.proofs.dated.Statement.{statement}
 use Rattle.overlay_keys.proofs.dated.Tie as tie
 
-sub-m : tie.Need-overflow-sub-m
-sub-m c = search rules
+sub_m : tie.Need-overflow-sub-m
+sub_m c = search rules
 
 returns : tie.Need-returns
-returns c = search dated-none
+returns c = search dated_none
 
-sub-n : tie.Need-overflow-sub-n
-sub-n c = search rules
+sub_n : tie.Need-overflow-sub-n
+sub_n c = search rules
 
-add-if2 : tie.Need-overflow-add-if2
-add-if2 c = search rules
+add_if2 : tie.Need-overflow-add-if2
+add_if2 c = search rules
 
-returns-2 : tie.Need-returns-2
-returns-2 c = search dated-short
+returns_2 : tie.Need-returns-2
+returns_2 c = search dated_short
 
-add-if3 : tie.Need-overflow-add-if3
-add-if3 c = search rules
+add_if3 : tie.Need-overflow-add-if3
+add_if3 c = search rules
 
-returns-3 : tie.Need-returns-3
-returns-3 c = search dated-long
+returns_3 : tie.Need-returns-3
+returns_3 c = search dated_long
 
-sub-p : tie.Need-overflow-sub-p
-sub-p c = search rules
+sub_p : tie.Need-overflow-sub-p
+sub_p c = search rules
 
-sub-p-2 : tie.Need-overflow-sub-p-2
-sub-p-2 c = search rules
+sub_p_2 : tie.Need-overflow-sub-p-2
+sub_p_2 c = search rules
 
-byte-requires : tie.Need-byte-requires
-byte-requires c κs = search rules
+byte_requires : tie.Need-byte-requires
+byte_requires c κs = search rules
 
-enum-known-q : tie.Need-enum-known-q
-enum-known-q c = search rules
+enum_known_q : tie.Need-enum-known-q
+enum_known_q c = search rules
 
 enum_told : tie.Need-enum-told
 enum_told c = search rules
 
-returns-4 : tie.Need-returns-4
-returns-4 c = search dated-mark
+returns_4 : tie.Need-returns-4
+returns_4 c = search dated_mark
 
-sub-piece : tie.Need-overflow-sub-piece
-sub-piece c = search rules
+sub_piece : tie.Need-overflow-sub-piece
+sub_piece c = search rules
 
-part-piece-start : tie.Need-slice-bounds-piece-start
-part-piece-start c = search rules
+part_piece_start : tie.Need-slice-bounds-piece-start
+part_piece_start c = search rules
 
-part-piece-end : tie.Need-slice-bounds-piece-end
-part-piece-end c = search rules
+part_piece_end : tie.Need-slice-bounds-piece-end
+part_piece_end c = search rules
 
-piece-requires : tie.Need-piece-requires
-piece-requires c κs = search piece_inside
+piece_requires : tie.Need-piece-requires
+piece_requires c κs = search piece_inside
 
-enum-known-z : tie.Need-enum-known-z
-enum-known-z c = search rules
+enum_known_z : tie.Need-enum-known-z
+enum_known_z c = search rules
 
-enum-told-2 : tie.Need-enum-told-2
-enum-told-2 c = search rules
+enum_told_2 : tie.Need-enum-told-2
+enum_told_2 c = search rules
 
-returns-5 : tie.Need-returns-5
-returns-5 c = search dated-other
+returns_5 : tie.Need-returns-5
+returns_5 c = search dated_other
 
-returns-6 : tie.Need-returns-6
-returns-6 c = search dated-so
+returns_6 : tie.Need-returns-6
+returns_6 c = search dated_so
 
-pub dated-spec : {M : Type 1} → statement M
-dated-spec =
+pub dated_spec : {M : Type 1} → statement M
+dated_spec =
     tie.close
     (tie.spec
-    sub-m
+    sub_m
     returns
-    sub-n
-    add-if2
-    returns-2
-    add-if3
-    returns-3
-    sub-p
-    sub-p-2
-    byte-requires
-    enum-known-q
+    sub_n
+    add_if2
+    returns_2
+    add_if3
+    returns_3
+    sub_p
+    sub_p_2
+    byte_requires
+    enum_known_q
     enum_told
-    returns-4
-    sub-piece
-    part-piece-start
-    part-piece-end
-    piece-requires
-    enum-known-z
-    enum-told-2
-    returns-5
-    returns-6)
+    returns_4
+    sub_piece
+    part_piece_start
+    part_piece_end
+    piece_requires
+    enum_known_z
+    enum_told_2
+    returns_5
+    returns_6)

@@ -1,50 +1,50 @@
 -- `overlay_keys::direction` meets its contract.
-use Rattle.overlay_keys.specs.laws.Keys.{direction-bad, direction-end, direction-none, direction-so}
+use Rattle.overlay_keys.specs.Laws.Keys.{direction_bad, direction_end, direction_none, direction_so}
 use borrow.Author.Rules.{rules}
 use Rattle.overlay_keys.proofs.direction.Statement.{statement}
 use Rattle.overlay_keys.proofs.direction.Tie as tie
 
 returns : tie.Need-returns
-returns c = search direction-end
+returns c = search direction_end
 
-shared-slice-read-c : tie.Need-shared-slice-read-c
-shared-slice-read-c c = search rules
+shared_slice_read_c : tie.Need-shared-slice-read-c
+shared_slice_read_c c = search rules
 
-returns-2 : tie.Need-returns-2
-returns-2 c = search direction-none
+returns_2 : tie.Need-returns-2
+returns_2 c = search direction_none
 
-add-number-at : tie.Need-overflow-add-number-at
-add-number-at c = search rules
+add_number_at : tie.Need-overflow-add-number-at
+add_number_at c = search rules
 
-number-at-requires : tie.Need-number-at-requires
-number-at-requires c κs = search rules
+number_at_requires : tie.Need-number-at-requires
+number_at_requires c κs = search rules
 
-enum-known-n : tie.Need-enum-known-n
-enum-known-n c = search rules
+enum_known_n : tie.Need-enum-known-n
+enum_known_n c = search rules
 
 enum_told : tie.Need-enum-told
 enum_told c = search rules
 
-returns-3 : tie.Need-returns-3
-returns-3 c = search direction-bad
+returns_3 : tie.Need-returns-3
+returns_3 c = search direction_bad
 
-decimal-requires : tie.Need-decimal-requires
-decimal-requires c κs = search rules
+decimal_requires : tie.Need-decimal-requires
+decimal_requires c κs = search rules
 
-returns-4 : tie.Need-returns-4
-returns-4 c = search direction-so
+returns_4 : tie.Need-returns-4
+returns_4 c = search direction_so
 
-pub direction-spec : {M : Type 1} → statement M
-direction-spec =
+pub direction_spec : {M : Type 1} → statement M
+direction_spec =
     tie.close
     (tie.spec
     returns
-    shared-slice-read-c
-    returns-2
-    add-number-at
-    number-at-requires
-    enum-known-n
+    shared_slice_read_c
+    returns_2
+    add_number_at
+    number_at_requires
+    enum_known_n
     enum_told
-    returns-3
-    decimal-requires
-    returns-4)
+    returns_3
+    decimal_requires
+    returns_4)

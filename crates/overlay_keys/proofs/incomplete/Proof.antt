@@ -1,67 +1,67 @@
 -- `overlay_keys::incomplete` meets its contract.
-use Rattle.overlay_keys.specs.laws.Keys.{incomplete-route, incomplete-so, incomplete-time, incomplete-way}
-use Rattle.overlay_keys.specs.laws.Keys.{span-inside}
+use Rattle.overlay_keys.specs.Laws.Keys.{incomplete_route, incomplete_so, incomplete_time, incomplete_way}
+use Rattle.overlay_keys.specs.Laws.Keys.{span_inside}
 use borrow.Author.Rules.{rules}
 use Rattle.overlay_keys.proofs.incomplete.Statement.{statement}
 use Rattle.overlay_keys.proofs.incomplete.Tie as tie
 
-printable-at-requires : tie.Need-printable-at-requires
-printable-at-requires c κs = search rules
+printable_at_requires : tie.Need-printable-at-requires
+printable_at_requires c κs = search rules
 
-enum-known-x : tie.Need-enum-known-x
-enum-known-x c = search rules
+enum_known_x : tie.Need-enum-known-x
+enum_known_x c = search rules
 
 enum_told : tie.Need-enum-told
 enum_told c = search rules
 
 returns : tie.Need-returns
-returns c = search incomplete-route
+returns c = search incomplete_route
 
-optional-word-requires : tie.Need-optional-word-requires
-optional-word-requires c κs = search rules
+optional_word_requires : tie.Need-optional-word-requires
+optional_word_requires c κs = search rules
 
-enum-known-z : tie.Need-enum-known-z
-enum-known-z c = search rules
+enum_known_z : tie.Need-enum-known-z
+enum_known_z c = search rules
 
-enum-told-2 : tie.Need-enum-told-2
-enum-told-2 c = search rules
+enum_told_2 : tie.Need-enum-told-2
+enum_told_2 c = search rules
 
-returns-2 : tie.Need-returns-2
-returns-2 c = search incomplete-way
+returns_2 : tie.Need-returns-2
+returns_2 c = search incomplete_way
 
-printable-at-requires-2 : tie.Need-printable-at-requires-2
-printable-at-requires-2 c κs = search rules
+printable_at_requires_2 : tie.Need-printable-at-requires-2
+printable_at_requires_2 c κs = search rules
 
-enum-known-u : tie.Need-enum-known-u
-enum-known-u c = search rules
+enum_known_u : tie.Need-enum-known-u
+enum_known_u c = search rules
 
-enum-told-3 : tie.Need-enum-told-3
-enum-told-3 c = search rules
+enum_told_3 : tie.Need-enum-told-3
+enum_told_3 c = search rules
 
-returns-3 : tie.Need-returns-3
-returns-3 c = search incomplete-time
+returns_3 : tie.Need-returns-3
+returns_3 c = search incomplete_time
 
-matches-requires : tie.Need-matches-requires
-matches-requires c κs = (search rules, (search rules, (search span-inside, search span-inside)))
+matches_requires : tie.Need-matches-requires
+matches_requires c κs = (search rules, (search rules, (search span_inside, search span_inside)))
 
-returns-4 : tie.Need-returns-4
-returns-4 c = search incomplete-so
+returns_4 : tie.Need-returns-4
+returns_4 c = search incomplete_so
 
-pub incomplete-spec : {M : Type 1} → statement M
-incomplete-spec =
+pub incomplete_spec : {M : Type 1} → statement M
+incomplete_spec =
     tie.close
     (tie.spec
-    printable-at-requires
-    enum-known-x
+    printable_at_requires
+    enum_known_x
     enum_told
     returns
-    optional-word-requires
-    enum-known-z
-    enum-told-2
-    returns-2
-    printable-at-requires-2
-    enum-known-u
-    enum-told-3
-    returns-3
-    matches-requires
-    returns-4)
+    optional_word_requires
+    enum_known_z
+    enum_told_2
+    returns_2
+    printable_at_requires_2
+    enum_known_u
+    enum_told_3
+    returns_3
+    matches_requires
+    returns_4)

@@ -1,34 +1,34 @@
 -- `overlay_keys::key_ok` meets its contract.
-use Rattle.overlay_keys.specs.laws.Keys.{key-empty, key-long, key-raw}
+use Rattle.overlay_keys.specs.Laws.Keys.{key_empty, key_long, key_raw}
 use borrow.Author.Rules.{rules}
 use Rattle.overlay_keys.proofs.key_ok.Statement.{statement}
 use Rattle.overlay_keys.proofs.key_ok.Tie as tie
 
-sub-n : tie.Need-overflow-sub-n
-sub-n c = search rules
+sub_n : tie.Need-overflow-sub-n
+sub_n c = search rules
 
-longer-requires : tie.Need-longer-requires
-longer-requires c κs = search rules
+longer_requires : tie.Need-longer-requires
+longer_requires c κs = search rules
 
 returns : tie.Need-returns
-returns c = search key-empty
+returns c = search key_empty
 
-longer-requires-2 : tie.Need-longer-requires-2
-longer-requires-2 c κs = search rules
+longer_requires_2 : tie.Need-longer-requires-2
+longer_requires_2 c κs = search rules
 
-returns-2 : tie.Need-returns-2
-returns-2 c = search key-long
+returns_2 : tie.Need-returns-2
+returns_2 c = search key_long
 
-returns-3 : tie.Need-returns-3
-returns-3 c = search key-raw
+returns_3 : tie.Need-returns-3
+returns_3 c = search key_raw
 
-pub key-ok-spec : {M : Type 1} → statement M
-key-ok-spec =
+pub key_ok_spec : {M : Type 1} → statement M
+key_ok_spec =
     tie.close
     (tie.spec
-    sub-n
-    longer-requires
+    sub_n
+    longer_requires
     returns
-    longer-requires-2
-    returns-2
-    returns-3)
+    longer_requires_2
+    returns_2
+    returns_3)

@@ -1,75 +1,75 @@
 -- `overlay_keys::longer` meets its contract.
-use Rattle.overlay_keys.specs.laws.Keys.{longer-date, longer-dated, longer-delay, longer-flag, longer-so}
-use Rattle.overlay_keys.specs.laws.Keys.{span-inside}
+use Rattle.overlay_keys.specs.Laws.Keys.{longer_date, longer_dated, longer_delay, longer_flag, longer_so}
+use Rattle.overlay_keys.specs.Laws.Keys.{span_inside}
 use borrow.Author.Rules.{rules}
 use Rattle.overlay_keys.proofs.longer.Statement.{statement}
 use Rattle.overlay_keys.proofs.longer.Tie as tie
 
-optional-word-requires : tie.Need-optional-word-requires
-optional-word-requires c κs = search rules
+optional_word_requires : tie.Need-optional-word-requires
+optional_word_requires c κs = search rules
 
-enum-known-p : tie.Need-enum-known-p
-enum-known-p c = search rules
+enum_known_p : tie.Need-enum-known-p
+enum_known_p c = search rules
 
 enum_told : tie.Need-enum-told
 enum_told c = search rules
 
 returns : tie.Need-returns
-returns c = search longer-delay
+returns c = search longer_delay
 
-at-most-requires : tie.Need-at-most-requires
-at-most-requires c κs = search rules
+at_most_requires : tie.Need-at-most-requires
+at_most_requires c κs = search rules
 
-enum-known-q : tie.Need-enum-known-q
-enum-known-q c = search rules
+enum_known_q : tie.Need-enum-known-q
+enum_known_q c = search rules
 
-enum-told-2 : tie.Need-enum-told-2
-enum-told-2 c = search rules
+enum_told_2 : tie.Need-enum-told-2
+enum_told_2 c = search rules
 
-returns-2 : tie.Need-returns-2
-returns-2 c = search longer-flag
+returns_2 : tie.Need-returns-2
+returns_2 c = search longer_flag
 
-printable-at-requires : tie.Need-printable-at-requires
-printable-at-requires c κs = search rules
+printable_at_requires : tie.Need-printable-at-requires
+printable_at_requires c κs = search rules
 
-enum-known-b : tie.Need-enum-known-b
-enum-known-b c = search rules
+enum_known_b : tie.Need-enum-known-b
+enum_known_b c = search rules
 
-enum-told-3 : tie.Need-enum-told-3
-enum-told-3 c = search rules
+enum_told_3 : tie.Need-enum-told-3
+enum_told_3 c = search rules
 
-returns-3 : tie.Need-returns-3
-returns-3 c = search longer-date
+returns_3 : tie.Need-returns-3
+returns_3 c = search longer_date
 
-dated-requires : tie.Need-dated-requires
-dated-requires c κs = (search rules, search span-inside)
+dated_requires : tie.Need-dated-requires
+dated_requires c κs = (search rules, search span_inside)
 
-returns-4 : tie.Need-returns-4
-returns-4 c = search longer-dated
+returns_4 : tie.Need-returns-4
+returns_4 c = search longer_dated
 
-incomplete-requires : tie.Need-incomplete-requires
-incomplete-requires c κs = (search rules, search span-inside)
+incomplete_requires : tie.Need-incomplete-requires
+incomplete_requires c κs = (search rules, search span_inside)
 
-returns-5 : tie.Need-returns-5
-returns-5 c = search longer-so
+returns_5 : tie.Need-returns-5
+returns_5 c = search longer_so
 
-pub longer-spec : {M : Type 1} → statement M
-longer-spec =
+pub longer_spec : {M : Type 1} → statement M
+longer_spec =
     tie.close
     (tie.spec
-    optional-word-requires
-    enum-known-p
+    optional_word_requires
+    enum_known_p
     enum_told
     returns
-    at-most-requires
-    enum-known-q
-    enum-told-2
-    returns-2
-    printable-at-requires
-    enum-known-b
-    enum-told-3
-    returns-3
-    dated-requires
-    returns-4
-    incomplete-requires
-    returns-5)
+    at_most_requires
+    enum_known_q
+    enum_told_2
+    returns_2
+    printable_at_requires
+    enum_known_b
+    enum_told_3
+    returns_3
+    dated_requires
+    returns_4
+    incomplete_requires
+    returns_5)

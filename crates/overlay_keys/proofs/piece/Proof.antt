@@ -1,46 +1,46 @@
 -- `overlay_keys::piece` meets its contract.
-use Rattle.overlay_keys.specs.laws.Piece.{piece-other, piece-short, piece-so}
+use Rattle.overlay_keys.specs.Laws.Piece.{piece_other, piece_short, piece_so}
 use borrow.Author.Rules.{rules}
 use Rattle.overlay_keys.proofs.piece.Statement.{statement}
 use Rattle.overlay_keys.proofs.piece.Tie as tie
 
-sub-if1 : tie.Need-overflow-sub-if1
-sub-if1 c = search rules
+sub_if1 : tie.Need-overflow-sub-if1
+sub_if1 c = search rules
 
 returns : tie.Need-returns
-returns c = search piece-short
+returns c = search piece_short
 
-add-m : tie.Need-overflow-add-m
-add-m c = search rules
+add_m : tie.Need-overflow-add-m
+add_m c = search rules
 
 sub_same : tie.Need-overflow-sub-same
 sub_same c = search rules
 
-part-same-start : tie.Need-slice-bounds-same-start
-part-same-start c = search rules
+part_same_start : tie.Need-slice-bounds-same-start
+part_same_start c = search rules
 
-part-same-end : tie.Need-slice-bounds-same-end
-part-same-end c = search rules
+part_same_end : tie.Need-slice-bounds-same-end
+part_same_end c = search rules
 
-same-requires : tie.Need-same-requires
-same-requires c κs = search rules
+same_requires : tie.Need-same-requires
+same_requires c κs = search rules
 
-returns-2 : tie.Need-returns-2
-returns-2 c = search piece-so
+returns_2 : tie.Need-returns-2
+returns_2 c = search piece_so
 
-returns-3 : tie.Need-returns-3
-returns-3 c = search piece-other
+returns_3 : tie.Need-returns-3
+returns_3 c = search piece_other
 
-pub piece-spec : {M : Type 1} → statement M
-piece-spec =
+pub piece_spec : {M : Type 1} → statement M
+piece_spec =
     tie.close
     (tie.spec
-    sub-if1
+    sub_if1
     returns
-    add-m
+    add_m
     sub_same
-    part-same-start
-    part-same-end
-    same-requires
-    returns-2
-    returns-3)
+    part_same_start
+    part_same_end
+    same_requires
+    returns_2
+    returns_3)

@@ -1,67 +1,67 @@
 -- `overlay_keys::route` meets its contract.
-use Rattle.overlay_keys.specs.laws.Keys.{route-colon, route-feed, route-none, route-so}
-use Rattle.overlay_keys.specs.laws.Piece.{piece_inside}
+use Rattle.overlay_keys.specs.Laws.Keys.{route_colon, route_feed, route_none, route_so}
+use Rattle.overlay_keys.specs.Laws.Piece.{piece_inside}
 use borrow.Author.Rules.{rules}
 use Rattle.overlay_keys.proofs.route.Statement.{statement}
 use Rattle.overlay_keys.proofs.route.Tie as tie
 
 returns : tie.Need-returns
-returns c = search route-none
+returns c = search route_none
 
-piece-requires : tie.Need-piece-requires
-piece-requires c κs = search rules
+piece_requires : tie.Need-piece-requires
+piece_requires c κs = search rules
 
-enum-known-p : tie.Need-enum-known-p
-enum-known-p c = search rules
+enum_known_p : tie.Need-enum-known-p
+enum_known_p c = search rules
 
 enum_told : tie.Need-enum-told
 enum_told c = search rules
 
-returns-2 : tie.Need-returns-2
-returns-2 c = search route-feed
+returns_2 : tie.Need-returns-2
+returns_2 c = search route_feed
 
-byte-requires : tie.Need-byte-requires
-byte-requires c κs = search piece_inside
+byte_requires : tie.Need-byte-requires
+byte_requires c κs = search piece_inside
 
-enum-known-q : tie.Need-enum-known-q
-enum-known-q c = search rules
+enum_known_q : tie.Need-enum-known-q
+enum_known_q c = search rules
 
-enum-told-2 : tie.Need-enum-told-2
-enum-told-2 c = search rules
+enum_told_2 : tie.Need-enum-told-2
+enum_told_2 c = search rules
 
-returns-3 : tie.Need-returns-3
-returns-3 c = search route-colon
+returns_3 : tie.Need-returns-3
+returns_3 c = search route_colon
 
-sub-piece : tie.Need-overflow-sub-piece
-sub-piece c = search rules
+sub_piece : tie.Need-overflow-sub-piece
+sub_piece c = search rules
 
-part-piece-start : tie.Need-slice-bounds-piece-start
-part-piece-start c = search rules
+part_piece_start : tie.Need-slice-bounds-piece-start
+part_piece_start c = search rules
 
-part-piece-end : tie.Need-slice-bounds-piece-end
-part-piece-end c = search rules
+part_piece_end : tie.Need-slice-bounds-piece-end
+part_piece_end c = search rules
 
-piece-requires-2 : tie.Need-piece-requires-2
-piece-requires-2 c κs = search piece_inside
+piece_requires_2 : tie.Need-piece-requires-2
+piece_requires_2 c κs = search piece_inside
 
-returns-4 : tie.Need-returns-4
-returns-4 c = search route-so
+returns_4 : tie.Need-returns-4
+returns_4 c = search route_so
 
-pub route-spec : {M : Type 1} → statement M
-route-spec =
+pub route_spec : {M : Type 1} → statement M
+route_spec =
     tie.close
     (tie.spec
     returns
-    piece-requires
-    enum-known-p
+    piece_requires
+    enum_known_p
     enum_told
-    returns-2
-    byte-requires
-    enum-known-q
-    enum-told-2
-    returns-3
-    sub-piece
-    part-piece-start
-    part-piece-end
-    piece-requires-2
-    returns-4)
+    returns_2
+    byte_requires
+    enum_known_q
+    enum_told_2
+    returns_3
+    sub_piece
+    part_piece_start
+    part_piece_end
+    piece_requires_2
+    returns_4)

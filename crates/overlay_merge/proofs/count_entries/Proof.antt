@@ -3,7 +3,7 @@ use Prim.Native.Nat.{◌+◌}
 use native.Mathlib.Omega.{arith}
 use mathlib.Core.Logic.{⊎_elim}
 use borrow.Author.Tests.{ltb-true, ltb-false}
-use Rattle.overlay_merge.specs.laws.Loops.{Counting, count-start, count-on, count-many, count-end}
+use Rattle.overlay_merge.specs.Laws.Loops.{Counting, count_start, count_on, count_many, count_end}
 use Rattle.overlay_merge.proofs.count_entries.Statement.{statement}
 use Rattle.overlay_merge.proofs.count_entries.Tie as tie
 
@@ -19,7 +19,7 @@ left c κs = ⊎_elim (λ w. omega arith) (λ w. omega (arith, ltb-true 0 c.befo
 many : tie.Need-returns invariant-loop decreases-loop
 many c =
     let t = c.before.before in
-    count-many t.before.before.loop.invariant t.take-turn.ensures c.before.counted.ensures c.if3.true
+    count_many t.before.before.loop.invariant t.take-turn.ensures c.before.counted.ensures c.if3.true
 
 less : tie.Need-loop-smaller invariant-loop decreases-loop
 less c = c.before.before.take-turn.ensures.falls
@@ -27,18 +27,18 @@ less c = c.before.before.take-turn.ensures.falls
 again : tie.Need-loop-preserved invariant-loop decreases-loop
 again c =
     let t = c.before.before in
-    count-on t.before.before.loop.invariant t.take-turn.ensures c.before.counted.ensures c.if3.false
+    count_on t.before.before.loop.invariant t.take-turn.ensures c.before.counted.ensures c.if3.false
 
 none_left : tie.Need-returns-2 invariant-loop decreases-loop
 none_left c =
     let at = c.before.before in
-    count-end at.loop.invariant (omega (arith, ltb-false 0 at.loop.j c.if2.false))
+    count_end at.loop.invariant (omega (arith, ltb-false 0 at.loop.j c.if2.false))
 
-pub count-entries-spec : {M : Type 1} → statement M
-count-entries-spec = tie.close (tie.spec
+pub count_entries_spec : {M : Type 1} → statement M
+count_entries_spec = tie.close (tie.spec
     invariant-loop
     decreases-loop
-    (λ c. count-start)
+    (λ c. count_start)
     left
     (λ c κs. c.before.before.loop.invariant.few)
     many

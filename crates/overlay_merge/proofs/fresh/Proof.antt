@@ -1,6 +1,6 @@
 -- `fresh` meets its contract.
 use borrow.Author.Rules.{rules}
-use Rattle.overlay_merge.specs.laws.Merge.{fresh-is}
+use Rattle.overlay_merge.specs.Laws.Merge.{fresh_is}
 use Rattle.overlay_merge.proofs.fresh.Statement.{statement}
 use Rattle.overlay_merge.proofs.fresh.Tie as tie
 
@@ -8,11 +8,11 @@ returns : tie.Need-returns
 returns c =
     let limit = c.before in
     let args = limit.before.args in
-    fresh-is args.updated args.limit (record { sfits = c.from-zigzag2.type-inv })
+    fresh_is args.updated args.limit (record { sfits = c.from-zigzag2.type-inv })
     (record { sfits = limit.from-zigzag.type-inv }) limit.from-zigzag.ensures c.from-zigzag2.ensures
 
-pub fresh-spec : {M : Type 1} → statement M
-fresh-spec = tie.close (tie.spec
+pub fresh_spec : {M : Type 1} → statement M
+fresh_spec = tie.close (tie.spec
     (λ c κs. search rules)
     (λ c κs. search rules)
     returns)

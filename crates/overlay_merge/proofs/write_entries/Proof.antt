@@ -6,7 +6,7 @@ use native.Mathlib.Omega.{arith}
 use lib.ListN.{length}
 use borrow.Author.Rules.{rules}
 use borrow.Author.Tests.{ltb-true, ltb-false}
-use Rattle.overlay_merge.specs.laws.Loops.{Writing, write-start, write-on, write-end}
+use Rattle.overlay_merge.specs.Laws.Loops.{Writing, write_start, write_on, write_end}
 use Rattle.overlay_merge.proofs.write_entries.Statement.{statement}
 use Rattle.overlay_merge.proofs.write_entries.Tie as tie
 
@@ -30,18 +30,18 @@ less c = (taken c).take-turn.ensures.falls
 again : tie.Need-loop-preserved invariant-loop decreases-loop
 again c =
     let I = (taken c).before.before.loop.invariant in
-    (search rules, write-on I.1 (taken c).take-turn.ensures c.before.before.write-entry.ensures)
+    (search rules, write_on I.1 (taken c).take-turn.ensures c.before.before.write-entry.ensures)
 
 none_left : tie.Need-returns invariant-loop decreases-loop
 none_left c =
     let at = c.before.before in
-    write-end at.loop.invariant.1 (omega (arith, ltb-false 0 at.loop.j c.if2.false))
+    write_end at.loop.invariant.1 (omega (arith, ltb-false 0 at.loop.j c.if2.false))
 
-pub write-entries-spec : {M : Type 1} → statement M
-write-entries-spec = tie.close (tie.spec
+pub write_entries_spec : {M : Type 1} → statement M
+write_entries_spec = tie.close (tie.spec
     invariant-loop
     decreases-loop
-    (λ c. (refl, write-start))
+    (λ c. (refl, write_start))
     left
     (λ c κs. search rules)
     less

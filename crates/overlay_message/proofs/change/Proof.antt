@@ -1,87 +1,87 @@
 -- `overlay_message::change` meets its contract, by what the index says. Assumes nothing.
 use borrow.Author.Rules.{rules}
-use Rattle.overlay_message.specs.laws.Message.{ready-old, writable, many-trips, many-updates, exchanged}
+use Rattle.overlay_message.specs.Laws.Message.{ready_old, writable, many_trips, many_updates, exchanged}
 use Rattle.overlay_message.proofs.change.Statement.{statement}
 use Rattle.overlay_message.proofs.change.Tie as tie
 
 -- the places that the needs go back to
-abbrev to-keys : tie.After-n → tie.After-keys
-to-keys c = c.before.before.before.before.before.before.before
+abbrev to_keys : tie.After-n → tie.After-keys
+to_keys c = c.before.before.before.before.before.before.before
 
-abbrev to-leave : tie.After-n → tie.After-leave
-to-leave c = (to-keys c).before
+abbrev to_leave : tie.After-n → tie.After-leave
+to_leave c = (to_keys c).before
 
 abbrev to_front : tie.After-leave → tie.After-read-front
 to_front c = c.before.before.before.before
 
-abbrev to-slices : tie.After-read-front → tie.After-shared-slice-known
-to-slices c = c.before.before.before.before
+abbrev to_slices : tie.After-read-front → tie.After-shared-slice-known
+to_slices c = c.before.before.before.before
 
 abbrev to_start : tie.After-read-front → tie.Start
-to_start c = (to-slices c).before.before.before.before.before
+to_start c = (to_slices c).before.before.before.before.before
 
-abbrev to-behind : tie.After-write-state → tie.After-behind
-to-behind c = c.before.before.before.before.before
+abbrev to_behind : tie.After-write-state → tie.After-behind
+to_behind c = c.before.before.before.before.before
 
-leave-requires : tie.Need-leave-requires
-leave-requires c κs =
+leave_requires : tie.Need-leave-requires
+leave_requires c κs =
     let at_front = c.before.before.before in
     let pre = (to_start at_front).requires in
-    (pre.0, (pre.1.0, (pre.1.1.0, ready-old pre.1.1.1 at_front.read-front.ensures)))
+    (pre.0, (pre.1.0, (pre.1.1.0, ready_old pre.1.1.1 at_front.read-front.ensures)))
 
-write-state-requires : tie.Need-write-state-requires
-write-state-requires c κs =
+write_state_requires : tie.Need-write-state-requires
+write_state_requires c κs =
     let at_n = c.before.before.before.before.before.before.before in
-    let at-leave = to-leave at_n in
-    let at_front = to_front at-leave in
+    let at_leave = to_leave at_n in
+    let at_front = to_front at_leave in
     let pre = (to_start at_front).pre in (
       pre.1.0.1,
-      writable pre.1.1.1 at_front.read-front.ensures at-leave.leave.ensures at_n.n.given.1,
+      writable pre.1.1.1 at_front.read-front.ensures at_leave.leave.ensures at_n.n.given.1,
     )
 
 returns : tie.Need-returns
 returns c =
-    let at-leave = c.before.before.before.before.before.before.before.before in
-    let at_front = to_front at-leave in
-    many-trips (to_start at_front).pre.1.1.1 at_front.read-front.ensures at-leave.leave.ensures
+    let at_leave = c.before.before.before.before.before.before.before.before in
+    let at_front = to_front at_leave in
+    many_trips (to_start at_front).pre.1.1.1 at_front.read-front.ensures at_leave.leave.ensures
     c.enum_told.given.1
 
-returns-2 : tie.Need-returns-2
-returns-2 c =
-    let at-leave = c.before.before.before.before.before.before.before.before in
-    let at_front = to_front at-leave in
-    many-updates (to_start at_front).pre.1.1.1 at_front.read-front.ensures at-leave.leave.ensures
+returns_2 : tie.Need-returns-2
+returns_2 c =
+    let at_leave = c.before.before.before.before.before.before.before.before in
+    let at_front = to_front at_leave in
+    many_updates (to_start at_front).pre.1.1.1 at_front.read-front.ensures at_leave.leave.ensures
     c.enum-told2.given.1
 
 same_keys : tie.Need-same-length-8
 same_keys c =
-    let at_n = (to-behind c.before.before).before.before.before in
-    search (rules, (to-keys at_n).keys)
+    let at_n = (to_behind c.before.before).before.before.before in
+    search (rules, (to_keys at_n).keys)
 
-returns-3 : tie.Need-returns-3
-returns-3 c =
-    let at-write-state = c.before.before in
-    let at-behind = to-behind at-write-state in
-    let at-read-back = at-behind.before in
-    let at_n = at-read-back.before.before in
-    let at-leave = to-leave at_n in
-    let at_front = to_front at-leave in
-    exchanged (to_start at_front).pre.1.1.1 at_front.read-front.ensures at-leave.leave.ensures
-    at_n.n.given.1 at-read-back.read_back.ensures at-behind.behind.ensures
-    at-write-state.write-state.ensures
+returns_3 : tie.Need-returns-3
+returns_3 c =
+    let at_write_state = c.before.before in
+    let at_behind = to_behind at_write_state in
+    let at_read_back = at_behind.before in
+    let at_n = at_read_back.before.before in
+    let at_leave = to_leave at_n in
+    let at_front = to_front at_leave in
+    exchanged (to_start at_front).pre.1.1.1 at_front.read-front.ensures at_leave.leave.ensures
+    at_n.n.given.1 at_read_back.read_back.ensures at_behind.behind.ensures
+    at_write_state.write-state.ensures
 
-pub change-spec : {M : Type 1} → statement M
-change-spec =
+pub change_spec : {M : Type 1} → statement M
+change_spec =
     tie.close
     (tie.spec
     (λ c κs. search rules)
-    leave-requires
+    leave_requires
     (λ c. search rules)
     (λ c. search rules)
     (λ c. search rules)
     (λ c κs. search rules)
     (λ c κs. search rules)
-    write-state-requires
+    write_state_requires
     (λ c. search rules)
     (λ c. search rules)
     (λ c. search rules)
@@ -89,9 +89,9 @@ change-spec =
     (λ c. search rules)
     (λ c. search rules)
     (λ c. search rules)
-    returns-2
+    returns_2
     (λ c. search rules)
     same_keys
     (λ c. search rules)
     (λ c. search rules)
-    returns-3)
+    returns_3)

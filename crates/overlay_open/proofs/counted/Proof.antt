@@ -1,44 +1,44 @@
 -- `overlay_open::counted` meets its contract.
-use Rattle.overlay_open.specs.laws.Feed.{counted-no, counted-over, counted-so}
-use Rattle.overlay_noted.specs.laws.Passes.{unless-no}
-use Rattle.overlay_open.specs.laws.Records.{counted-put}
+use Rattle.overlay_open.specs.Laws.Feed.{counted_no, counted_over, counted_so}
+use Rattle.overlay_noted.specs.Laws.Passes.{unless_no}
+use Rattle.overlay_open.specs.Laws.Records.{counted_put}
 use borrow.Author.Rules.{rules}
 use Rattle.overlay_open.proofs.counted.Statement.{statement}
 use Rattle.overlay_open.proofs.counted.Tie as tie
 
-number-at-requires : tie.Need-number-at-requires
-number-at-requires c κs = search rules
+number_at_requires : tie.Need-number-at-requires
+number_at_requires c κs = search rules
 
-enum-known-c : tie.Need-enum-known-c
-enum-known-c c = search rules
+enum_known_c : tie.Need-enum-known-c
+enum_known_c c = search rules
 
 enum_told : tie.Need-enum-told
 enum_told c = search rules
 
 returns : tie.Need-returns
-returns c = (search counted-no, unless-no)
+returns c = (search counted_no, unless_no)
 
-returns-2 : tie.Need-returns-2
-returns-2 c = (search counted-over, unless-no)
+returns_2 : tie.Need-returns-2
+returns_2 c = (search counted_over, unless_no)
 
-records-requires : tie.Need-records-requires
-records-requires c κs = search rules
+records_requires : tie.Need-records-requires
+records_requires c κs = search rules
 
 same_length : tie.Need-same-length
 same_length c = search rules
 
-returns-3 : tie.Need-returns-3
-returns-3 c = (search counted-so, search counted-put)
+returns_3 : tie.Need-returns-3
+returns_3 c = (search counted_so, search counted_put)
 
 pub counted_spec : {M : Type 1} → statement M
 counted_spec =
     tie.close
     (tie.spec
-    number-at-requires
-    enum-known-c
+    number_at_requires
+    enum_known_c
     enum_told
     returns
-    returns-2
-    records-requires
+    returns_2
+    records_requires
     same_length
-    returns-3)
+    returns_3)

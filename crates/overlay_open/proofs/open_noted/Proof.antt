@@ -1,16 +1,16 @@
 -- `overlay_open::open_noted` meets its contract.
-use Rattle.formats_check.specs.laws.Checked.{tested-in}
-use Rattle.overlay_open.specs.laws.Opened.{open_none, open-rest, open-so}
-use Rattle.overlay_open.specs.laws.Feeds.{notes-no, notes-so}
+use Rattle.formats_check.specs.Laws.Checked.{tested_in}
+use Rattle.overlay_open.specs.Laws.Opened.{open_none, open_rest, open_so}
+use Rattle.overlay_open.specs.Laws.Feeds.{notes_no, notes_so}
 use borrow.Author.Rules.{rules}
 use Rattle.overlay_open.proofs.open_noted.Statement.{statement}
 use Rattle.overlay_open.proofs.open_noted.Tie as tie
 
-state-requires : tie.Need-state-requires
-state-requires c κs = search rules
+state_requires : tie.Need-state-requires
+state_requires c κs = search rules
 
-enum-known-p : tie.Need-enum-known-p
-enum-known-p c = search rules
+enum_known_p : tie.Need-enum-known-p
+enum_known_p c = search rules
 
 enum_told : tie.Need-enum-told
 enum_told c = search rules
@@ -19,46 +19,46 @@ same_length : tie.Need-same-length
 same_length c = search rules
 
 returns : tie.Need-returns
-returns c = (search open_none, notes-no)
+returns c = (search open_none, notes_no)
 
-sub-all-zero : tie.Need-overflow-sub-all-zero
-sub-all-zero c = search tested-in
+sub_all_zero : tie.Need-overflow-sub-all-zero
+sub_all_zero c = search tested_in
 
-part-all-zero-start : tie.Need-slice-bounds-all-zero-start
-part-all-zero-start c = search tested-in
+part_all_zero_start : tie.Need-slice-bounds-all-zero-start
+part_all_zero_start c = search tested_in
 
-part-all-zero-end : tie.Need-slice-bounds-all-zero-end
-part-all-zero-end c = search rules
+part_all_zero_end : tie.Need-slice-bounds-all-zero-end
+part_all_zero_end c = search rules
 
-all-zero-requires : tie.Need-all-zero-requires
-all-zero-requires c κs = search rules
+all_zero_requires : tie.Need-all-zero-requires
+all_zero_requires c κs = search rules
 
-same-length-2 : tie.Need-same-length-2
-same-length-2 c = search rules
+same_length_2 : tie.Need-same-length-2
+same_length_2 c = search rules
 
-returns-2 : tie.Need-returns-2
-returns-2 c = (search open-so, search (notes-so, open-so))
+returns_2 : tie.Need-returns-2
+returns_2 c = (search open_so, search (notes_so, open_so))
 
-same-length-3 : tie.Need-same-length-3
-same-length-3 c = search rules
+same_length_3 : tie.Need-same-length-3
+same_length_3 c = search rules
 
-returns-3 : tie.Need-returns-3
-returns-3 c = (search open-rest, notes-no)
+returns_3 : tie.Need-returns-3
+returns_3 c = (search open_rest, notes_no)
 
-pub open-noted-spec : {M : Type 1} → statement M
-open-noted-spec =
+pub open_noted_spec : {M : Type 1} → statement M
+open_noted_spec =
     tie.close
     (tie.spec
-    state-requires
-    enum-known-p
+    state_requires
+    enum_known_p
     enum_told
     same_length
     returns
-    sub-all-zero
-    part-all-zero-start
-    part-all-zero-end
-    all-zero-requires
-    same-length-2
-    returns-2
-    same-length-3
-    returns-3)
+    sub_all_zero
+    part_all_zero_start
+    part_all_zero_end
+    all_zero_requires
+    same_length_2
+    returns_2
+    same_length_3
+    returns_3)

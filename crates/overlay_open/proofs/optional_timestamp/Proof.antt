@@ -1,42 +1,42 @@
 -- `overlay_open::optional_timestamp` meets its contract.
-use Rattle.formats_check.specs.laws.Checked.{optional-end, optional-absent, optional-other, optional-given}
+use Rattle.formats_check.specs.Laws.Checked.{optional_end, optional_absent, optional_other, optional_given}
 use borrow.Author.Rules.{rules}
 use Rattle.overlay_open.proofs.optional_timestamp.Statement.{statement}
 use Rattle.overlay_open.proofs.optional_timestamp.Tie as tie
 
 returns : tie.Need-returns
-returns c = search optional-end
+returns c = search optional_end
 
-shared-slice-read-c : tie.Need-shared-slice-read-c
-shared-slice-read-c c = search rules
+shared_slice_read_c : tie.Need-shared-slice-read-c
+shared_slice_read_c c = search rules
 
-add-t8 : tie.Need-overflow-add-t8
-add-t8 c = search rules
+add_t8 : tie.Need-overflow-add-t8
+add_t8 c = search rules
 
-returns-2 : tie.Need-returns-2
-returns-2 c = search optional-absent
+returns_2 : tie.Need-returns-2
+returns_2 c = search optional_absent
 
-add-timestamp : tie.Need-overflow-add-timestamp
-add-timestamp c = search rules
+add_timestamp : tie.Need-overflow-add-timestamp
+add_timestamp c = search rules
 
-timestamp-requires : tie.Need-timestamp-requires
-timestamp-requires c κs = search rules
+timestamp_requires : tie.Need-timestamp-requires
+timestamp_requires c κs = search rules
 
-returns-3 : tie.Need-returns-3
-returns-3 c = search optional-given
+returns_3 : tie.Need-returns-3
+returns_3 c = search optional_given
 
-returns-4 : tie.Need-returns-4
-returns-4 c = search optional-other
+returns_4 : tie.Need-returns-4
+returns_4 c = search optional_other
 
-pub optional-timestamp-spec : {M : Type 1} → statement M
-optional-timestamp-spec =
+pub optional_timestamp_spec : {M : Type 1} → statement M
+optional_timestamp_spec =
     tie.close
     (tie.spec
     returns
-    shared-slice-read-c
-    add-t8
-    returns-2
-    add-timestamp
-    timestamp-requires
-    returns-3
-    returns-4)
+    shared_slice_read_c
+    add_t8
+    returns_2
+    add_timestamp
+    timestamp_requires
+    returns_3
+    returns_4)

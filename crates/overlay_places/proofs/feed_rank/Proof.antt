@@ -1,6 +1,6 @@
 -- `overlay_places::feed_rank`: every feed at a lower rank comes before the one that is sought.
-use Rattle.overlay_places.specs.laws.Ranks.{Ranking, ranking-start, rank-low, ranking-on, noted-room}
-use Rattle.overlay_places.specs.laws.Ranks.{rank-none, rank_less, rank_same}
+use Rattle.overlay_places.specs.Laws.Ranks.{Ranking, ranking_start, rank_low, ranking_on, noted_room}
+use Rattle.overlay_places.specs.Laws.Ranks.{rank_none, rank_less, rank_same}
 use borrow.Author.Rules.{rules}
 use Prim.Native.Nat.{◌<◌}
 use native.Mathlib.Omega.{arith}
@@ -16,17 +16,17 @@ decreases-loop s places feed left₀ r₀ left r = left
 add_r : tie.Need-overflow-add-r invariant-loop decreases-loop
 add_r c =
     let turn = c.before.before.before.before.before in
-    let h : turn.loop.r < 4 = search rank-low in omega arith
+    let h : turn.loop.r < 4 = search rank_low in omega arith
 
-pub feed-rank-spec : {M : Type 1} → statement M
-feed-rank-spec =
+pub feed_rank_spec : {M : Type 1} → statement M
+feed_rank_spec =
     tie.close
     (tie.spec
     invariant-loop
     decreases-loop
     (λ c κs. search rules)
-    (λ c. search ranking-start)
-    (λ c κs. (search noted-room, search rank-low))
+    (λ c. search ranking_start)
+    (λ c κs. (search noted_room, search rank_low))
     (λ c κs. search rules)
     (λ c. search rules)
     (λ c. search rank_less)
@@ -36,5 +36,5 @@ feed-rank-spec =
     add_r
     (λ c. search rules)
     (λ c. search rules)
-    (λ c. search ranking-on)
-    (λ c. search rank-none))
+    (λ c. search ranking_on)
+    (λ c. search rank_none))

@@ -1,8 +1,8 @@
 -- `overlay_records::alerts_from` meets its contract.
 use Prim.Native.Nat.{◌≤◌}
 use lib.ListN.{length}
-use Rattle.formats_check.specs.laws.Checked.{check-in}
-use Rattle.formats_check.specs.laws.Walks.{Eaching, each-end, each-no, each-so, each_start}
+use Rattle.formats_check.specs.Laws.Checked.{check_in}
+use Rattle.formats_check.specs.Laws.Walks.{Eaching, each_end, each_no, each_so, each_start}
 use Rattle.alerts.specs.Alert.{alert}
 use borrow.Author.Rules.{rules}
 use Rattle.overlay_records.proofs.alerts_from.Statement.{statement}
@@ -14,45 +14,45 @@ invariant-loop n old at p₀ left₀ p left = (p ≤ length old) × Eaching aler
 abbrev decreases-loop : tie.decreases-loop
 decreases-loop n old at p₀ left₀ p left = left
 
-loop-holds : tie.Need-loop-init invariant-loop decreases-loop
-loop-holds c = (search rules, search each_start)
+loop_holds : tie.Need-loop-init invariant-loop decreases-loop
+loop_holds c = (search rules, search each_start)
 
-alert-requires : tie.Need-alert-requires invariant-loop decreases-loop
-alert-requires c κs = search rules
+alert_requires : tie.Need-alert-requires invariant-loop decreases-loop
+alert_requires c κs = search rules
 
-enum-known-q : tie.Need-enum-known-q invariant-loop decreases-loop
-enum-known-q c = search rules
+enum_known_q : tie.Need-enum-known-q invariant-loop decreases-loop
+enum_known_q c = search rules
 
 enum_told : tie.Need-enum-told invariant-loop decreases-loop
 enum_told c = search rules
 
 returns : tie.Need-returns invariant-loop decreases-loop
-returns c = search each-no
+returns c = search each_no
 
-sub-left : tie.Need-overflow-sub-left invariant-loop decreases-loop
-sub-left c = search rules
+sub_left : tie.Need-overflow-sub-left invariant-loop decreases-loop
+sub_left c = search rules
 
-loop-less : tie.Need-loop-smaller invariant-loop decreases-loop
-loop-less c = search rules
+loop_less : tie.Need-loop-smaller invariant-loop decreases-loop
+loop_less c = search rules
 
-loop-again : tie.Need-loop-preserved invariant-loop decreases-loop
-loop-again c = (search check-in, search each-so)
+loop_again : tie.Need-loop-preserved invariant-loop decreases-loop
+loop_again c = (search check_in, search each_so)
 
-returns-2 : tie.Need-returns-2 invariant-loop decreases-loop
-returns-2 c = search each-end
+returns_2 : tie.Need-returns-2 invariant-loop decreases-loop
+returns_2 c = search each_end
 
-pub alerts-from-spec : {M : Type 1} → statement M
-alerts-from-spec =
+pub alerts_from_spec : {M : Type 1} → statement M
+alerts_from_spec =
     tie.close
     (tie.spec
     invariant-loop
     decreases-loop
-    loop-holds
-    alert-requires
-    enum-known-q
+    loop_holds
+    alert_requires
+    enum_known_q
     enum_told
     returns
-    sub-left
-    loop-less
-    loop-again
-    returns-2)
+    sub_left
+    loop_less
+    loop_again
+    returns_2)

@@ -1,50 +1,50 @@
 -- `overlay_records::position` meets its contract.
-use Rattle.formats_check.specs.laws.Checked.{then-no, then-so}
+use Rattle.formats_check.specs.Laws.Checked.{then_no, then_so}
 use borrow.Author.Rules.{rules}
 use Rattle.overlay_records.proofs.position.Statement.{statement}
 use Rattle.overlay_records.proofs.position.Tie as tie
 
-float-requires : tie.Need-float-requires
-float-requires c κs = search rules
+float_requires : tie.Need-float-requires
+float_requires c κs = search rules
 
-enum-known-p : tie.Need-enum-known-p
-enum-known-p c = search rules
+enum_known_p : tie.Need-enum-known-p
+enum_known_p c = search rules
 
 enum_told : tie.Need-enum-told
 enum_told c = search rules
 
 returns : tie.Need-returns
-returns c = search then-no
+returns c = search then_no
 
-float-requires-2 : tie.Need-float-requires-2
-float-requires-2 c κs = search rules
+float_requires_2 : tie.Need-float-requires-2
+float_requires_2 c κs = search rules
 
-enum-known-q : tie.Need-enum-known-q
-enum-known-q c = search rules
+enum_known_q : tie.Need-enum-known-q
+enum_known_q c = search rules
 
-enum-told-2 : tie.Need-enum-told-2
-enum-told-2 c = search rules
+enum_told_2 : tie.Need-enum-told-2
+enum_told_2 c = search rules
 
-returns-2 : tie.Need-returns-2
-returns-2 c = search (then-so, then-no)
+returns_2 : tie.Need-returns-2
+returns_2 c = search (then_so, then_no)
 
-instant-requires : tie.Need-instant-requires
-instant-requires c κs = search rules
+instant_requires : tie.Need-instant-requires
+instant_requires c κs = search rules
 
-returns-3 : tie.Need-returns-3
-returns-3 c = search then-so
+returns_3 : tie.Need-returns-3
+returns_3 c = search then_so
 
-pub position-spec : {M : Type 1} → statement M
-position-spec =
+pub position_spec : {M : Type 1} → statement M
+position_spec =
     tie.close
     (tie.spec
-    float-requires
-    enum-known-p
+    float_requires
+    enum_known_p
     enum_told
     returns
-    float-requires-2
-    enum-known-q
-    enum-told-2
-    returns-2
-    instant-requires
-    returns-3)
+    float_requires_2
+    enum_known_q
+    enum_told_2
+    returns_2
+    instant_requires
+    returns_3)

@@ -1,34 +1,34 @@
 -- `overlay_records::vehicle` meets its contract.
-use Rattle.formats_check.specs.laws.Checked.{then-no, then-so}
+use Rattle.formats_check.specs.Laws.Checked.{then_no, then_so}
 use borrow.Author.Rules.{rules}
 use Rattle.overlay_records.proofs.vehicle.Statement.{statement}
 use Rattle.overlay_records.proofs.vehicle.Tie as tie
 
-optional-printable-requires : tie.Need-optional-printable-requires
-optional-printable-requires c κs = search rules
+optional_printable_requires : tie.Need-optional-printable-requires
+optional_printable_requires c κs = search rules
 
-enum-known-p : tie.Need-enum-known-p
-enum-known-p c = search rules
+enum_known_p : tie.Need-enum-known-p
+enum_known_p c = search rules
 
 enum_told : tie.Need-enum-told
 enum_told c = search rules
 
 returns : tie.Need-returns
-returns c = search then-no
+returns c = search then_no
 
-position-requires : tie.Need-position-requires
-position-requires c κs = search rules
+position_requires : tie.Need-position-requires
+position_requires c κs = search rules
 
-returns-2 : tie.Need-returns-2
-returns-2 c = search then-so
+returns_2 : tie.Need-returns-2
+returns_2 c = search then_so
 
-pub vehicle-spec : {M : Type 1} → statement M
-vehicle-spec =
+pub vehicle_spec : {M : Type 1} → statement M
+vehicle_spec =
     tie.close
     (tie.spec
-    optional-printable-requires
-    enum-known-p
+    optional_printable_requires
+    enum_known_p
     enum_told
     returns
-    position-requires
-    returns-2)
+    position_requires
+    returns_2)

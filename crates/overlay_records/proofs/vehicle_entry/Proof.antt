@@ -1,46 +1,46 @@
 -- `overlay_records::vehicle_entry` meets its contract.
-use Rattle.overlay_records.specs.laws.Records.{vehicle-key, vehicle-none, vehicle-so}
+use Rattle.overlay_records.specs.Laws.Records.{vehicle_key, vehicle_none, vehicle_so}
 use borrow.Author.Rules.{rules}
 use Rattle.overlay_records.proofs.vehicle_entry.Statement.{statement}
 use Rattle.overlay_records.proofs.vehicle_entry.Tie as tie
 
-printable-at-requires : tie.Need-printable-at-requires
-printable-at-requires c κs = search rules
+printable_at_requires : tie.Need-printable-at-requires
+printable_at_requires c κs = search rules
 
-enum-known-a : tie.Need-enum-known-a
-enum-known-a c = search rules
+enum_known_a : tie.Need-enum-known-a
+enum_known_a c = search rules
 
 enum_told : tie.Need-enum-told
 enum_told c = search rules
 
 returns : tie.Need-returns
-returns c = search vehicle-key
+returns c = search vehicle_key
 
-vehicle-requires : tie.Need-vehicle-requires
-vehicle-requires c κs = search rules
+vehicle_requires : tie.Need-vehicle-requires
+vehicle_requires c κs = search rules
 
-enum-known-q : tie.Need-enum-known-q
-enum-known-q c = search rules
+enum_known_q : tie.Need-enum-known-q
+enum_known_q c = search rules
 
-enum-told-2 : tie.Need-enum-told-2
-enum-told-2 c = search rules
+enum_told_2 : tie.Need-enum-told-2
+enum_told_2 c = search rules
 
-returns-2 : tie.Need-returns-2
-returns-2 c = search (vehicle-so, vehicle-none)
+returns_2 : tie.Need-returns-2
+returns_2 c = search (vehicle_so, vehicle_none)
 
-returns-3 : tie.Need-returns-3
-returns-3 c = search (vehicle-so, vehicle-none)
+returns_3 : tie.Need-returns-3
+returns_3 c = search (vehicle_so, vehicle_none)
 
-pub vehicle-entry-spec : {M : Type 1} → statement M
-vehicle-entry-spec =
+pub vehicle_entry_spec : {M : Type 1} → statement M
+vehicle_entry_spec =
     tie.close
     (tie.spec
-    printable-at-requires
-    enum-known-a
+    printable_at_requires
+    enum_known_a
     enum_told
     returns
-    vehicle-requires
-    enum-known-q
-    enum-told-2
-    returns-2
-    returns-3)
+    vehicle_requires
+    enum_known_q
+    enum_told_2
+    returns_2
+    returns_3)

@@ -1,39 +1,39 @@
 -- `overlay_records::vehicles` meets its contract.
-use Rattle.formats_check.specs.laws.Elements.{in_place}
-use Rattle.formats_check.specs.laws.Climbing.{climbs-no, climbs-many, climbs-so}
+use Rattle.formats_check.specs.Laws.Elements.{in_place}
+use Rattle.formats_check.specs.Laws.Climbing.{climbs_no, climbs_many, climbs_so}
 use borrow.Author.Rules.{rules}
 use Rattle.overlay_records.proofs.vehicles.Statement.{statement}
 use Rattle.overlay_records.proofs.vehicles.Tie as tie
 
-number-at-requires : tie.Need-number-at-requires
-number-at-requires c κs = search rules
+number_at_requires : tie.Need-number-at-requires
+number_at_requires c κs = search rules
 
-enum-known-n : tie.Need-enum-known-n
-enum-known-n c = search rules
+enum_known_n : tie.Need-enum-known-n
+enum_known_n c = search rules
 
 enum_told : tie.Need-enum-told
 enum_told c = search rules
 
 returns : tie.Need-returns
-returns c = search climbs-no
+returns c = search climbs_no
 
-returns-2 : tie.Need-returns-2
-returns-2 c = search climbs-many
+returns_2 : tie.Need-returns-2
+returns_2 c = search climbs_many
 
-vehicles-from-requires : tie.Need-vehicles-from-requires
-vehicles-from-requires c κs = search in_place
+vehicles_from_requires : tie.Need-vehicles-from-requires
+vehicles_from_requires c κs = search in_place
 
-returns-3 : tie.Need-returns-3
-returns-3 c = search climbs-so
+returns_3 : tie.Need-returns-3
+returns_3 c = search climbs_so
 
-pub vehicles-spec : {M : Type 1} → statement M
-vehicles-spec =
+pub vehicles_spec : {M : Type 1} → statement M
+vehicles_spec =
     tie.close
     (tie.spec
-    number-at-requires
-    enum-known-n
+    number_at_requires
+    enum_known_n
     enum_told
     returns
-    returns-2
-    vehicles-from-requires
-    returns-3)
+    returns_2
+    vehicles_from_requires
+    returns_3)

@@ -1,13 +1,13 @@
 -- `resolve` meets its contract.
-use Rattle.overlay_resolve.specs.laws.Resolve.{by-id, by-leg}
+use Rattle.overlay_resolve.specs.Laws.Resolve.{by_id, by_leg}
 use borrow.Author.Rules.{rules}
 use lib.ListN.{length-take}
 use native.Mathlib.Omega.{arith}
 use Rattle.overlay_resolve.proofs.resolve.Statement.{statement}
 use Rattle.overlay_resolve.proofs.resolve.Tie as tie
 
-pub resolve-spec : {M : Type 1} → statement M
-resolve-spec =
+pub resolve_spec : {M : Type 1} → statement M
+resolve_spec =
     tie.close
     (tie.spec
     (λ c κs. search rules)
@@ -16,5 +16,5 @@ resolve-spec =
     (λ c. search rules)
     (λ c. search rules)
     (λ c κs. search rules)
-    (λ c. search by-id)
-    (λ c. search by-leg))
+    (λ c. search by_id)
+    (λ c. search by_leg))

@@ -1,6 +1,6 @@
 -- `put_alerts` meets its contract.
 use Rattle.std.proofs.Common.{rules}
-use Rattle.overlay_sheets.specs.laws.Sheets.{alerts-changed}
+use Rattle.overlay_sheets.specs.Laws.Sheets.{alerts_changed}
 use Rattle.overlay_sheets.proofs.put_alerts.Statement.{statement}
 use Rattle.overlay_sheets.proofs.put_alerts.Tie as tie
 
@@ -17,11 +17,11 @@ returns : tie.Need-returns
 returns c = λ s vs B I u.
     let o = opened (bodied c) in
     let b = found o in
-    alerts-changed B b.behind.ensures o.opening.ensures c.before.before.closing.ensures
+    alerts_changed B b.behind.ensures o.opening.ensures c.before.before.closing.ensures
     b.before.before.read_head.ensures b.before.read-parts.ensures I u (bodied c).alerts-over.ensures
 
-pub put-alerts-spec : {M : Type 1} → statement M
-put-alerts-spec = tie.close (tie.spec
+pub put_alerts_spec : {M : Type 1} → statement M
+put_alerts_spec = tie.close (tie.spec
     (λ c κs. search rules)
     (λ c κs. search rules)
     (λ c κs. search rules)

@@ -1,7 +1,7 @@
 -- `write_vehicles` meets its contract.
 use Rattle.std.proofs.Common.{rules}
-use Rattle.overlay.specs.Change.{feedAt}
-use Rattle.overlay_sheets.specs.laws.Sheets.{vehicles-written}
+use Rattle.overlay.specs.Change.{feed_at}
+use Rattle.overlay_sheets.specs.Laws.Sheets.{vehicles_written}
 use Rattle.overlay_sheets.proofs.write_vehicles.Statement.{statement}
 use Rattle.overlay_sheets.proofs.write_vehicles.Tie as tie
 
@@ -25,12 +25,12 @@ returns c = λ s xs clock B R e I k.
     let o = opened (bodied c) in
     let b = found o in
     let w = wrapped b in
-    vehicles-written B b.behind.ensures o.opening.ensures c.before.before.closing.ensures xs clock
+    vehicles_written B b.behind.ensures o.opening.ensures c.before.before.closing.ensures xs clock
     w.before.read_head.ensures w.wrapping-add-u64.ensures R
-    (λ T. (bodied c).vehicles-over.ensures (feedAt (start w).args.feed.now s) B.till xs clock e T I k)
+    (λ T. (bodied c).vehicles-over.ensures (feed_at (start w).args.feed.now s) B.till xs clock e T I k)
 
-pub write-vehicles-spec : {M : Type 1} → statement M
-write-vehicles-spec = tie.close (tie.spec
+pub write_vehicles_spec : {M : Type 1} → statement M
+write_vehicles_spec = tie.close (tie.spec
     (λ c κs. search rules)
     (λ c κs. search rules)
     (λ c κs. search rules)

@@ -1,50 +1,50 @@
 -- `overlay_trip::departure` meets its contract.
-use Rattle.formats_check.specs.laws.Checked.{then-no, then-so}
+use Rattle.formats_check.specs.Laws.Checked.{then_no, then_so}
 use borrow.Author.Rules.{rules}
 use Rattle.overlay_trip.proofs.departure.Statement.{statement}
 use Rattle.overlay_trip.proofs.departure.Tie as tie
 
-optional-word-requires : tie.Need-optional-word-requires
-optional-word-requires c κs = search rules
+optional_word_requires : tie.Need-optional-word-requires
+optional_word_requires c κs = search rules
 
-enum-known-p : tie.Need-enum-known-p
-enum-known-p c = search rules
+enum_known_p : tie.Need-enum-known-p
+enum_known_p c = search rules
 
 enum_told : tie.Need-enum-told
 enum_told c = search rules
 
 returns : tie.Need-returns
-returns c = search then-no
+returns c = search then_no
 
-optional-instant-requires : tie.Need-optional-instant-requires
-optional-instant-requires c κs = search rules
+optional_instant_requires : tie.Need-optional-instant-requires
+optional_instant_requires c κs = search rules
 
-enum-known-q : tie.Need-enum-known-q
-enum-known-q c = search rules
+enum_known_q : tie.Need-enum-known-q
+enum_known_q c = search rules
 
-enum-told-2 : tie.Need-enum-told-2
-enum-told-2 c = search rules
+enum_told_2 : tie.Need-enum-told-2
+enum_told_2 c = search rules
 
-returns-2 : tie.Need-returns-2
-returns-2 c = search (then-so, then-no)
+returns_2 : tie.Need-returns-2
+returns_2 c = search (then_so, then_no)
 
-at-most-requires : tie.Need-at-most-requires
-at-most-requires c κs = search rules
+at_most_requires : tie.Need-at-most-requires
+at_most_requires c κs = search rules
 
-returns-3 : tie.Need-returns-3
-returns-3 c = search then-so
+returns_3 : tie.Need-returns-3
+returns_3 c = search then_so
 
-pub departure-spec : {M : Type 1} → statement M
-departure-spec =
+pub departure_spec : {M : Type 1} → statement M
+departure_spec =
     tie.close
     (tie.spec
-    optional-word-requires
-    enum-known-p
+    optional_word_requires
+    enum_known_p
     enum_told
     returns
-    optional-instant-requires
-    enum-known-q
-    enum-told-2
-    returns-2
-    at-most-requires
-    returns-3)
+    optional_instant_requires
+    enum_known_q
+    enum_told_2
+    returns_2
+    at_most_requires
+    returns_3)

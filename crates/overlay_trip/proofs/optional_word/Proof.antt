@@ -1,42 +1,42 @@
 -- `overlay_trip::optional_word` meets its contract.
-use Rattle.formats_check.specs.laws.Checked.{optional-end, optional-absent, optional-given, optional-other}
+use Rattle.formats_check.specs.Laws.Checked.{optional_end, optional_absent, optional_given, optional_other}
 use borrow.Author.Rules.{rules}
 use Rattle.overlay_trip.proofs.optional_word.Statement.{statement}
 use Rattle.overlay_trip.proofs.optional_word.Tie as tie
 
 returns : tie.Need-returns
-returns c = (search optional-end, search optional-end)
+returns c = (search optional_end, search optional_end)
 
-shared-slice-read-c : tie.Need-shared-slice-read-c
-shared-slice-read-c c = search rules
+shared_slice_read_c : tie.Need-shared-slice-read-c
+shared_slice_read_c c = search rules
 
-add-t8 : tie.Need-overflow-add-t8
-add-t8 c = search rules
+add_t8 : tie.Need-overflow-add-t8
+add_t8 c = search rules
 
-returns-2 : tie.Need-returns-2
-returns-2 c = (search optional-absent, search optional-absent)
+returns_2 : tie.Need-returns-2
+returns_2 c = (search optional_absent, search optional_absent)
 
-add-word : tie.Need-overflow-add-word
-add-word c = search rules
+add_word : tie.Need-overflow-add-word
+add_word c = search rules
 
-word-requires : tie.Need-word-requires
-word-requires c κs = search rules
+word_requires : tie.Need-word-requires
+word_requires c κs = search rules
 
-returns-3 : tie.Need-returns-3
-returns-3 c = (search optional-given, search optional-given)
+returns_3 : tie.Need-returns-3
+returns_3 c = (search optional_given, search optional_given)
 
-returns-4 : tie.Need-returns-4
-returns-4 c = (search optional-other, search optional-other)
+returns_4 : tie.Need-returns-4
+returns_4 c = (search optional_other, search optional_other)
 
-pub optional-word-spec : {M : Type 1} → statement M
-optional-word-spec =
+pub optional_word_spec : {M : Type 1} → statement M
+optional_word_spec =
     tie.close
     (tie.spec
     returns
-    shared-slice-read-c
-    add-t8
-    returns-2
-    add-word
-    word-requires
-    returns-3
-    returns-4)
+    shared_slice_read_c
+    add_t8
+    returns_2
+    add_word
+    word_requires
+    returns_3
+    returns_4)

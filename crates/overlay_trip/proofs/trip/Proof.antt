@@ -1,66 +1,66 @@
 -- `overlay_trip::trip` meets its contract.
-use Rattle.formats_check.specs.laws.Checked.{behind-no, behind-so}
+use Rattle.formats_check.specs.Laws.Checked.{behind_no, behind_so}
 use borrow.Author.Rules.{rules}
 use Rattle.overlay_trip.proofs.trip.Statement.{statement}
 use Rattle.overlay_trip.proofs.trip.Tie as tie
 
-optional-word-requires : tie.Need-optional-word-requires
-optional-word-requires c κs = search rules
+optional_word_requires : tie.Need-optional-word-requires
+optional_word_requires c κs = search rules
 
-enum-known-p : tie.Need-enum-known-p
-enum-known-p c = search rules
+enum_known_p : tie.Need-enum-known-p
+enum_known_p c = search rules
 
 enum_told : tie.Need-enum-told
 enum_told c = search rules
 
 returns : tie.Need-returns
-returns c = search behind-no
+returns c = search behind_no
 
-at-most-requires : tie.Need-at-most-requires
-at-most-requires c κs = search rules
+at_most_requires : tie.Need-at-most-requires
+at_most_requires c κs = search rules
 
-enum-known-q : tie.Need-enum-known-q
-enum-known-q c = search rules
+enum_known_q : tie.Need-enum-known-q
+enum_known_q c = search rules
 
-enum-told-2 : tie.Need-enum-told-2
-enum-told-2 c = search rules
+enum_told_2 : tie.Need-enum-told-2
+enum_told_2 c = search rules
 
-returns-2 : tie.Need-returns-2
-returns-2 c = search (behind-so, behind-no)
+returns_2 : tie.Need-returns-2
+returns_2 c = search (behind_so, behind_no)
 
-printable-requires : tie.Need-printable-requires
-printable-requires c κs = search rules
+printable_requires : tie.Need-printable-requires
+printable_requires c κs = search rules
 
-enum-known-u : tie.Need-enum-known-u
-enum-known-u c = search rules
+enum_known_u : tie.Need-enum-known-u
+enum_known_u c = search rules
 
-enum-told-3 : tie.Need-enum-told-3
-enum-told-3 c = search rules
+enum_told_3 : tie.Need-enum-told-3
+enum_told_3 c = search rules
 
-returns-3 : tie.Need-returns-3
-returns-3 c = search (behind-so, behind-no)
+returns_3 : tie.Need-returns-3
+returns_3 c = search (behind_so, behind_no)
 
-from-route-requires : tie.Need-from-route-requires
-from-route-requires c κs = search rules
+from_route_requires : tie.Need-from-route-requires
+from_route_requires c κs = search rules
 
-returns-4 : tie.Need-returns-4
-returns-4 c = search behind-so
+returns_4 : tie.Need-returns-4
+returns_4 c = search behind_so
 
-pub trip-spec : {M : Type 1} → statement M
-trip-spec =
+pub trip_spec : {M : Type 1} → statement M
+trip_spec =
     tie.close
     (tie.spec
-    optional-word-requires
-    enum-known-p
+    optional_word_requires
+    enum_known_p
     enum_told
     returns
-    at-most-requires
-    enum-known-q
-    enum-told-2
-    returns-2
-    printable-requires
-    enum-known-u
-    enum-told-3
-    returns-3
-    from-route-requires
-    returns-4)
+    at_most_requires
+    enum_known_q
+    enum_told_2
+    returns_2
+    printable_requires
+    enum_known_u
+    enum_told_3
+    returns_3
+    from_route_requires
+    returns_4)

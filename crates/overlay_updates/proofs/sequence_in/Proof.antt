@@ -1,31 +1,31 @@
 -- `sequence_in` meets its contract.
 use borrow.Author.Rules.{rules}
 use Rattle.formats.specs.Format.{◌&◌}
-use Rattle.decode.specs.Trip.{number32, stopUpdate}
-use Rattle.overlay_seek.specs.laws.Seek.{Seeking, seek-start, seek-miss}
-use Rattle.overlay_updates.specs.promises.Updates.{numbered}
-use Rattle.overlay_updates.specs.laws.Updates.{sequence-hit, sequence-on}
+use Rattle.decode.specs.Trip.{number32, stop_update}
+use Rattle.overlay_seek.specs.Laws.Seek.{Seeking, seek_start, seek_miss}
+use Rattle.overlay_updates.specs.Promises.Updates.{numbered}
+use Rattle.overlay_updates.specs.Laws.Updates.{sequence_hit, sequence_on}
 use Rattle.overlay_updates.proofs.sequence_in.Statement.{statement}
 use Rattle.overlay_updates.proofs.sequence_in.Tie as tie
 
 abbrev invariant-loop : tie.invariant-loop
-invariant-loop s at n p₀ left₀ p left = Seeking (number32 & stopUpdate) (numbered n) s p₀ left₀ p left
+invariant-loop s at n p₀ left₀ p left = Seeking (number32 & stop_update) (numbered n) s p₀ left₀ p left
 
 abbrev decreases-loop : tie.decreases-loop
 decreases-loop s at n p₀ left₀ p left = left
 
-pub sequence-in-spec : {M : Type 1} → statement M
-sequence-in-spec =
+pub sequence_in_spec : {M : Type 1} → statement M
+sequence_in_spec =
     tie.close
     (tie.spec
     invariant-loop
     decreases-loop
     (λ c κs. search rules)
-    (λ c. seek-start)
+    (λ c. seek_start)
     (λ c κs. search rules)
-    (λ c. search sequence-hit)
+    (λ c. search sequence_hit)
     (λ c κs. search rules)
     (λ c. search rules)
     (λ c. search rules)
-    (λ c. search sequence-on)
-    (λ c. search seek-miss))
+    (λ c. search sequence_on)
+    (λ c. search seek_miss))

@@ -1,8 +1,8 @@
 -- `panel_alerts::sheet_ending` meets its contract.
 use borrow.Author.Rules.{rules}
 use mathlib.Core.Path.{refl, sym, ◌∙◌}
-use Rattle.panel_alerts.specs.laws.Alerts.{Passed, passed, short, sheetable, sheet-unsized, asked-no, too_many}
-use Rattle.panel_alerts.specs.laws.Alerts.{sheet-ends}
+use Rattle.panel_alerts.specs.Laws.Alerts.{Passed, passed, short, sheetable, sheet_unsized, asked_no, too_many}
+use Rattle.panel_alerts.specs.Laws.Alerts.{sheet_ends}
 use Rattle.panel_alerts.proofs.sheet_ending.Statement.{statement}
 use Rattle.panel_alerts.proofs.sheet_ending.Tie as tie
 
@@ -26,15 +26,15 @@ yes c =
 refused : tie.Need-returns-2
 refused c =
     let n = c.before in
-    asked-no (sized n).if1.false n.alerts-number.ensures c.if2.true
+    asked_no (sized n).if1.false n.alerts-number.ensures c.if2.true
 
 many : tie.Need-returns-3
 many c =
     let k = c.before in
     too_many (sized (asked k)).if1.false (yes k) k.kept.ensures c.if3.true
 
-write-sheet-requires : tie.Need-write-sheet-requires
-write-sheet-requires c κs =
+write_sheet_requires : tie.Need-write-sheet-requires
+write_sheet_requires c κs =
     let e = c.before in
     let k = e.before in
     (short (yes k), sheetable (yes k) k.kept.ensures e.if3.false)
@@ -44,19 +44,19 @@ written c =
     let w = c.before.before.before in
     let e = w.before.before in
     let k = e.before in
-    sheet-ends (sized (asked k)).if1.false (yes k) k.kept.ensures e.if3.false refl w.write-sheet.ensures
+    sheet_ends (sized (asked k)).if1.false (yes k) k.kept.ensures e.if3.false refl w.write-sheet.ensures
     c.ended.ensures
 
-pub sheet-ending-spec : {M : Type 1} → statement M
-sheet-ending-spec =
+pub sheet_ending_spec : {M : Type 1} → statement M
+sheet_ending_spec =
     tie.close
     (tie.spec
-    (λ c. sheet-unsized c.if1.true)
+    (λ c. sheet_unsized c.if1.true)
     (λ c κs. search rules)
     refused
     (λ c κs. search rules)
     many
-    write-sheet-requires
+    write_sheet_requires
     (λ c κs. search rules)
     (λ c. search rules)
     written)

@@ -10,5 +10,5 @@ returns c =
     let start = called.before.before.before.before.before.before in
     rw (to_z-of_z start.ranges.clock) at called.vehicle-sheet.ensures
 
-pub mipsuqal-vehicle-sheet-spec : {M : Type 1} → statement M
-mipsuqal-vehicle-sheet-spec = tie.close (tie.spec (λ c κs. search rules) (λ c. search rules) returns)
+pub mipsuqal_vehicle_sheet_spec : {M : Type 1} → statement M
+mipsuqal_vehicle_sheet_spec = tie.close (tie.spec (λ c κs. search rules) (λ c. search rules) returns)

@@ -3,7 +3,7 @@ use lib.ListN.{length}
 use borrow.Author.Rules.{rules}
 use borrow.Author.Tests.{not-true, not-false}
 use mathlib.Core.Path.{refl}
-use Rattle.panel_card.specs.laws.Card.{lends, card-unsized, asked-no, card-begins, nothing_known, card-ends}
+use Rattle.panel_card.specs.Laws.Card.{lends, card_unsized, asked_no, card_begins, nothing_known, card_ends}
 use Rattle.panel_card.proofs.card_ending.Statement.{statement}
 use Rattle.panel_card.proofs.card_ending.Tie as tie
 
@@ -23,8 +23,8 @@ measured c = c.before.before
 abbrev start : tie.Else1 → tie.Start
 start c = c.before.before.before.before.before.before.before.before.before.before.before
 
-asked-requires : tie.Need-asked-requires
-asked-requires c κs =
+asked_requires : tie.Need-asked-requires
+asked_requires c κs =
     let q = c.before in
     let s = start q in
     let a = s.args in
@@ -37,10 +37,10 @@ refused : tie.Need-returns-2
 refused c =
     let n = c.before.before.before in
     let q = measured n in
-    asked-no q.before.same-lengths.ensures (not-false _ q.if1.left) n.asked.ensures.0 c.if2.true
+    asked_no q.before.same-lengths.ensures (not-false _ q.if1.left) n.asked.ensures.0 c.if2.true
 
-finish-requires : tie.Need-finish-requires
-finish-requires c κs =
+finish_requires : tie.Need-finish-requires
+finish_requires c κs =
     let k = cleared c in
     let p = passed k in
     let n = answered p in
@@ -54,7 +54,7 @@ finish-requires c κs =
       (
         L.alerts,
         (
-          card-begins a.old.now a.card.now n.asked.ensures.0 p.if2.left,
+          card_begins a.old.now a.card.now n.asked.ensures.0 p.if2.left,
           nothing_known a.known.now k.fill32.ensures,
         ),
       ),
@@ -66,22 +66,22 @@ accepted c =
     let p = passed (cleared f.before) in
     let n = answered p in
     let q = measured n in
-    card-ends q.before.same-lengths.ensures (not-false _ q.if1.left) n.asked.ensures.0 p.if2.left refl
+    card_ends q.before.same-lengths.ensures (not-false _ q.if1.left) n.asked.ensures.0 p.if2.left refl
     f.finish.ensures c.ended.ensures
 
-pub card-ending-spec : {M : Type 1} → statement M
-card-ending-spec =
+pub card_ending_spec : {M : Type 1} → statement M
+card_ending_spec =
     tie.close
     (tie.spec
     (λ c. search rules)
     (λ c. search rules)
     (λ c κs. search rules)
-    (λ c. card-unsized c.before.same-lengths.ensures (not-true _ c.if1.true))
-    asked-requires
+    (λ c. card_unsized c.before.same-lengths.ensures (not-true _ c.if1.true))
+    asked_requires
     (λ c. search rules)
     refused
     (λ c κs. search rules)
-    finish-requires
+    finish_requires
     (λ c κs. search rules)
     (λ c. search rules)
     (λ c. search rules)

@@ -1,11 +1,11 @@
 -- `panel_card::clear_work` meets its contract.
 use borrow.Author.Rules.{rules}
-use Rattle.panel_card.specs.laws.Card.{zeros-four}
+use Rattle.panel_card.specs.Laws.Card.{zeros_four}
 use Rattle.panel_card.proofs.clear_work.Statement.{statement}
 use Rattle.panel_card.proofs.clear_work.Tie as tie
 
-pub clear-work-spec : {M : Type 1} → statement M
-clear-work-spec =
+pub clear_work_spec : {M : Type 1} → statement M
+clear_work_spec =
     tie.close
     (tie.spec
     (λ c κs. search rules)
@@ -16,4 +16,4 @@ clear-work-spec =
     (λ c. search rules)
     (λ c. search rules)
     (λ c. search rules)
-    (λ c. search zeros-four))
+    (λ c. search zeros_four))

@@ -1,6 +1,6 @@
 -- `panel_card::finish` meets its contract.
 use borrow.Author.Rules.{rules}
-use Rattle.panel_card.specs.laws.Card.{card-written}
+use Rattle.panel_card.specs.Laws.Card.{card_written}
 use Rattle.panel_card.proofs.finish.Statement.{statement}
 use Rattle.panel_card.proofs.finish.Tie as tie
 
@@ -14,14 +14,14 @@ placed c = c.before.before.before.before.before.before
 abbrev start : tie.After-card → tie.Start
 start c = c.before.before.before.before.before.before.before.before
 
-enrich-requires : tie.Need-enrich-requires
-enrich-requires c κs = (start (placed (surveyed c))).requires.0
+enrich_requires : tie.Need-enrich-requires
+enrich_requires c κs = (start (placed (surveyed c))).requires.0
 
 returns : tie.Need-returns
 returns c =
     let written = c.before.before in
     let s = surveyed written.before in
-    card-written (placed s).card.ensures s.survey.ensures written.enrich.ensures
+    card_written (placed s).card.ensures s.survey.ensures written.enrich.ensures
 
 pub finish_spec : {M : Type 1} → statement M
 finish_spec =
@@ -33,7 +33,7 @@ finish_spec =
     (λ c κs. (search rules, (search rules, (search rules, search rules, search rules))))
     (λ c. search rules)
     (λ c. search rules)
-    enrich-requires
+    enrich_requires
     (λ c. search rules)
     (λ c. search rules)
     (λ c. search rules)

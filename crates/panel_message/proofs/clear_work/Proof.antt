@@ -1,11 +1,11 @@
 -- `panel_message::clear_work` meets its contract.
 use borrow.Author.Rules.{rules}
-use Rattle.panel_message.specs.laws.Message.{zeros-three}
+use Rattle.panel_message.specs.Laws.Message.{zeros_three}
 use Rattle.panel_message.proofs.clear_work.Statement.{statement}
 use Rattle.panel_message.proofs.clear_work.Tie as tie
 
-pub clear-work-spec : {M : Type 1} → statement M
-clear-work-spec =
+pub clear_work_spec : {M : Type 1} → statement M
+clear_work_spec =
     tie.close
     (tie.spec
     (λ c κs. search rules)
@@ -14,4 +14,4 @@ clear-work-spec =
     (λ c. search rules)
     (λ c. search rules)
     (λ c. search rules)
-    (λ c. search zeros-three))
+    (λ c. search zeros_three))

@@ -1,6 +1,6 @@
 -- `panel_message::message` meets its contract.
 use borrow.Author.Rules.{rules}
-use Rattle.panel_message.specs.laws.Message.{message-given}
+use Rattle.panel_message.specs.Laws.Message.{message_given}
 use Rattle.panel_message.proofs.message.Statement.{statement}
 use Rattle.panel_message.proofs.message.Tie as tie
 
@@ -17,11 +17,11 @@ returns : tie.Need-returns
 returns c =
     let f = finished c in
     let w = cleared f in
-    message-given (ended w).message-ending.ensures w.clear-work.ensures (search rules) (search rules)
+    message_given (ended w).message-ending.ensures w.clear-work.ensures (search rules) (search rules)
     (search rules) (search rules) f.finish.ensures
 
-pub message-spec : {M : Type 1} → statement M
-message-spec =
+pub message_spec : {M : Type 1} → statement M
+message_spec =
     tie.close
     (tie.spec
     (λ c κs. search rules)

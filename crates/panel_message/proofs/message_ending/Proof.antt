@@ -3,9 +3,9 @@ use lib.ListN.{length}
 use borrow.Author.Rules.{rules}
 use borrow.Author.Tests.{not-true, not-false}
 use mathlib.Core.Path.{refl, sym, ◌∙◌}
-use Rattle.overlay_open.specs.laws.Held.{open_at, open_no}
-use Rattle.panel_message.specs.laws.Message.{passed, fine, feed-short, message-short}
-use Rattle.panel_message.specs.laws.Message.{lends, message-unsized, no-state, asked-no, message-ends}
+use Rattle.overlay_open.specs.Laws.Held.{open_at, open_no}
+use Rattle.panel_message.specs.Laws.Message.{passed, fine, feed_short, message_short}
+use Rattle.panel_message.specs.Laws.Message.{lends, message_unsized, no_state, asked_no, message_ends}
 use Rattle.panel_message.proofs.message_ending.Statement.{statement}
 use Rattle.panel_message.proofs.message_ending.Tie as tie
 
@@ -23,7 +23,7 @@ closed : tie.Need-returns-2
 closed c =
     let o = c.before.before in
     let q = measured o in
-    no-state q.before.same-lengths.ensures (not-false _ q.if1.left)
+    no_state q.before.same-lengths.ensures (not-false _ q.if1.left)
     (open_no (start q).args.old.now o.«open».ensures c.enum_told.given.1)
 
 refused : tie.Need-returns-3
@@ -31,11 +31,11 @@ refused c =
     let n = c.before in
     let o = opened n in
     let q = measured o in
-    asked-no q.before.same-lengths.ensures (not-false _ q.if1.left)
+    asked_no q.before.same-lengths.ensures (not-false _ q.if1.left)
     (open_at o.«open».ensures n.before.before.end.given.1) n.message-number.ensures c.if2.true
 
-after-message-requires : tie.Need-after-message-requires
-after-message-requires c κs =
+after_message_requires : tie.Need-after-message-requires
+after_message_requires c κs =
     let k = c.before.before.before.before in
     let n = k.before in
     let o = opened n in
@@ -48,7 +48,7 @@ after-message-requires c κs =
     q.before.same-lengths.ensures (not-false _ q.if1.left) s.pre in (
       L.buffers,
       (
-        (feed-short P, message-short P),
+        (feed_short P, message_short P),
         (
           fine P,
           (open_at o.«open».ensures n.before.before.end.given.1, L.short),
@@ -64,26 +64,26 @@ accepted c =
     let o = opened n in
     let q = measured o in
     let a = (start q).args in
-    message-ends q.before.same-lengths.ensures (not-false _ q.if1.left)
+    message_ends q.before.same-lengths.ensures (not-false _ q.if1.left)
     (open_at o.«open».ensures n.before.before.end.given.1)
     (passed a.feed.now a.message.now (sym k.if2.false ∙ n.message-number.ensures)) refl
     w.after-message.ensures c.of-put.ensures
 
-pub message-ending-spec : {M : Type 1} → statement M
-message-ending-spec =
+pub message_ending_spec : {M : Type 1} → statement M
+message_ending_spec =
     tie.close
     (tie.spec
     (λ c. search rules)
     (λ c. search rules)
     (λ c κs. search rules)
-    (λ c. message-unsized c.before.same-lengths.ensures (not-true _ c.if1.true))
+    (λ c. message_unsized c.before.same-lengths.ensures (not-true _ c.if1.true))
     (λ c κs. search rules)
     (λ c. search rules)
     (λ c. search rules)
     closed
     (λ c κs. search rules)
     refused
-    after-message-requires
+    after_message_requires
     (λ c κs. search rules)
     (λ c. search rules)
     (λ c. search rules)

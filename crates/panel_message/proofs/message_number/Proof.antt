@@ -1,6 +1,6 @@
 -- `panel_message::message_number` meets its contract. Assumes nothing.
 use borrow.Author.Rules.{rules}
-use Rattle.panel_message.specs.laws.Message.{too_long, asked-number}
+use Rattle.panel_message.specs.Laws.Message.{too_long, asked_number}
 use Rattle.panel_message.proofs.message_number.Statement.{statement}
 use Rattle.panel_message.proofs.message_number.Tie as tie
 
@@ -9,21 +9,21 @@ returns c =
     let start = c.before.before.before in
     too_long start.args.feed.now start.args.message.now c.if1.true
 
-returns-2 : tie.Need-returns-2
-returns-2 c =
-    let at-feed-ok = c.before in
-    let at-judge = at-feed-ok.before in
-    let at-if1 = at-judge.before in
-    let start = at-if1.before.before.before in
-    asked-number start.args.feed.now start.args.message.now at-if1.if1.false at-judge.judge.ensures
-    at-feed-ok.feed-ok.ensures c.number_by.ensures
+returns_2 : tie.Need-returns-2
+returns_2 c =
+    let at_feed_ok = c.before in
+    let at_judge = at_feed_ok.before in
+    let at_if1 = at_judge.before in
+    let start = at_if1.before.before.before in
+    asked_number start.args.feed.now start.args.message.now at_if1.if1.false at_judge.judge.ensures
+    at_feed_ok.feed-ok.ensures c.number_by.ensures
 
-pub message-number-spec : {M : Type 1} → statement M
-message-number-spec =
+pub message_number_spec : {M : Type 1} → statement M
+message_number_spec =
     tie.close
     (tie.spec
     returns
     (λ c κs. search rules)
     (λ c κs. search rules)
     (λ c κs. search rules)
-    returns-2)
+    returns_2)

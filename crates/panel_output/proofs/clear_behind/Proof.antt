@@ -1,11 +1,11 @@
 -- `panel_output::clear_behind` meets its contract.
 use borrow.Author.Rules.{rules}
-use Rattle.panel_output.specs.laws.Ending.{cleared, whole}
+use Rattle.panel_output.specs.Laws.Ending.{cleared, whole}
 use Rattle.panel_output.proofs.clear_behind.Statement.{statement}
 use Rattle.panel_output.proofs.clear_behind.Tie as tie
 
-pub clear-behind-spec : {M : Type 1} → statement M
-clear-behind-spec =
+pub clear_behind_spec : {M : Type 1} → statement M
+clear_behind_spec =
     tie.close
     (tie.spec
     (λ c. search rules)

@@ -1,6 +1,6 @@
 -- `panel_output::finish` meets its contract.
 use borrow.Author.Rules.{rules}
-use Rattle.panel_output.specs.laws.Ending.{refused-so, written-so}
+use Rattle.panel_output.specs.Laws.Ending.{refused_so, written_so}
 use Rattle.panel_output.proofs.finish.Statement.{statement}
 use Rattle.panel_output.proofs.finish.Tie as tie
 
@@ -13,6 +13,6 @@ finish_spec =
     (λ c. search rules)
     (λ c κs. search rules)
     (λ c. search rules)
-    (λ c. search refused-so)
+    (λ c. search refused_so)
     (λ c. search rules)
-    (λ c. search written-so))
+    (λ c. search written_so))

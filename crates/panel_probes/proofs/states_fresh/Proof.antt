@@ -1,11 +1,11 @@
 -- `panel_probes::states_fresh` meets its contract.
 use borrow.Author.Rules.{rules}
-use Rattle.panel_probes.specs.laws.Lengths.{given-at}
+use Rattle.panel_probes.specs.Laws.Lengths.{given_at}
 use Rattle.panel_probes.proofs.states_fresh.Statement.{statement}
 use Rattle.panel_probes.proofs.states_fresh.Tie as tie
 
 returns : tie.Need-returns
-returns c = given-at c.before.before.before.before.length-of.ensures c.before.before.fresh.ensures
+returns c = given_at c.before.before.before.before.length-of.ensures c.before.before.fresh.ensures
 
-pub states-fresh-spec : {M : Type 1} → statement M
-states-fresh-spec = tie.close (tie.spec (λ c κs. search rules) (λ c κs. search rules) (λ c. search rules) returns)
+pub states_fresh_spec : {M : Type 1} → statement M
+states_fresh_spec = tie.close (tie.spec (λ c κs. search rules) (λ c κs. search rules) (λ c. search rules) returns)

@@ -1,8 +1,8 @@
 -- `alert_number` meets its contract.
 use mathlib.Core.Path.{sym, ◌∙◌}
 use borrow.Author.Rules.{rules}
-use Rattle.panel_questions.specs.laws.Whole.{alerts-long, alerts-broken, alerts-cut}
-use Rattle.panel_questions.specs.laws.Whole.{alerts-judged, alerts-nowhere}
+use Rattle.panel_questions.specs.Laws.Whole.{alerts_long, alerts_broken, alerts_cut}
+use Rattle.panel_questions.specs.Laws.Whole.{alerts_judged, alerts_nowhere}
 use Rattle.panel_questions.proofs.alert_number.Statement.{statement}
 use Rattle.panel_questions.proofs.alert_number.Tie as tie
 
@@ -12,13 +12,13 @@ start c = c.before.before.before.before
 long : tie.Need-returns
 long c =
     let args = c.before.before.before.args in
-    alerts-long args.feed.now args.sheet.now c.if1.true
+    alerts_long args.feed.now args.sheet.now c.if1.true
 
 broken : tie.Need-returns-2
 broken c =
     let j = c.before.before in
     let args = (start j).args in
-    alerts-broken args.feed.now args.sheet.now j.before.if1.false j.judge-alerts.ensures
+    alerts_broken args.feed.now args.sheet.now j.before.if1.false j.judge-alerts.ensures
     c.enum_told.given.1
 
 cut : tie.Need-returns-3
@@ -26,7 +26,7 @@ cut c =
     let p = c.before.before in
     let j = p.before.before in
     let args = (start j).args in
-    alerts-cut args.feed.now args.sheet.now j.before.if1.false j.judge-alerts.ensures p.p.given.1
+    alerts_cut args.feed.now args.sheet.now j.before.if1.false j.judge-alerts.ensures p.p.given.1
     c.if2.true
 
 judged : tie.Need-returns-4
@@ -36,7 +36,7 @@ judged c =
     let p = e.before.before in
     let j = p.before.before in
     let args = (start j).args in
-    alerts-judged args.feed.now args.sheet.now j.before.if1.false j.judge-alerts.ensures
+    alerts_judged args.feed.now args.sheet.now j.before.if1.false j.judge-alerts.ensures
     p.p.given.1 e.if2.false (sym f.feed-ok.ensures ∙ c.if3.true)
 
 nowhere : tie.Need-returns-5
@@ -46,11 +46,11 @@ nowhere c =
     let p = e.before.before in
     let j = p.before.before in
     let args = (start j).args in
-    alerts-nowhere args.feed.now args.sheet.now j.before.if1.false j.judge-alerts.ensures
+    alerts_nowhere args.feed.now args.sheet.now j.before.if1.false j.judge-alerts.ensures
     p.p.given.1 e.if2.false (sym f.feed-ok.ensures ∙ c.if3.false)
 
-pub alert-number-spec : {M : Type 1} → statement M
-alert-number-spec = tie.close (tie.spec
+pub alert_number_spec : {M : Type 1} → statement M
+alert_number_spec = tie.close (tie.spec
     long
     (λ c κs. search rules)
     (λ c. search rules)

@@ -1,8 +1,8 @@
 -- `vehicle_number` meets its contract.
 use mathlib.Core.Path.{sym, ◌∙◌}
 use borrow.Author.Rules.{rules}
-use Rattle.panel_questions.specs.laws.Vehicles.{vehicles-long, vehicles-broken, vehicles-cut}
-use Rattle.panel_questions.specs.laws.Vehicles.{vehicles-fall, vehicles-judged, vehicles-nowhere}
+use Rattle.panel_questions.specs.Laws.Vehicles.{vehicles_long, vehicles_broken, vehicles_cut}
+use Rattle.panel_questions.specs.Laws.Vehicles.{vehicles_fall, vehicles_judged, vehicles_nowhere}
 use Rattle.panel_questions.proofs.vehicle_number.Statement.{statement}
 use Rattle.panel_questions.proofs.vehicle_number.Tie as tie
 
@@ -12,13 +12,13 @@ start c = c.before.before.before.before
 long : tie.Need-returns
 long c =
     let a = c.before.before.before.args in
-    vehicles-long a.feed.now a.sheet.now a.clock c.if1.true
+    vehicles_long a.feed.now a.sheet.now a.clock c.if1.true
 
 broken : tie.Need-returns-2
 broken c =
     let j = c.before.before in
     let a = (start j).args in
-    vehicles-broken a.feed.now a.sheet.now a.clock j.before.if1.false j.judge-vehicles.ensures
+    vehicles_broken a.feed.now a.sheet.now a.clock j.before.if1.false j.judge-vehicles.ensures
     c.enum_told.given.1
 
 cut : tie.Need-returns-3
@@ -26,7 +26,7 @@ cut c =
     let p = c.before.before in
     let j = p.before.before in
     let a = (start j).args in
-    vehicles-cut a.feed.now a.sheet.now a.clock j.before.if1.false j.judge-vehicles.ensures
+    vehicles_cut a.feed.now a.sheet.now a.clock j.before.if1.false j.judge-vehicles.ensures
     p.p.given.1 c.if2.true
 
 judged : tie.Need-returns-4
@@ -39,7 +39,7 @@ judged c =
     let p = e.before.before in
     let j = p.before.before in
     let a = (start j).args in
-    vehicles-judged a.feed.now a.sheet.now a.clock j.before.if1.false j.judge-vehicles.ensures
+    vehicles_judged a.feed.now a.sheet.now a.clock j.before.if1.false j.judge-vehicles.ensures
     p.p.given.1 e.if2.false k.keys-ascend.ensures u.if3.true
     (sym f.feed-ok.ensures ∙ b.if4.true) c.timed.ensures
 
@@ -52,7 +52,7 @@ nowhere c =
     let p = e.before.before in
     let j = p.before.before in
     let a = (start j).args in
-    vehicles-nowhere a.feed.now a.sheet.now a.clock j.before.if1.false j.judge-vehicles.ensures
+    vehicles_nowhere a.feed.now a.sheet.now a.clock j.before.if1.false j.judge-vehicles.ensures
     p.p.given.1 e.if2.false k.keys-ascend.ensures u.if3.true
     (sym f.feed-ok.ensures ∙ c.if4.false)
 
@@ -63,11 +63,11 @@ falling c =
     let p = e.before.before in
     let j = p.before.before in
     let a = (start j).args in
-    vehicles-fall a.feed.now a.sheet.now a.clock j.before.if1.false j.judge-vehicles.ensures
+    vehicles_fall a.feed.now a.sheet.now a.clock j.before.if1.false j.judge-vehicles.ensures
     p.p.given.1 e.if2.false k.keys-ascend.ensures c.if3.false
 
-pub vehicle-number-spec : {M : Type 1} → statement M
-vehicle-number-spec = tie.close (tie.spec
+pub vehicle_number_spec : {M : Type 1} → statement M
+vehicle_number_spec = tie.close (tie.spec
     long
     (λ c κs. search rules)
     (λ c. search rules)

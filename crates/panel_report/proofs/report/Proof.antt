@@ -1,7 +1,7 @@
 -- `panel_report::report` meets its contract.
 use borrow.Author.Rules.{rules}
 use mathlib.Core.Path.{refl}
-use Rattle.panel_output.specs.laws.Ends.{finished}
+use Rattle.panel_output.specs.Laws.Ends.{finished}
 use Rattle.panel_report.proofs.report.Statement.{statement}
 use Rattle.panel_report.proofs.report.Tie as tie
 
@@ -11,5 +11,5 @@ returns c =
     let ended = done.before.before.before.before in
     finished ended.report-ending.ensures done.finish.ensures (search rules) refl
 
-pub report-spec : {M : Type 1} → statement M
-report-spec = tie.close (tie.spec (λ c κs. search rules) (λ c κs. search rules) (λ c. search rules) returns)
+pub report_spec : {M : Type 1} → statement M
+report_spec = tie.close (tie.spec (λ c κs. search rules) (λ c κs. search rules) (λ c. search rules) returns)

@@ -2,7 +2,7 @@
 use mathlib.Core.Path.{refl}
 use borrow.Author.Rules.{rules}
 use borrow.Author.Tests.{not-true, not-false}
-use Rattle.panel_report.specs.laws.Report.{report-unsized, report-no, report-good, report-bad}
+use Rattle.panel_report.specs.Laws.Report.{report_unsized, report_no, report_good, report_bad}
 use Rattle.panel_report.proofs.report_ending.Statement.{statement}
 use Rattle.panel_report.proofs.report_ending.Tie as tie
 
@@ -14,7 +14,7 @@ good c =
     let told = answered.before in
     let opened = told.before.before in
     let one = opened.before in
-    report-good one.before.same-lengths.ensures (not-false _ one.if1.false) opened.«open».ensures
+    report_good one.before.same-lengths.ensures (not-false _ one.if1.false) opened.«open».ensures
     told.enum-told2.given.1 answered.feed-ok.ensures asked.if2.true refl
     wrote.write-report.ensures c.of-put.ensures
 
@@ -22,7 +22,7 @@ no : tie.Need-returns-3
 no c =
     let opened = c.before.before in
     let one = opened.before in
-    report-no one.before.same-lengths.ensures (not-false _ one.if1.false) opened.«open».ensures
+    report_no one.before.same-lengths.ensures (not-false _ one.if1.false) opened.«open».ensures
     c.enum_told.given.1
 
 bad : tie.Need-returns-4
@@ -31,17 +31,17 @@ bad c =
     let told = answered.before in
     let opened = told.before.before in
     let one = opened.before in
-    report-bad one.before.same-lengths.ensures (not-false _ one.if1.false) opened.«open».ensures
+    report_bad one.before.same-lengths.ensures (not-false _ one.if1.false) opened.«open».ensures
     told.enum-told2.given.1 answered.feed-ok.ensures c.if2.false
 
-pub report-ending-spec : {M : Type 1} → statement M
-report-ending-spec =
+pub report_ending_spec : {M : Type 1} → statement M
+report_ending_spec =
     tie.close
     (tie.spec
     (λ c. search rules)
     (λ c. search rules)
     (λ c κs. search rules)
-    (λ c. report-unsized c.before.same-lengths.ensures (not-true _ c.if1.true))
+    (λ c. report_unsized c.before.same-lengths.ensures (not-true _ c.if1.true))
     (λ c κs. search rules)
     (λ c. search rules)
     (λ c. search rules)

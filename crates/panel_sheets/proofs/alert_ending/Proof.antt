@@ -4,9 +4,9 @@ use mathlib.Core.Path.{refl, sym, ◌∙◌}
 use lib.ListN.{length}
 use borrow.Author.Rules.{rules}
 use borrow.Author.Tests.{not-true, not-false}
-use Rattle.overlay_open.specs.laws.Held.{open_at, open_no}
+use Rattle.overlay_open.specs.Laws.Held.{open_at, open_no}
 use Rattle.panel.specs.Lengths.{sized}
-use Rattle.panel_sheets.specs.laws.Alerts.{alerts-unsized, alerts-closed, alerts-refused, alerts-accepted}
+use Rattle.panel_sheets.specs.Laws.Alerts.{alerts_unsized, alerts_closed, alerts_refused, alerts_accepted}
 use Rattle.panel_sheets.proofs.alert_ending.Statement.{statement}
 use Rattle.panel_sheets.proofs.alert_ending.Tie as tie
 
@@ -18,7 +18,7 @@ unsized c =
     let q = c.before in
     let a = (start q).args in
     record {
-      is = alerts-unsized (sized a.n) a.old.now a.feed.now a.sheet.now (length a.new.now) []
+      is = alerts_unsized (sized a.n) a.old.now a.feed.now a.sheet.now (length a.new.now) []
           (sym q.same-lengths.ensures ∙ not-true _ c.if1.true);
     }
 
@@ -28,7 +28,7 @@ closed c =
     let q = o.before.before in
     let a = (start q).args in
     record {
-      is = alerts-closed (sized a.n) a.old.now a.feed.now a.sheet.now (length a.new.now) []
+      is = alerts_closed (sized a.n) a.old.now a.feed.now a.sheet.now (length a.new.now) []
           (sym q.same-lengths.ensures ∙ not-false _ o.before.if1.false)
           (open_no a.old.now o.«open».ensures c.enum_told.given.1);
     }
@@ -42,7 +42,7 @@ refused c =
     let a = (start q).args in
     let O = open_at o.«open».ensures e.end.given.1 in
     record {
-      is = alerts-refused (sized a.n) a.old.now a.feed.now a.sheet.now (length a.new.now) []
+      is = alerts_refused (sized a.n) a.old.now a.feed.now a.sheet.now (length a.new.now) []
           (sym q.same-lengths.ensures ∙ not-false _ o.before.if1.false) n.alert-number.ensures O.is
           c.if2.true;
     }
@@ -58,14 +58,14 @@ accepted c =
     let a = (start q).args in
     let O = open_at o.«open».ensures e.end.given.1 in
     record {
-      is = alerts-accepted (sized a.n) a.old.now a.feed.now a.sheet.now (length a.new.now) []
+      is = alerts_accepted (sized a.n) a.old.now a.feed.now a.sheet.now (length a.new.now) []
           (sym q.same-lengths.ensures ∙ not-false _ o.before.if1.false) n.alert-number.ensures O.is
           k.if2.false refl (λ vs I f. w.after-alerts.ensures O.state vs O.here O.valid I f)
           c.of-put.ensures;
     }
 
-pub alert-ending-spec : {M : Type 1} → statement M
-alert-ending-spec =
+pub alert_ending_spec : {M : Type 1} → statement M
+alert_ending_spec =
     tie.close
     (tie.spec
     (λ c. search rules)

@@ -4,10 +4,10 @@ use mathlib.Core.Path.{refl, sym, ◌∙◌}
 use lib.ListN.{length}
 use borrow.Author.Rules.{rules}
 use borrow.Author.Tests.{not-true, not-false}
-use Rattle.overlay_open.specs.laws.Held.{open_at, open_no}
+use Rattle.overlay_open.specs.Laws.Held.{open_at, open_no}
 use Rattle.panel.specs.Lengths.{sized}
-use Rattle.panel_sheets.specs.laws.Vehicles.{vehicles-unsized, vehicles-closed}
-use Rattle.panel_sheets.specs.laws.Vehicles.{vehicles-refused, vehicles-accepted}
+use Rattle.panel_sheets.specs.Laws.Vehicles.{vehicles_unsized, vehicles_closed}
+use Rattle.panel_sheets.specs.Laws.Vehicles.{vehicles_refused, vehicles_accepted}
 use Rattle.panel_sheets.proofs.vehicle_ending.Statement.{statement}
 use Rattle.panel_sheets.proofs.vehicle_ending.Tie as tie
 
@@ -19,7 +19,7 @@ unsized c = λ t T.
     let q = c.before in
     let a = (start q).args in
     record {
-      is = vehicles-unsized (sized a.n) a.old.now a.feed.now a.sheet.now t (length a.new.now) []
+      is = vehicles_unsized (sized a.n) a.old.now a.feed.now a.sheet.now t (length a.new.now) []
           (sym q.same-lengths.ensures ∙ not-true _ c.if1.true);
     }
 
@@ -29,7 +29,7 @@ closed c = λ t T.
     let q = o.before.before in
     let a = (start q).args in
     record {
-      is = vehicles-closed (sized a.n) a.old.now a.feed.now a.sheet.now t (length a.new.now) []
+      is = vehicles_closed (sized a.n) a.old.now a.feed.now a.sheet.now t (length a.new.now) []
           (sym q.same-lengths.ensures ∙ not-false _ o.before.if1.false)
           (open_no a.old.now o.«open».ensures c.enum_told.given.1);
     }
@@ -43,7 +43,7 @@ refused c = λ t T.
     let a = (start q).args in
     let O = open_at o.«open».ensures e.end.given.1 in
     record {
-      is = vehicles-refused (sized a.n) a.old.now a.feed.now a.sheet.now t (length a.new.now) []
+      is = vehicles_refused (sized a.n) a.old.now a.feed.now a.sheet.now t (length a.new.now) []
           (sym q.same-lengths.ensures ∙ not-false _ o.before.if1.false) T n.vehicle-number.ensures O.is
           c.if2.true;
     }
@@ -59,14 +59,14 @@ accepted c = λ t T.
     let a = (start q).args in
     let O = open_at o.«open».ensures e.end.given.1 in
     record {
-      is = vehicles-accepted (sized a.n) a.old.now a.feed.now a.sheet.now t (length a.new.now) []
+      is = vehicles_accepted (sized a.n) a.old.now a.feed.now a.sheet.now t (length a.new.now) []
           (sym q.same-lengths.ensures ∙ not-false _ o.before.if1.false) T n.vehicle-number.ensures O.is
           k.if2.false refl (λ xs z I. w.after-vehicles.ensures O.state xs t O.here O.valid z I)
           c.of-put.ensures;
     }
 
-pub vehicle-ending-spec : {M : Type 1} → statement M
-vehicle-ending-spec =
+pub vehicle_ending_spec : {M : Type 1} → statement M
+vehicle_ending_spec =
     tie.close
     (tie.spec
     (λ c. search rules)

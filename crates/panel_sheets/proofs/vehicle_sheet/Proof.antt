@@ -2,7 +2,7 @@
 use mir.Facts.{to_z-of_z}
 use borrow.Author.Rules.{rules}
 use mathlib.Core.Path.{refl}
-use Rattle.panel_output.specs.laws.Ends.{finished}
+use Rattle.panel_output.specs.Laws.Ends.{finished}
 use Rattle.panel_sheets.proofs.vehicle_sheet.Statement.{statement}
 use Rattle.panel_sheets.proofs.vehicle_sheet.Tie as tie
 
@@ -16,7 +16,7 @@ returns c =
     (rw (to_z-of_z start.ranges.clock) at read.read-clock.ensures))
     c.before.before.finish.ensures (search rules) refl
 
-pub vehicle-sheet-spec : {M : Type 1} → statement M
-vehicle-sheet-spec =
+pub vehicle_sheet_spec : {M : Type 1} → statement M
+vehicle_sheet_spec =
     tie.close
     (tie.spec (λ c κs. search rules) (λ c κs. search rules) (λ c κs. search rules) (λ c. search rules) returns)

@@ -4,8 +4,8 @@ use borrow.Author.Rules.{rules}
 use Rattle.realtime_read.proofs.is_fit.Statement.{statement}
 use Rattle.realtime_read.proofs.is_fit.Tie as tie
 
-pub is-fit-spec : {M : Type 1} → statement M
-is-fit-spec =
+pub is_fit_spec : {M : Type 1} → statement M
+is_fit_spec =
     tie.close
     (tie.spec
     (λ c κs. search rules)

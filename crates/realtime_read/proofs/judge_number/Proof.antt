@@ -3,8 +3,8 @@ use borrow.Author.Tests.{eq-eqb, ne_eqb, le-leb, lt-leb}
 use Rattle.realtime_read.proofs.judge_number.Statement.{statement}
 use Rattle.realtime_read.proofs.judge_number.Tie as tie
 
-pub judge-number-spec : {M : Type 1} → statement M
-judge-number-spec =
+pub judge_number_spec : {M : Type 1} → statement M
+judge_number_spec =
     tie.close
     (tie.spec
     (λ c. simp (ne_eqb _ _ c.if1.true))

@@ -7,9 +7,9 @@ use native.Mathlib.Omega.{arith}
 use borrow.Author.Rules.{rules}
 use Rattle.realtime.specs.Tree.{Kind}
 use Rattle.realtime.specs.Schema.{feed}
-use Rattle.realtime.specs.laws.Schema.{feed-beyond}
-use Rattle.realtime_read.specs.promises.Schema.{holds, code}
-use Rattle.realtime_read.proofs.Rows.{coded, none_of, number_of, text_of, message-of}
+use Rattle.realtime.specs.Laws.Schema.{feed_beyond}
+use Rattle.realtime_read.specs.Promises.Schema.{holds, code}
+use Rattle.realtime_read.proofs.Rows.{coded, none_of, number_of, text_of, message_of}
 use Rattle.realtime_read.proofs.kind_of.Statement.{statement}
 use Rattle.realtime_read.proofs.kind_of.Tie as tie
 
@@ -20,11 +20,11 @@ listed c = feed c.before.before.args.message c.before.before.args.field
 bits : (c : tie.After-row-of) → c.row_of.result / 2 ^ (c.before.before.args.field * 5) % 32 ≡ code (listed c)
 bits c = coded _ _ c.row_of.ensures c.before.if1.false
 
-pub kind-of-spec : {M : Type 1} → statement M
-kind-of-spec =
+pub kind_of_spec : {M : Type 1} → statement M
+kind_of_spec =
     tie.close
     (tie.spec
-    (λ c. sym (ap holds (feed-beyond _ _ c.if1.true)))
+    (λ c. sym (ap holds (feed_beyond _ _ c.if1.true)))
     (λ c κs. search rules)
     (λ c. omega (arith, c.before.if1.false))
     (λ c. omega (arith, c.before.if1.false))
@@ -32,5 +32,5 @@ kind-of-spec =
     (λ c. number_of (listed c.before.before) (bits c.before.before) c.if3.true)
     (λ c. text_of (listed c.before.before.before) (bits c.before.before.before) c.if4.true)
     (λ c. omega (arith, c.before.before.if2.false, c.before.if3.false, c.if4.false))
-    (λ c. message-of (listed c.before.before.before) (bits c.before.before.before)
+    (λ c. message_of (listed c.before.before.before) (bits c.before.before.before)
     c.before.before.if2.false c.before.if3.false c.if4.false))

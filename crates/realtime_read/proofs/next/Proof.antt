@@ -7,13 +7,13 @@ use mathlib.Core.Path.{◌≡◌, refl, sym, ◌∙◌}
 use mathlib.Core.List.{List}
 use lib.ListN.{length, drop}
 use Rattle.wire.specs.Wire.{Value, value}
-use Rattle.wire.specs.laws.At.{ReadAt, key-read, key-broken, skipped-read, skipped-broken}
+use Rattle.wire.specs.Laws.At.{ReadAt, key_read, key_broken, skipped_read, skipped_broken}
 use Rattle.realtime.specs.Tree.{tree}
 use Rattle.realtime.specs.Schema.{feed}
-use Rattle.realtime_read.proofs.Turn.{is-unlisted, is_number, is-text, is-message, at-end, key-bad, Here}
-use Rattle.realtime_read.proofs.Turn.{value-bad}
-use Rattle.realtime_read.proofs.Turn.{less, pass, no_number, no_text, no-message, some_number, some-text}
-use Rattle.realtime_read.proofs.Turn.{some-message}
+use Rattle.realtime_read.proofs.Turn.{is_unlisted, is_number, is_text, is_message, at_end, key_bad, Here}
+use Rattle.realtime_read.proofs.Turn.{value_bad}
+use Rattle.realtime_read.proofs.Turn.{less, pass, no_number, no_text, no_message, some_number, some_text}
+use Rattle.realtime_read.proofs.Turn.{some_message}
 use Rattle.realtime_read.proofs.next.Statement.{statement}
 use Rattle.realtime_read.proofs.next.Tie as tie
 
@@ -47,7 +47,7 @@ here c =
       fwd = l.invariant.1;
       more = c.before.before.before.before.loop-test.true;
       inv = l.invariant.0;
-      keyed = key-read _ l.at _ _ _ (sym c.before.field.given.1 ∙ c.before.before.before.key.ensures);
+      keyed = key_read _ l.at _ _ _ (sym c.before.field.given.1 ∙ c.before.before.before.key.ensures);
     }
 
 -- the field that was passed over
@@ -61,12 +61,12 @@ skipped : (c : tie.After-known-told2 invariant-loop decreases-loop)
     (bytes c.before.before.before.before.before.before.before)
     (next c.before.before.before.before.before.before.before) v c.before.after.given.0.0.at
 skipped c =
-    skipped-read _ (next c.before.before.before.before.before.before.before) _ _ 16 _
+    skipped_read _ (next c.before.before.before.before.before.before.before) _ _ 16 _
     (sym c.before.after.given.1 ∙ c.before.before.before.past.ensures)
 
-pub next-spec : {M : Type 1} → statement M
+pub next_spec : {M : Type 1} → statement M
 unfolding here
-next-spec =
+next_spec =
     tie.close
     (tie.spec
     invariant-loop
@@ -74,21 +74,21 @@ next-spec =
     (λ c. (refl, search rules))
     (λ c κs. tt)
     (λ c. search rules)
-    (λ c. key-bad c.before.before.before.before.loop.invariant.0 c.before.before.before.loop-test.true
-    (key-broken _ c.before.before.before.before.loop.at
+    (λ c. key_bad c.before.before.before.before.loop.invariant.0 c.before.before.before.loop-test.true
+    (key_broken _ c.before.before.before.before.loop.at
     (sym c.enum_told.given.1 ∙ c.before.before.key.ensures)))
     (λ c. search rules)
     (λ c κs. tt)
     (λ c. search rules)
     (λ c κs. tt)
     (λ c. search rules)
-    (λ c. value-bad (here c.before.before.before.before.before.before)
-    (skipped-broken _ (next c.before.before.before.before.before.before) _ _ 16
+    (λ c. value_bad (here c.before.before.before.before.before.before)
+    (skipped_broken _ (next c.before.before.before.before.before.before) _ _ 16
     (sym c.enum-told3.given.1 ∙ c.before.before.past.ensures)))
     (λ c. search rules)
     (λ c. less (here c.before.before.before.before.before.before.before) _ _ (skipped c).1)
     (λ c. pass (here c.before.before.before.before.before.before.before) _ _ (skipped c).1
-    (is-unlisted _
+    (is_unlisted _
     (sym c.before.before.before.before.enum-told2.given.1
     ∙ c.before.before.before.before.before.before.kind-of.ensures)))
     (λ c. search rules)
@@ -109,28 +109,28 @@ next-spec =
     (λ c κs. tt)
     (λ c. search rules)
     (λ c. no_text (here c.before.before.before.before.before.before)
-    (is-text _
+    (is_text _
     (sym c.before.before.before.enum-told6.given.1
     ∙ c.before.before.before.before.before.kind-of.ensures))
     (sym c.enum-told7.given.1 ∙ c.before.before.text-behind.ensures))
     (λ c. search rules)
-    (λ c. some-text (here c.before.before.before.before.before.before.before)
-    (is-text _
+    (λ c. some_text (here c.before.before.before.before.before.before.before)
+    (is_text _
     (sym c.before.before.before.before.enum-told6.given.1
     ∙ c.before.before.before.before.before.before.kind-of.ensures))
     (sym c.before.start.given.1 ∙ c.before.before.before.text-behind.ensures))
     (λ c. search rules)
     (λ c κs. tt)
     (λ c. search rules)
-    (λ c. no-message (here c.before.before.before.before.before.before.before)
-    (is-message _ _
+    (λ c. no_message (here c.before.before.before.before.before.before.before)
+    (is_message _ _
     (sym c.before.before.before.before.inner.given.1
     ∙ c.before.before.before.before.before.before.kind-of.ensures))
     (sym c.enum-told8.given.1 ∙ c.before.before.text-behind2.ensures))
     (λ c. search rules)
-    (λ c. some-message (here c.before.before.before.before.before.before.before.before)
-    (is-message _ _
+    (λ c. some_message (here c.before.before.before.before.before.before.before.before)
+    (is_message _ _
     (sym c.before.before.before.before.before.inner.given.1
     ∙ c.before.before.before.before.before.before.before.kind-of.ensures))
     (sym c.before.start2.given.1 ∙ c.before.before.before.text-behind2.ensures))
-    (λ c. at-end c.before.loop.invariant.0 c.loop-test.false))
+    (λ c. at_end c.before.loop.invariant.0 c.loop-test.false))

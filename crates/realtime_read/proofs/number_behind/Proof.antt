@@ -4,8 +4,8 @@ use borrow.Author.Tests.{eq-eqb, ne_eqb}
 use Rattle.realtime_read.proofs.number_behind.Statement.{statement}
 use Rattle.realtime_read.proofs.number_behind.Tie as tie
 
-pub number-behind-spec : {M : Type 1} → statement M
-number-behind-spec =
+pub number_behind_spec : {M : Type 1} → statement M
+number_behind_spec =
     tie.close
     (tie.spec
     (λ c. rw (ne_eqb _ 0 c.if1.true))

@@ -1,14 +1,14 @@
 -- `realtime_read::row_of` meets its contract: each arm is what the schema's rows compute to, and what no arm names no
 -- row has. Assumes nothing.
-use Rattle.realtime.specs.Schema.{fieldRows, feed}
-use Rattle.realtime_read.specs.promises.Schema.{row}
-use Rattle.realtime_read.proofs.Rows.{row-else}
+use Rattle.realtime.specs.Schema.{field_rows, feed}
+use Rattle.realtime_read.specs.Promises.Schema.{row}
+use Rattle.realtime_read.proofs.Rows.{row_else}
 use Rattle.realtime_read.proofs.row_of.Statement.{statement}
 use Rattle.realtime_read.proofs.row_of.Tie as tie
 
-pub row-of-spec : {M : Type 1} → statement M
-unfolding row feed fieldRows
-row-of-spec =
+pub row_of_spec : {M : Type 1} → statement M
+unfolding row feed field_rows
+row_of_spec =
     tie.close
     (tie.spec
     (λ c. rw c.match.keys1)
@@ -27,4 +27,4 @@ row-of-spec =
     (λ c. rw c.match.keys14)
     (λ c. rw c.match.keys15)
     (λ c. rw c.match.keys16)
-    (λ c. row-else _ c.match.rest))
+    (λ c. row_else _ c.match.rest))

@@ -4,8 +4,8 @@ use borrow.Author.Tests.{eq-eqb, ne_eqb}
 use Rattle.realtime_read.proofs.text_behind.Statement.{statement}
 use Rattle.realtime_read.proofs.text_behind.Tie as tie
 
-pub text-behind-spec : {M : Type 1} → statement M
-text-behind-spec =
+pub text_behind_spec : {M : Type 1} → statement M
+text_behind_spec =
     tie.close
     (tie.spec
     (λ c. rw (ne_eqb _ 2 c.if1.true))

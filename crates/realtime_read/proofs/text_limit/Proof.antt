@@ -3,8 +3,8 @@ use borrow.Author.Tests.{eq-eqb, ne_eqb}
 use Rattle.realtime_read.proofs.text_limit.Statement.{statement}
 use Rattle.realtime_read.proofs.text_limit.Tie as tie
 
-pub text-limit-spec : {M : Type 1} → statement M
-text-limit-spec =
+pub text_limit_spec : {M : Type 1} → statement M
+text_limit_spec =
     tie.close
     (tie.spec
     (λ c. simp (eq-eqb _ _ c.before.if1.true, eq-eqb _ _ c.if2.true))

@@ -11,8 +11,8 @@ invariant-loop s at₀ at = at ≤ length s
 abbrev decreases-loop : tie.decreases-loop
 decreases-loop s at₀ at = length s - at
 
-pub answers-spec : {M : Type 1} → statement M
-answers-spec =
+pub answers_spec : {M : Type 1} → statement M
+answers_spec =
     tie.close
     (tie.spec
     invariant-loop

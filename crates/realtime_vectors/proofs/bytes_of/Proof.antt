@@ -14,8 +14,8 @@ invariant-loop line out₀ n₀ high₀ i₀ out n high i =
 abbrev decreases-loop : tie.decreases-loop
 decreases-loop line out₀ n₀ high₀ i₀ out n high i = length line - i
 
-pub bytes-of-spec : {M : Type 1} → statement M
-bytes-of-spec =
+pub bytes_of_spec : {M : Type 1} → statement M
+bytes_of_spec =
     tie.close
     (tie.spec
     invariant-loop

@@ -6,8 +6,8 @@ use lib.ListN.{length, length-take}
 use Rattle.realtime_vectors.proofs.write_entity.Statement.{statement}
 use Rattle.realtime_vectors.proofs.write_entity.Tie as tie
 
-pub write-entity-spec : {M : Type 1} → statement M
-write-entity-spec =
+pub write_entity_spec : {M : Type 1} → statement M
+write_entity_spec =
     tie.close
     (tie.spec
     (λ c. search rules)

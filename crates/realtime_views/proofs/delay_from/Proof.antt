@@ -10,8 +10,8 @@ use Rattle.realtime_views.specs.declared.Delay.{Delay}
 use Rattle.realtime_views.proofs.delay_from.Statement.{statement}
 use Rattle.realtime_views.proofs.delay_from.Tie as tie
 
-pub delay-from-spec : {M : Type 1} → statement M
-delay-from-spec =
+pub delay_from_spec : {M : Type 1} → statement M
+delay_from_spec =
     tie.close
     (tie.spec
     (λ c κs. search rules)

@@ -2,8 +2,8 @@
 use Rattle.realtime_views.proofs.event_from.Statement.{statement}
 use Rattle.realtime_views.proofs.event_from.Tie as tie
 
-pub event-from-spec : {M : Type 1} → statement M
-event-from-spec =
+pub event_from_spec : {M : Type 1} → statement M
+event_from_spec =
     tie.close
     (tie.spec
     (λ c κs. tt)

@@ -2,8 +2,8 @@
 use Rattle.realtime_views.proofs.header_from.Statement.{statement}
 use Rattle.realtime_views.proofs.header_from.Tie as tie
 
-pub header-from-spec : {M : Type 1} → statement M
-header-from-spec =
+pub header_from_spec : {M : Type 1} → statement M
+header_from_spec =
     tie.close
     (tie.spec
     (λ c κs. tt)

@@ -8,8 +8,8 @@ use Rattle.realtime_views.proofs.Signed.{upper_fits, upper_is}
 use Rattle.realtime_views.proofs.int32.Statement.{statement}
 use Rattle.realtime_views.proofs.int32.Tie as tie
 
-pub int32-spec : {M : Type 1} → statement M
-int32-spec =
+pub int32_spec : {M : Type 1} → statement M
+int32_spec =
     tie.close
     (tie.spec
     (λ c. search rules)

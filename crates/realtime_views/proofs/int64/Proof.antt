@@ -8,8 +8,8 @@ use Rattle.realtime_views.proofs.Signed.{upper_fits, upper_is}
 use Rattle.realtime_views.proofs.int64.Statement.{statement}
 use Rattle.realtime_views.proofs.int64.Tie as tie
 
-pub int64-spec : {M : Type 1} → statement M
-int64-spec =
+pub int64_spec : {M : Type 1} → statement M
+int64_spec =
     tie.close
     (tie.spec
     (λ c. search rules)

@@ -4,6 +4,6 @@ use Rattle.realtime_views.proofs.Walking as walking
 use Rattle.realtime_views.proofs.next_entity.Statement.{statement}
 use Rattle.realtime_views.proofs.next_entity.Tie as tie
 
-pub next-entity-spec : {M : Type 1} → statement M
-next-entity-spec =
-    tie.close (tie.spec (λ c κs. search rules) (λ c. walking.next-entity c.next-item.ensures))
+pub next_entity_spec : {M : Type 1} → statement M
+next_entity_spec =
+    tie.close (tie.spec (λ c κs. search rules) (λ c. walking.next_entity c.next-item.ensures))

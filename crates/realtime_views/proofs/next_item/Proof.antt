@@ -4,8 +4,8 @@ use borrow.Author.Rules.{rules}
 use Prim.Native.Nat.{◌+◌, ◌-◌}
 use native.Mathlib.Omega.{arith}
 use lib.ListN.{length}
-use Rattle.realtime_views.specs.laws.Seeks.{seek_is}
-use Rattle.realtime_views.proofs.Walking.{Leads, leads, yields, all_done, opens-less, opens}
+use Rattle.realtime_views.specs.Laws.Seeks.{seek_is}
+use Rattle.realtime_views.proofs.Walking.{Leads, leads, yields, all_done, opens_less, opens}
 use Rattle.realtime_views.proofs.next_item.Statement.{statement}
 use Rattle.realtime_views.proofs.next_item.Tie as tie
 
@@ -16,8 +16,8 @@ invariant-loop s a k outer₀ end₀ at₀ outer end at =
 abbrev decreases-loop : tie.decreases-loop
 decreases-loop s a k outer₀ end₀ at₀ outer end at = length s - outer + (length s - at)
 
-pub next-item-spec : {M : Type 1} → statement M
-next-item-spec =
+pub next_item_spec : {M : Type 1} → statement M
+next_item_spec =
     tie.close
     (tie.spec
     invariant-loop
@@ -40,7 +40,7 @@ next-item-spec =
     (seek_is c.before.before.seek2.ensures c.enum-told2.given.1))
     (λ c. let e = c.before.before.before.before in
     let m = e.before.before in
-    opens-less m.before.before.loop.invariant m.before.part.ensures
+    opens_less m.before.before.loop.invariant m.before.part.ensures
     (seek_is m.seek.ensures e.enum_told.given.1)
     (seek_is c.before.before.before.seek2.ensures c.before.start2.given.1))
     (λ c. let e = c.before.before.before.before in

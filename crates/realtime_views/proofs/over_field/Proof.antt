@@ -5,10 +5,10 @@ use Prim.Native.Nat.{◌-◌}
 use native.Mathlib.Omega.{arith}
 use mathlib.Core.Path.{◌≡◌, refl}
 use lib.ListN.{length}
-use Rattle.realtime_views.specs.laws.Seeks.{seek_is}
-use Rattle.realtime_views.specs.promises.Scalars.{scalars, own}
-use Rattle.realtime_views.proofs.Reader.{sought-ready}
-use Rattle.realtime_views.proofs.Finding.{Finding, found-start, found_all, found-far, found-next, found-less}
+use Rattle.realtime_views.specs.Laws.Seeks.{seek_is}
+use Rattle.realtime_views.specs.Promises.Scalars.{scalars, own}
+use Rattle.realtime_views.proofs.Reader.{sought_ready}
+use Rattle.realtime_views.proofs.Finding.{Finding, found_start, found_all, found_far, found_next, found_less}
 use Rattle.realtime_views.proofs.Finding.{made_as}
 use Rattle.realtime_views.proofs.over_field.Statement.{statement}
 use Rattle.realtime_views.proofs.over_field.Tie as tie
@@ -19,13 +19,13 @@ invariant-loop s from a inner at₀ d₀ at d = Finding scalars own (λ u. u ≡
 abbrev decreases-loop : tie.decreases-loop
 decreases-loop s from a inner at₀ d₀ at d = length s - at
 
-pub over-field-spec : {M : Type 1} → statement M
-over-field-spec =
+pub over_field_spec : {M : Type 1} → statement M
+over_field_spec =
     tie.close
     (tie.spec
     invariant-loop
     decreases-loop
-    (λ c. found-start c.before.requires)
+    (λ c. found_start c.before.requires)
     (λ c κs. search rules)
     (λ c. search rules)
     (λ c. search rules)
@@ -34,19 +34,19 @@ over-field-spec =
       of = λ t e.
           found_all R (seek_is c.before.before.seek.ensures c.enum_told.given.1) t
           c.before.before.before.before.before.args.inner e refl;
-      within = found-far R;
+      within = found_far R;
     })
     (λ c κs. let S = seek_is c.before.before.before.seek.ensures c.before.start.given.1 in
     omega (arith, S.lying))
-    (λ c κs. let at-start = c.before.before in
-    let at-seek = at-start.before.before in
-    sought-ready scalars c.part.result.now (seek_is at-seek.seek.ensures at-start.start.given.1)
-    c.part.ensures at-seek.before.loop.invariant.within)
-    (λ c. let at-start = c.before.before.before in
-    found-less (seek_is at-start.before.before.seek.ensures at-start.start.given.1))
-    (λ c. let at-start = c.before.before.before in
-    let at-seek = at-start.before.before in
+    (λ c κs. let at_start = c.before.before in
+    let at_seek = at_start.before.before in
+    sought_ready scalars c.part.result.now (seek_is at_seek.seek.ensures at_start.start.given.1)
+    c.part.ensures at_seek.before.loop.invariant.within)
+    (λ c. let at_start = c.before.before.before in
+    found_less (seek_is at_start.before.before.seek.ensures at_start.start.given.1))
+    (λ c. let at_start = c.before.before.before in
+    let at_seek = at_start.before.before in
     let Q = c.over-message.ensures in
-    found-next at-seek.before.loop.invariant c.before.part.result.now
-    (seek_is at-seek.seek.ensures at-start.start.given.1) c.before.part.ensures
+    found_next at_seek.before.loop.invariant c.before.part.result.now
+    (seek_is at_seek.seek.ensures at_start.start.given.1) c.before.part.ensures
     (λ u p. made_as Q.made p) Q.within))

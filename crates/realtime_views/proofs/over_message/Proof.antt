@@ -6,9 +6,9 @@ use mathlib.Core.Path.{refl}
 use native.Mathlib.Omega.{arith}
 use lib.ListN.{length}
 use Rattle.realtime.specs.Schema.{feed}
-use Rattle.realtime_read.specs.laws.Steps.{step_is}
-use Rattle.realtime_views.specs.promises.Scalars.{scalars, own}
-use Rattle.realtime_views.proofs.Reader.{Reading, begins, says, stops, past-message, keep-number, keep-text}
+use Rattle.realtime_read.specs.Laws.Steps.{step_is}
+use Rattle.realtime_views.specs.Promises.Scalars.{scalars, own}
+use Rattle.realtime_views.proofs.Reader.{Reading, begins, says, stops, past_message, keep_number, keep_text}
 use Rattle.realtime_views.proofs.over_message.Statement.{statement}
 use Rattle.realtime_views.proofs.over_message.Tie as tie
 
@@ -18,8 +18,8 @@ invariant-loop s from message at₀ d₀ at d = Reading scalars own feed message
 abbrev decreases-loop : tie.decreases-loop
 decreases-loop s from message at₀ d₀ at d = length s - at
 
-pub over-message-spec : {M : Type 1} → statement M
-over-message-spec =
+pub over_message_spec : {M : Type 1} → statement M
+over_message_spec =
     tie.close
     (tie.spec
     invariant-loop
@@ -36,18 +36,18 @@ over-message-spec =
     (λ c κs. tt)
     (λ c. let S = step_is c.before.before.before.before.next.ensures c.before.before.field.given.1 in
     omega (arith, S.forward))
-    (λ c. keep-number c.before.before.before.before.before.loop.invariant
+    (λ c. keep_number c.before.before.before.before.before.loop.invariant
     (step_is c.before.before.before.before.next.ensures c.before.before.field.given.1)
     c.keep.ensures)
     (λ c. search rules)
     (λ c κs. tt)
     (λ c. let S = step_is c.before.before.before.before.next.ensures c.before.before.field2.given.1 in
     omega (arith, S.forward))
-    (λ c. keep-text c.before.before.before.before.before.loop.invariant
+    (λ c. keep_text c.before.before.before.before.before.loop.invariant
     (step_is c.before.before.before.before.next.ensures c.before.before.field2.given.1)
     c.keep2.ensures)
     (λ c. search rules)
     (λ c. let S = step_is c.before.before.before.next.ensures c.before.after.given.1 in
     omega (arith, S.forward))
-    (λ c. past-message c.before.before.before.before.loop.invariant
+    (λ c. past_message c.before.before.before.before.loop.invariant
     (step_is c.before.before.before.next.ensures c.before.after.given.1) (λ m. refl)))

@@ -7,46 +7,46 @@ use mathlib.Core.Path.{◌≡◌}
 use mathlib.Core.Bool.{true}
 use lib.ListN.{length}
 use Rattle.realtime.specs.Schema.{feed}
-use Rattle.realtime_views.specs.laws.Seeks.{seek_is}
-use Rattle.realtime_views.specs.promises.Last.{taking}
-use Rattle.realtime_views.specs.promises.Scalars.{scalar, scalarAt, is_scalar}
-use Rattle.realtime_views.proofs.Reader.{sought-ready}
-use Rattle.realtime_views.proofs.Finding.{Finding, found-start, found_all, found-far, found-next, found-less}
+use Rattle.realtime_views.specs.Laws.Seeks.{seek_is}
+use Rattle.realtime_views.specs.Promises.Last.{taking}
+use Rattle.realtime_views.specs.Promises.Scalars.{scalar, scalar_at, is_scalar}
+use Rattle.realtime_views.proofs.Reader.{sought_ready}
+use Rattle.realtime_views.proofs.Finding.{Finding, found_start, found_all, found_far, found_next, found_less}
 use Rattle.realtime_views.proofs.over_scalar_in.Statement.{statement}
 use Rattle.realtime_views.proofs.over_scalar_in.Tie as tie
 
 abbrev invariant-loop : tie.invariant-loop
 invariant-loop s from a k at₀ d₀ at d =
-    Finding scalar (taking (scalarAt k)) (λ u. is_scalar (feed u k) ≡ true) a s at₀ d₀ at d
+    Finding scalar (taking (scalar_at k)) (λ u. is_scalar (feed u k) ≡ true) a s at₀ d₀ at d
 
 abbrev decreases-loop : tie.decreases-loop
 decreases-loop s from a k at₀ d₀ at d = length s - at
 
-pub over-scalar-in-spec : {M : Type 1} → statement M
-over-scalar-in-spec =
+pub over_scalar_in_spec : {M : Type 1} → statement M
+over_scalar_in_spec =
     tie.close
     (tie.spec
     invariant-loop
     decreases-loop
-    (λ c. found-start c.before.requires)
+    (λ c. found_start c.before.requires)
     (λ c κs. search rules)
     (λ c. search rules)
     (λ c. search rules)
     (λ c. let R = c.before.before.before.loop.invariant in
     record {
       of = found_all R (seek_is c.before.before.seek.ensures c.enum_told.given.1);
-      within = found-far R;
+      within = found_far R;
     })
     (λ c κs. let S = seek_is c.before.before.before.seek.ensures c.before.start.given.1 in
     omega (arith, S.lying))
-    (λ c κs. let at-start = c.before.before in
-    let at-seek = at-start.before.before in
-    sought-ready scalar c.part.result.now (seek_is at-seek.seek.ensures at-start.start.given.1)
-    c.part.ensures at-seek.before.loop.invariant.within)
-    (λ c. let at-start = c.before.before.before in
-    found-less (seek_is at-start.before.before.seek.ensures at-start.start.given.1))
-    (λ c. let at-start = c.before.before.before in
-    let at-seek = at-start.before.before in
+    (λ c κs. let at_start = c.before.before in
+    let at_seek = at_start.before.before in
+    sought_ready scalar c.part.result.now (seek_is at_seek.seek.ensures at_start.start.given.1)
+    c.part.ensures at_seek.before.loop.invariant.within)
+    (λ c. let at_start = c.before.before.before in
+    found_less (seek_is at_start.before.before.seek.ensures at_start.start.given.1))
+    (λ c. let at_start = c.before.before.before in
+    let at_seek = at_start.before.before in
     let O = c.over-scalar.ensures in
-    found-next at-seek.before.loop.invariant c.before.part.result.now
-    (seek_is at-seek.seek.ensures at-start.start.given.1) c.before.part.ensures O.of O.within))
+    found_next at_seek.before.loop.invariant c.before.part.result.now
+    (seek_is at_seek.seek.ensures at_start.start.given.1) c.before.part.ensures O.of O.within))

@@ -1,17 +1,17 @@
 -- `realtime_views::scalar_in` meets its contract, in the bytes up to the message's end. Assumes nothing.
 use borrow.Author.Rules.{rules}
-use Rattle.realtime_views.proofs.Typing.{scalar-ready, scalar-read-in}
+use Rattle.realtime_views.proofs.Typing.{scalar_ready, scalar_read_in}
 use Rattle.realtime_views.proofs.scalar_in.Statement.{statement}
 use Rattle.realtime_views.proofs.scalar_in.Tie as tie
 
-pub scalar-in-spec : {M : Type 1} → statement M
-scalar-in-spec =
+pub scalar_in_spec : {M : Type 1} → statement M
+scalar_in_spec =
     tie.close
     (tie.spec
     (λ c. search rules)
     (λ c κs. search rules)
     (λ c κs. let a = c.before.before.args in
-    scalar-ready a.s.now a.start a.len c.before.before.requires c.part.ensures)
+    scalar_ready a.s.now a.start a.len c.before.before.requires c.part.ensures)
     (λ c. let a = c.before.before.before.args in
-    scalar-read-in a.s.now a.start a.len c.before.before.before.requires c.before.part.ensures
+    scalar_read_in a.s.now a.start a.len c.before.before.before.requires c.before.part.ensures
     c.over-scalar-in.ensures))

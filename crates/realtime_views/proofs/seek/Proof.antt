@@ -3,9 +3,9 @@
 use borrow.Author.Rules.{rules}
 use Prim.Native.Nat.{◌-◌}
 use lib.ListN.{length}
-use Rattle.realtime_views.proofs.Seeking.{Seeking, seeks-from, seek-ends, seek-keyless, seek-broken, seek-past}
-use Rattle.realtime_views.proofs.Seeking.{seek-cut, seek-other, seek_found}
-use Rattle.realtime_views.proofs.Wires.{text-less, other-less}
+use Rattle.realtime_views.proofs.Seeking.{Seeking, seeks_from, seek_ends, seek_keyless, seek_broken, seek_past}
+use Rattle.realtime_views.proofs.Seeking.{seek_cut, seek_other, seek_found}
+use Rattle.realtime_views.proofs.Wires.{text_less, other_less}
 use Rattle.realtime_views.proofs.seek.Statement.{statement}
 use Rattle.realtime_views.proofs.seek.Tie as tie
 
@@ -15,28 +15,28 @@ invariant-loop s from k at₀ at = Seeking k s from at
 abbrev decreases-loop : tie.decreases-loop
 decreases-loop s from k at₀ at = length s - at
 
-pub seek-spec : {M : Type 1} → statement M
-seek-spec =
+pub seek_spec : {M : Type 1} → statement M
+seek_spec =
     tie.close
     (tie.spec
     invariant-loop
     decreases-loop
-    (λ c. seeks-from)
+    (λ c. seeks_from)
     (λ c κs. tt)
     (λ c. search rules)
     (λ c. search rules)
-    (λ c. search seek-keyless)
+    (λ c. search seek_keyless)
     (λ c κs. tt)
     (λ c. search rules)
     (λ c. search rules)
-    (λ c. search seek-cut)
+    (λ c. search seek_cut)
     (λ c. search seek_found)
-    (λ c. search text-less)
-    (λ c. search seek-other)
+    (λ c. search text_less)
+    (λ c. search seek_other)
     (λ c κs. tt)
     (λ c. search rules)
     (λ c. search rules)
-    (λ c. search seek-broken)
-    (λ c. search other-less)
-    (λ c. search seek-past)
-    (λ c. search seek-ends))
+    (λ c. search seek_broken)
+    (λ c. search other_less)
+    (λ c. search seek_past)
+    (λ c. search seek_ends))

@@ -4,8 +4,8 @@ use Rattle.realtime.specs.Typed.{enum}
 use Rattle.realtime_views.proofs.stop_from.Statement.{statement}
 use Rattle.realtime_views.proofs.stop_from.Tie as tie
 
-pub stop-from-spec : {M : Type 1} → statement M
-stop-from-spec =
+pub stop_from_spec : {M : Type 1} → statement M
+stop_from_spec =
     tie.close
     (tie.spec
     (λ c κs. tt)

@@ -9,8 +9,8 @@ use Rattle.realtime_views.specs.declared.Time.{Time}
 use Rattle.realtime_views.proofs.time_from.Statement.{statement}
 use Rattle.realtime_views.proofs.time_from.Tie as tie
 
-pub time-from-spec : {M : Type 1} → statement M
-time-from-spec =
+pub time_from_spec : {M : Type 1} → statement M
+time_from_spec =
     tie.close
     (tie.spec
     (λ c κs. search rules)

@@ -2,8 +2,8 @@
 use Rattle.realtime_views.proofs.trip_from.Statement.{statement}
 use Rattle.realtime_views.proofs.trip_from.Tie as tie
 
-pub trip-from-spec : {M : Type 1} → statement M
-trip-from-spec =
+pub trip_from_spec : {M : Type 1} → statement M
+trip_from_spec =
     tie.close
     (tie.spec
     (λ c κs. tt)

@@ -7,12 +7,12 @@ use lib.ListN.{length, length-take}
 use mathlib.Core.Path.{refl, ap}
 use mathlib.Core.List.{[], ◌∷◌}
 use Rattle.realtime_views.proofs.Reader.{lasting}
-use Rattle.realtime_views.proofs.Typing.{merged-read, trip-read}
+use Rattle.realtime_views.proofs.Typing.{merged_read, trip_read}
 use Rattle.realtime_views.proofs.trip_of.Statement.{statement}
 use Rattle.realtime_views.proofs.trip_of.Tie as tie
 
-pub trip-of-spec : {M : Type 1} → statement M
-trip-of-spec =
+pub trip_of_spec : {M : Type 1} → statement M
+trip_of_spec =
     tie.close
     (tie.spec
     (λ c. search rules)
@@ -23,6 +23,6 @@ trip-of-spec =
     (λ c. let u = c.before.before in
     let p = u.before in
     let a = p.before.before in
-    trip-read (lasting (3 ∷ 1 ∷ []) a.requires p.part.ensures refl u.over-updates.ensures.trip)
-    (merged-read a.args.s.now a.args.start a.args.len a.requires p.part.ensures
+    trip_read (lasting (3 ∷ 1 ∷ []) a.requires p.part.ensures refl u.over-updates.ensures.trip)
+    (merged_read a.args.s.now a.args.start a.args.len a.requires p.part.ensures
     u.over-updates.ensures.delay) c.trip-from.ensures))

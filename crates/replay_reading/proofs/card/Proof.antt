@@ -1,34 +1,34 @@
 -- `card` meets its contract.
 use borrow.Author.Rules.{rules}
 use mathlib.Core.Path.{refl, sym, ◌∙◌}
-use Rattle.replay_reading.specs.laws.Card.{card-fits, lent-card, unlent-card}
+use Rattle.replay_reading.specs.Laws.Card.{card_fits, lent_card, unlent_card}
 use Rattle.replay_reading.proofs.card.Tie as tie
 use Rattle.replay_reading.proofs.card.Statement.{statement}
 
-card-of-requires : tie.Need-card-of-requires
-card-of-requires c κs =
-    let at-if1 = c.before in
-    let at-is-lent = at-if1.before in
-    let at-card-work = at-is-lent.before in
-    let start = at-card-work.before.before.before.before in (
+card_of_requires : tie.Need-card-of-requires
+card_of_requires c κs =
+    let at_if1 = c.before in
+    let at_is_lent = at_if1.before in
+    let at_card_work = at_is_lent.before in
+    let start = at_card_work.before.before.before.before in (
       start.requires,
-      card-fits at-card-work.card-work.result (sym at-is-lent.is-lent.ensures ∙ at-if1.if1.true),
+      card_fits at_card_work.card-work.result (sym at_is_lent.is-lent.ensures ∙ at_if1.if1.true),
     )
 
 returns : tie.Need-returns
 returns c =
-    let at-card-of = c.before.before in
-    let at-if1 = at-card-of.before.before in
-    let at-is-lent = at-if1.before in
-    lent-card at-is-lent.before.card-work.ensures (sym at-is-lent.is-lent.ensures ∙ at-if1.if1.true)
-    at-card-of.card-of.ensures
+    let at_card_of = c.before.before in
+    let at_if1 = at_card_of.before.before in
+    let at_is_lent = at_if1.before in
+    lent_card at_is_lent.before.card-work.ensures (sym at_is_lent.is-lent.ensures ∙ at_if1.if1.true)
+    at_card_of.card-of.ensures
 
-returns-2 : tie.Need-returns-2
-returns-2 c =
-    let at-is-lent = c.before in
-    unlent-card at-is-lent.before.card-work.ensures (sym at-is-lent.is-lent.ensures ∙ c.if1.false) refl
+returns_2 : tie.Need-returns-2
+returns_2 c =
+    let at_is_lent = c.before in
+    unlent_card at_is_lent.before.card-work.ensures (sym at_is_lent.is-lent.ensures ∙ c.if1.false) refl
 
-pub card-spec : {M : Type 1} → statement M
-card-spec =
+pub card_spec : {M : Type 1} → statement M
+card_spec =
     tie.close
-    (tie.spec (λ c κs. search rules) (λ c κs. search rules) card-of-requires (λ c. search rules) returns returns-2)
+    (tie.spec (λ c κs. search rules) (λ c κs. search rules) card_of_requires (λ c. search rules) returns returns_2)

@@ -1,5 +1,5 @@
 -- `is_lent` meets its contract.
-use Rattle.replay_reading.specs.laws.Card.{lent_is}
+use Rattle.replay_reading.specs.Laws.Card.{lent_is}
 use Rattle.replay_reading.proofs.is_lent.Statement.{statement}
 use Rattle.replay_reading.proofs.is_lent.Tie as tie
 
@@ -8,5 +8,5 @@ returns c =
     let start = c.before.before.before.before in
     lent_is start.args.w.candidates start.args.w.met start.args.w.noted start.args.w.known
 
-pub is-lent-spec : {M : Type 1} → statement M
-is-lent-spec = tie.close (tie.spec returns)
+pub is_lent_spec : {M : Type 1} → statement M
+is_lent_spec = tie.close (tie.spec returns)

@@ -1,25 +1,25 @@
 -- `calls` meets its contract.
 use borrow.Author.Rules.{rules}
-use Rattle.replay_script.specs.laws.Asked.{script-broken, script-short, script-at}
+use Rattle.replay_script.specs.Laws.Asked.{script_broken, script_short, script_at}
 use Rattle.replay_script.proofs.calls.Statement.{statement}
 use Rattle.replay_script.proofs.calls.Tie as tie
 
 broken : tie.Need-returns
 broken c =
     let past = c.before.before in
-    script-broken past.before.before.args.s.now past.past.ensures c.enum_told.given.1
+    script_broken past.before.before.args.s.now past.past.ensures c.enum_told.given.1
 
 short : tie.Need-returns-2
 short c =
     let end = c.before.before in
     let past = end.before.before in
-    script-short past.before.before.args.s.now past.past.ensures end.end.given.1 c.if1.true
+    script_short past.before.before.args.s.now past.past.ensures end.end.given.1 c.if1.true
 
 counted : tie.Need-returns-3
 counted c =
     let end = c.before.before.before in
     let past = end.before.before in
-    script-at past.before.before.args.s.now past.past.ensures end.end.given.1 c.before.if1.false
+    script_at past.before.before.args.s.now past.past.ensures end.end.given.1 c.before.if1.false
     c.number.ensures
 
 pub calls_spec : {M : Type 1} → statement M

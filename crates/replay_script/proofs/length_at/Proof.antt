@@ -1,11 +1,11 @@
 -- `length_at` meets its contract.
 use borrow.Author.Rules.{rules}
-use Rattle.replay_script.specs.laws.Asked.{length-missing, length_found}
+use Rattle.replay_script.specs.Laws.Asked.{length_missing, length_found}
 use Rattle.replay_script.proofs.length_at.Statement.{statement}
 use Rattle.replay_script.proofs.length_at.Tie as tie
 
 missing : tie.Need-returns
-missing c = length-missing c.before.before.number.ensures c.if1.true
+missing c = length_missing c.before.before.number.ensures c.if1.true
 
 found : tie.Need-returns-2
 found c =
@@ -13,8 +13,8 @@ found c =
     length_found tested.before.before.number.ensures tested.if1.false c.before.nth.ensures
     c.number2.ensures
 
-pub length-at-spec : {M : Type 1} → statement M
-length-at-spec = tie.close (tie.spec
+pub length_at_spec : {M : Type 1} → statement M
+length_at_spec = tie.close (tie.spec
     (λ c κs. search rules)
     missing
     (λ c κs. search rules)

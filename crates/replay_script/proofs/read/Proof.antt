@@ -1,6 +1,6 @@
 -- `read` meets its contract.
 use borrow.Author.Rules.{rules}
-use Rattle.replay_script.specs.laws.Asked.{call-read}
+use Rattle.replay_script.specs.Laws.Asked.{call_read}
 use Rattle.replay_script.proofs.read.Statement.{statement}
 use Rattle.replay_script.proofs.read.Tie as tie
 
@@ -12,7 +12,7 @@ read_whole c =
     let work = number.before in
     let text2 = work.before in
     let text = text2.before.before in
-    call-read text.text.result text2.text2.result text.before.field.ensures text.text.ensures
+    call_read text.text.result text2.text2.result text.before.field.ensures text.text.ensures
     text2.before.field2.ensures text2.text2.ensures work.field3.ensures number.number.ensures
     clock.field4.ensures number2.before.field5.ensures number2.number2.ensures c.past-lengths.ensures
 

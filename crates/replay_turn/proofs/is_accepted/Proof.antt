@@ -1,5 +1,5 @@
 -- `replay_turn::is_accepted` meets its contract.
-use Rattle.replay_turn.specs.promises.Turns.{acceptedOf}
+use Rattle.replay_turn.specs.Promises.Turns.{accepted_of}
 use mathlib.Core.Path.{sym, ap}
 -- `is_accepted` meets its contract.
 use borrow.Author.Rules.{rules}
@@ -9,23 +9,23 @@ use Rattle.replay_turn.proofs.is_accepted.Tie as tie
 enum_told : tie.Need-enum-told
 enum_told c = search rules
 
-enum-known-r : tie.Need-enum-known-r
-enum-known-r c = search rules
+enum_known_r : tie.Need-enum-known-r
+enum_known_r c = search rules
 
 returns : tie.Need-returns
 returns c =
-    ap acceptedOf (sym c.enum_told.given.1)
+    ap accepted_of (sym c.enum_told.given.1)
 
-returns-2 : tie.Need-returns-2
-returns-2 c =
-    let at-r = c.before in
-    ap acceptedOf (sym at-r.r.given.1)
+returns_2 : tie.Need-returns-2
+returns_2 c =
+    let at_r = c.before in
+    ap accepted_of (sym at_r.r.given.1)
 
-pub is-accepted-spec : {M : Type 1} → statement M
-is-accepted-spec =
+pub is_accepted_spec : {M : Type 1} → statement M
+is_accepted_spec =
     tie.close
     (tie.spec
     enum_told
-    enum-known-r
+    enum_known_r
     returns
-    returns-2)
+    returns_2)

@@ -1,105 +1,105 @@
 -- `replay_turn::take_turn` meets its contract.
 use lib.Seq.{length-take-le}
 use mathlib.Core.Path.{sym}
-use Rattle.replay_turn.specs.laws.Steps.{turn_on, turn-back}
+use Rattle.replay_turn.specs.Laws.Steps.{turn_on, turn_back}
 -- `take_turn` meets its contract.
 use borrow.Author.Rules.{rules}
 use Rattle.replay_turn.proofs.take_turn.Statement.{statement}
 use Rattle.replay_turn.proofs.take_turn.Tie as tie
 
-slice-reshare-prefix-run-one : tie.Need-slice-reshare-prefix-run-one
-slice-reshare-prefix-run-one c = search rules
+slice_reshare_prefix_run_one : tie.Need-slice-reshare-prefix-run-one
+slice_reshare_prefix_run_one c = search rules
 
-slice-aggregate-run-one : tie.Need-slice-aggregate-run-one
-slice-aggregate-run-one c =
+slice_aggregate_run_one : tie.Need-slice-aggregate-run-one
+slice_aggregate_run_one c =
     let start = c.before.before.before.before.before.before.before.before.before in
     sym (length-take-le start.args.n start.args.a.now (search rules))
 
-run-one-requires : tie.Need-run-one-requires
-run-one-requires c κs = search rules
+run_one_requires : tie.Need-run-one-requires
+run_one_requires c κs = search rules
 
 same_length : tie.Need-same-length
 same_length c = search rules
 
-same-length-2 : tie.Need-same-length-2
-same-length-2 c = search rules
+same_length_2 : tie.Need-same-length-2
+same_length_2 c = search rules
 
-same-length-3 : tie.Need-same-length-3
-same-length-3 c = search rules
+same_length_3 : tie.Need-same-length-3
+same_length_3 c = search rules
 
-same-length-4 : tie.Need-same-length-4
-same-length-4 c = search rules
+same_length_4 : tie.Need-same-length-4
+same_length_4 c = search rules
 
-same-length-5 : tie.Need-same-length-5
-same-length-5 c = search rules
+same_length_5 : tie.Need-same-length-5
+same_length_5 c = search rules
 
-same-length-6 : tie.Need-same-length-6
-same-length-6 c = search rules
+same_length_6 : tie.Need-same-length-6
+same_length_6 c = search rules
 
 returns : tie.Need-returns
 returns c =
-    let at-run-one = c.before.before.before.before.before.before.before.before.before.before.before in
-    let at-if1 = at-run-one.before.before.before.before.before.before.before in
-    let start = at-if1.before.before.before.before.before.before.before.before in
-    turn_on start.args.n start.args.a.now at-run-one.run-one.new.1.1.1.1.1.0 start.args.b.now at-run-one.run-one.result.moved at-if1.if1.true at-run-one.run-one.ensures
+    let at_run_one = c.before.before.before.before.before.before.before.before.before.before.before in
+    let at_if1 = at_run_one.before.before.before.before.before.before.before in
+    let start = at_if1.before.before.before.before.before.before.before.before in
+    turn_on start.args.n start.args.a.now at_run_one.run-one.new.1.1.1.1.1.0 start.args.b.now at_run_one.run-one.result.moved at_if1.if1.true at_run_one.run-one.ensures
 
-slice-reshare-prefix-run-one-2 : tie.Need-slice-reshare-prefix-run-one-2
-slice-reshare-prefix-run-one-2 c = search rules
+slice_reshare_prefix_run_one_2 : tie.Need-slice-reshare-prefix-run-one-2
+slice_reshare_prefix_run_one_2 c = search rules
 
-slice-aggregate-run-one-2 : tie.Need-slice-aggregate-run-one-2
-slice-aggregate-run-one-2 c =
+slice_aggregate_run_one_2 : tie.Need-slice-aggregate-run-one-2
+slice_aggregate_run_one_2 c =
     let start = c.before.before.before.before.before.before.before.before.before in
     sym (length-take-le start.args.n start.args.b.now (search rules))
 
-run-one-requires-2 : tie.Need-run-one-requires-2
-run-one-requires-2 c κs = search rules
+run_one_requires_2 : tie.Need-run-one-requires-2
+run_one_requires_2 c κs = search rules
 
-same-length-7 : tie.Need-same-length-7
-same-length-7 c = search rules
+same_length_7 : tie.Need-same-length-7
+same_length_7 c = search rules
 
-same-length-8 : tie.Need-same-length-8
-same-length-8 c = search rules
+same_length_8 : tie.Need-same-length-8
+same_length_8 c = search rules
 
-same-length-9 : tie.Need-same-length-9
-same-length-9 c = search rules
+same_length_9 : tie.Need-same-length-9
+same_length_9 c = search rules
 
-same-length-10 : tie.Need-same-length-10
-same-length-10 c = search rules
+same_length_10 : tie.Need-same-length-10
+same_length_10 c = search rules
 
-same-length-11 : tie.Need-same-length-11
-same-length-11 c = search rules
+same_length_11 : tie.Need-same-length-11
+same_length_11 c = search rules
 
-same-length-12 : tie.Need-same-length-12
-same-length-12 c = search rules
+same_length_12 : tie.Need-same-length-12
+same_length_12 c = search rules
 
-returns-2 : tie.Need-returns-2
-returns-2 c =
-    let at-run-one2 = c.before.before.before.before.before.before.before.before.before.before in
-    let at-if1 = at-run-one2.before.before.before.before.before.before.before in
-    let start = at-if1.before.before.before.before.before.before.before.before in
-    turn-back start.args.n at-run-one2.run-one2.new.1.1.1.1.1.0 start.args.b.now start.args.a.now at-run-one2.run-one2.result.moved at-if1.if1.false at-run-one2.run-one2.ensures
+returns_2 : tie.Need-returns-2
+returns_2 c =
+    let at_run_one2 = c.before.before.before.before.before.before.before.before.before.before in
+    let at_if1 = at_run_one2.before.before.before.before.before.before.before in
+    let start = at_if1.before.before.before.before.before.before.before.before in
+    turn_back start.args.n at_run_one2.run-one2.new.1.1.1.1.1.0 start.args.b.now start.args.a.now at_run_one2.run-one2.result.moved at_if1.if1.false at_run_one2.run-one2.ensures
 
-pub take-turn-spec : {M : Type 1} → statement M
-take-turn-spec =
+pub take_turn_spec : {M : Type 1} → statement M
+take_turn_spec =
     tie.close
     (tie.spec
-    slice-reshare-prefix-run-one
-    slice-aggregate-run-one
-    run-one-requires
+    slice_reshare_prefix_run_one
+    slice_aggregate_run_one
+    run_one_requires
     same_length
-    same-length-2
-    same-length-3
-    same-length-4
-    same-length-5
-    same-length-6
+    same_length_2
+    same_length_3
+    same_length_4
+    same_length_5
+    same_length_6
     returns
-    slice-reshare-prefix-run-one-2
-    slice-aggregate-run-one-2
-    run-one-requires-2
-    same-length-7
-    same-length-8
-    same-length-9
-    same-length-10
-    same-length-11
-    same-length-12
-    returns-2)
+    slice_reshare_prefix_run_one_2
+    slice_aggregate_run_one_2
+    run_one_requires_2
+    same_length_7
+    same_length_8
+    same_length_9
+    same_length_10
+    same_length_11
+    same_length_12
+    returns_2)

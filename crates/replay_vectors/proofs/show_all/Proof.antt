@@ -11,8 +11,8 @@ invariant-loop s at₀ at = at ≤ length s
 abbrev decreases-loop : tie.decreases-loop
 decreases-loop s at₀ at = length s - at
 
-pub show-all-spec : {M : Type 1} → statement M
-show-all-spec =
+pub show_all_spec : {M : Type 1} → statement M
+show_all_spec =
     tie.close
     (tie.spec
     invariant-loop

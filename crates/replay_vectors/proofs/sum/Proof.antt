@@ -10,8 +10,8 @@ invariant-loop s end low₀ high₀ i₀ low high i = i ≤ end
 abbrev decreases-loop : tie.decreases-loop
 decreases-loop s end low₀ high₀ i₀ low high i = end - i
 
-pub sum-spec : {M : Type 1} → statement M
-sum-spec =
+pub sum_spec : {M : Type 1} → statement M
+sum_spec =
     tie.close
     (tie.spec
     invariant-loop

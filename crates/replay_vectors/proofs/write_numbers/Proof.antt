@@ -11,8 +11,8 @@ invariant-loop s told count start left₀ at₀ p₀ t left at p = p ≤ length 
 abbrev decreases-loop : tie.decreases-loop
 decreases-loop s told count start left₀ at₀ p₀ t left at p = left
 
-pub write-numbers-spec : {M : Type 1} → statement M
-write-numbers-spec =
+pub write_numbers_spec : {M : Type 1} → statement M
+write_numbers_spec =
     tie.close
     (tie.spec
     invariant-loop

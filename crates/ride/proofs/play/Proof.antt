@@ -6,13 +6,13 @@ use Rattle.ride.proofs.play.Statement.{statement}
 use Rattle.ride.proofs.play.Tie as tie
 
 abbrev invariant-loop : tie.invariant-loop
-invariant-loop a₀ b₀ at₀ in-a₀ left₀ a b at in-a left = (length a ≡ length a₀) × (length b ≡ length b₀)
+invariant-loop a₀ b₀ at₀ in_a₀ left₀ a b at in_a left = (length a ≡ length a₀) × (length b ≡ length b₀)
 
 abbrev decreases-loop : tie.decreases-loop
-decreases-loop a₀ b₀ at₀ in-a₀ left₀ a b at in-a left = left
+decreases-loop a₀ b₀ at₀ in_a₀ left₀ a b at in_a left = left
 
-pub play-spec : {M : Type 1} → statement M
-play-spec =
+pub play_spec : {M : Type 1} → statement M
+play_spec =
     tie.close
     (tie.spec
     invariant-loop

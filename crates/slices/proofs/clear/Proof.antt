@@ -1,6 +1,6 @@
 -- `slices::clear` meets its contract: block after block, by the law of every fill. Assumes nothing.
 use Prim.Native.Nat.{◌-◌, ◌+◌}
-use Rattle.slices.proofs.Filled.{Filled, filled_none, filled-block, filled-all}
+use Rattle.slices.proofs.Filled.{Filled, filled_none, filled_block, filled_all}
 use borrow.Author.Rules.{rules}
 use lib.ListN.{length}
 use Rattle.slices.proofs.clear.Statement.{statement}
@@ -26,7 +26,7 @@ clear_spec =
     (λ c. search rules)
     (λ c κs. search rules)
     (λ c. search rules)
-    (λ c. filled-block c.before.before.before.before.before.loop.invariant
+    (λ c. filled_block c.before.before.before.before.before.loop.invariant
     (c.before.before.before.before.before.loop.at + 256) _ (search rules) (search rules)
     c.before.before.clear-block.ensures)
     (λ c. search rules)
@@ -34,7 +34,7 @@ clear_spec =
     (λ c. search rules)
     (λ c κs. search rules)
     (λ c. search rules)
-    (λ c. filled-all
-    (filled-block c.before.before.before.before.before.loop.invariant
+    (λ c. filled_all
+    (filled_block c.before.before.before.before.before.loop.invariant
     (length c.before.before.before.before.before.loop.s) _ (search rules) (search rules)
     c.before.before.clear-block2.ensures) (search rules)))

@@ -19,8 +19,8 @@ invariant-loop2 d₀ s a i j₀ d j = Copied a 4096 j d
 abbrev decreases-loop2 : tie.decreases-loop2
 decreases-loop2 d₀ s a i j₀ d j = 4096 - j
 
-pub copy-block-spec : {M : Type 1} → statement M
-copy-block-spec =
+pub copy_block_spec : {M : Type 1} → statement M
+copy_block_spec =
     tie.close
     (tie.spec
     invariant-loop

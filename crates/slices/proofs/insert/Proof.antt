@@ -4,8 +4,8 @@ use mathlib.Core.Path.{◌≡◌, refl, sym}
 use Prim.Native.Nat.{◌-◌, ◌≤◌}
 use native.Mathlib.Omega.{arith}
 use lib.ListN.{length, get_or, length-set}
-use Rattle.slices.specs.promises.Inserted.{inserted}
-use Rattle.slices.proofs.Gaps.{gap-none, gap-turn, gap-filled}
+use Rattle.slices.specs.Promises.Inserted.{inserted}
+use Rattle.slices.proofs.Gaps.{gap_none, gap_turn, gap_filled}
 use Rattle.slices.proofs.insert.Statement.{statement}
 use Rattle.slices.proofs.insert.Tie as tie
 
@@ -16,15 +16,15 @@ invariant-loop a₀ at end v i₀ a i =
 abbrev decreases-loop : tie.decreases-loop
 decreases-loop a₀ at end v i₀ a i = i - at
 
-loop-again : tie.Need-loop-preserved invariant-loop decreases-loop
-loop-again c =
+loop_again : tie.Need-loop-preserved invariant-loop decreases-loop
+loop_again c =
     let turn = c.before.before in
     let start = turn.before in
     let a = start.args in (
       omega arith,
       omega arith,
       simp length-set (omega arith),
-      gap-turn a.a.now turn.loop.a a.end
+      gap_turn a.a.now turn.loop.a a.end
           (omega arith) turn.loop.i (omega arith) (omega arith) turn.loop.invariant.3,
     )
 
@@ -33,16 +33,16 @@ returns c =
     let turn = c.before in
     let start = turn.before in
     let a = start.args in
-    gap-filled a.a.now turn.loop.a a.end (omega arith) a.at turn.loop.i a.v (omega arith)
+    gap_filled a.a.now turn.loop.a a.end (omega arith) a.at turn.loop.i a.v (omega arith)
     (omega arith) (omega arith) turn.loop.invariant.3
 
-pub insert-spec : {M : Type 1} → statement M
-insert-spec =
+pub insert_spec : {M : Type 1} → statement M
+insert_spec =
     tie.close
     (tie.spec
     invariant-loop
     decreases-loop
-    (λ c. (omega arith, omega arith, refl, sym (gap-none c.args.a.now c.args.end (omega arith))))
+    (λ c. (omega arith, omega arith, refl, sym (gap_none c.args.a.now c.args.end (omega arith))))
     (λ c. search rules)
     (λ c. search rules)
     (λ c. search rules)
@@ -50,7 +50,7 @@ insert-spec =
     (λ c. search rules)
     (λ c. search rules)
     (λ c. search rules)
-    loop-again
+    loop_again
     (λ c. search rules)
     (λ c. search rules)
     (λ c. simp length-set (omega arith))

@@ -11,8 +11,8 @@ invariant-loop s from i₀ i = (from ≤ i) × (i ≤ length s)
 abbrev decreases-loop : tie.decreases-loop
 decreases-loop s from i₀ i = length s - i
 
-pub line-end-spec : {M : Type 1} → statement M
-line-end-spec =
+pub line_end_spec : {M : Type 1} → statement M
+line_end_spec =
     tie.close
     (tie.spec
     invariant-loop

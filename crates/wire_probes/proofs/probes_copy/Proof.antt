@@ -6,8 +6,8 @@ use mathlib.Core.Path.{refl}
 use Rattle.wire_probes.proofs.probes_copy.Statement.{statement}
 use Rattle.wire_probes.proofs.probes_copy.Tie as tie
 
-pub probes-copy-spec : {M : Type 1} → statement M
-probes-copy-spec =
+pub probes_copy_spec : {M : Type 1} → statement M
+probes_copy_spec =
     tie.close
     (tie.spec
     (λ c κs. search rules)

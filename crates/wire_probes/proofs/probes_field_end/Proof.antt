@@ -1,12 +1,12 @@
 -- `wire_probes::probes_field_end` meets its contract. Assumes nothing.
-use Rattle.wire_probes.proofs.Ends.{end-no-key, end-no-value, end-past}
+use Rattle.wire_probes.proofs.Ends.{end_no_key, end_no_value, end_past}
 use borrow.Author.Rules.{rules}
 use mathlib.Core.Path.{sym, ◌∙◌}
 use Rattle.wire_probes.proofs.probes_field_end.Statement.{statement}
 use Rattle.wire_probes.proofs.probes_field_end.Tie as tie
 
-pub probes-field-end-spec : {M : Type 1} → statement M
-probes-field-end-spec =
+pub probes_field_end_spec : {M : Type 1} → statement M
+probes_field_end_spec =
     tie.close
     (tie.spec
     (λ c κs. search rules)
@@ -15,14 +15,14 @@ probes-field-end-spec =
     (λ c κs. search rules)
     (λ c. search rules)
     (λ c. search rules)
-    (λ c. end-no-key c.before.before.before.before.args.s.now c.before.before.before.before.args.at
+    (λ c. end_no_key c.before.before.before.before.args.s.now c.before.before.before.before.args.at
     (sym c.enum_told.given.1 ∙ c.before.before.key.ensures))
-    (λ c. end-no-value c.before.before.before.before.before.before.before.before.args.s.now
+    (λ c. end_no_value c.before.before.before.before.before.before.before.before.args.s.now
     c.before.before.before.before.before.before.before.before.args.at _ _ _
     (sym c.before.before.before.before.number.given.1
     ∙ c.before.before.before.before.before.before.key.ensures)
     (sym c.enum-told2.given.1 ∙ c.before.before.skip.ensures))
-    (λ c. end-past c.before.before.before.before.before.before.before.before.before.args.s.now
+    (λ c. end_past c.before.before.before.before.before.before.before.before.before.args.s.now
     c.before.before.before.before.before.before.before.before.before.args.at _ _ _
     (sym c.before.before.before.before.before.number.given.1
     ∙ c.before.before.before.before.before.before.before.key.ensures) _

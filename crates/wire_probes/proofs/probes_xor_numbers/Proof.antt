@@ -1,6 +1,6 @@
 -- `wire_probes::probes_xor_numbers` meets its contract. Assumes nothing.
 use Prim.Native.Nat.{◌-◌}
-use Rattle.wire_probes.proofs.Numbers.{Passed, xor-ends, xor-breaks, xor-more, xor-less}
+use Rattle.wire_probes.proofs.Numbers.{Passed, xor_ends, xor_breaks, xor_more, xor_less}
 use borrow.Author.Rules.{rules}
 use lib.ListN.{length}
 use mathlib.Core.Path.{refl, sym, ◌∙◌}
@@ -13,8 +13,8 @@ invariant-loop s acc₀ at₀ acc at = Passed s acc at
 abbrev decreases-loop : tie.decreases-loop
 decreases-loop s acc₀ at₀ acc at = length s - at
 
-pub probes-xor-numbers-spec : {M : Type 1} → statement M
-probes-xor-numbers-spec =
+pub probes_xor_numbers_spec : {M : Type 1} → statement M
+probes_xor_numbers_spec =
     tie.close
     (tie.spec
     invariant-loop
@@ -22,18 +22,18 @@ probes-xor-numbers-spec =
     (λ c. refl)
     (λ c κs. search rules)
     (λ c. search rules)
-    (λ c. xor-breaks c.before.before.before.before.before.before.args.s.now
+    (λ c. xor_breaks c.before.before.before.before.before.before.args.s.now
     c.before.before.before.before.loop.acc c.before.before.before.before.loop.at
     c.before.before.before.before.loop.invariant c.before.before.before.loop-test.true
     (sym c.enum_told.given.1 ∙ c.before.before.number.ensures))
     (λ c. search rules)
-    (λ c. xor-less c.before.before.before.before.before.before.before.args.s.now
+    (λ c. xor_less c.before.before.before.before.before.before.before.args.s.now
     c.before.before.before.before.before.loop.acc c.before.before.before.before.before.loop.at
     c.before.before.before.before.before.loop.invariant _ _
     (sym c.before.value.given.1 ∙ c.before.before.before.number.ensures))
-    (λ c. xor-more c.before.before.before.before.before.before.before.args.s.now
+    (λ c. xor_more c.before.before.before.before.before.before.before.args.s.now
     c.before.before.before.before.before.loop.acc c.before.before.before.before.before.loop.at
     c.before.before.before.before.before.loop.invariant _ _
     (sym c.before.value.given.1 ∙ c.before.before.before.number.ensures))
-    (λ c. xor-ends c.before.before.before.args.s.now c.before.loop.acc c.before.loop.at
+    (λ c. xor_ends c.before.before.before.args.s.now c.before.loop.acc c.before.loop.at
     c.before.loop.invariant c.loop-test.false))

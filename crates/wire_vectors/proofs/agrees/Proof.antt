@@ -3,8 +3,8 @@ use Rattle.std.proofs.Common.{sym, length-take-le, rules}
 use Rattle.wire_vectors.proofs.agrees.Statement.{statement}
 use Rattle.wire_vectors.proofs.agrees.Tie as tie
 
-pub agrees-spec : {M : Type 1} → statement M
-agrees-spec =
+pub agrees_spec : {M : Type 1} → statement M
+agrees_spec =
     tie.close
     (tie.spec
     (λ c κs. search rules)

@@ -9,8 +9,8 @@ invariant-loop line out₀ at₀ n₀ out at n = (n ≤ length out₀) × (at �
 abbrev decreases-loop : tie.decreases-loop
 decreases-loop line out₀ at₀ n₀ out at n = length out₀ - n
 
-pub bytes-spec : {M : Type 1} → statement M
-bytes-spec =
+pub bytes_spec : {M : Type 1} → statement M
+bytes_spec =
     tie.close
     (tie.spec
     invariant-loop

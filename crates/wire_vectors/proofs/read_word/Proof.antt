@@ -9,8 +9,8 @@ invariant-loop line from at₀ value₀ at value = at ≤ length line
 abbrev decreases-loop : tie.decreases-loop
 decreases-loop line from at₀ value₀ at value = length line - at
 
-pub read-word-spec : {M : Type 1} → statement M
-read-word-spec =
+pub read_word_spec : {M : Type 1} → statement M
+read_word_spec =
     tie.close
     (tie.spec
     invariant-loop

@@ -1,11 +1,11 @@
 -- `alerts_apply::texts::fits_again` meets its contract.
-use Rattle.alerts_apply.specs.laws.Words.{again-right, again-wrong, again-open}
+use Rattle.alerts_apply.specs.Laws.Words.{again_right, again_wrong, again_open}
 use borrow.Author.Rules.{rules}
 use Rattle.alerts_apply.proofs.texts.fits_again.Statement.{statement}
 use Rattle.alerts_apply.proofs.texts.fits_again.Tie as tie
 
-pub fits-again-spec : {M : Type 1} → statement M
-fits-again-spec =
+pub fits_again_spec : {M : Type 1} → statement M
+fits_again_spec =
     tie.close
     (tie.spec
     (λ c. search rules)
@@ -18,8 +18,8 @@ fits-again-spec =
     (λ c. search rules)
     (λ c κs. search rules)
     (λ c. search rules)
-    (λ c. search (again-right))
+    (λ c. search (again_right))
     (λ c. search rules)
-    (λ c. search (again-wrong))
+    (λ c. search (again_wrong))
     (λ c. search rules)
-    (λ c. search (again-open)))
+    (λ c. search (again_open)))

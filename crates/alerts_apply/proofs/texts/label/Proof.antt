@@ -1,5 +1,5 @@
 -- `alerts_apply::texts::label` meets its contract.
-use Rattle.alerts_apply.specs.laws.Texts.{label-header, label-description}
+use Rattle.alerts_apply.specs.Laws.Texts.{label_header, label_description}
 use borrow.Author.Rules.{rules}
 use Rattle.alerts_apply.proofs.texts.label.Statement.{statement}
 use Rattle.alerts_apply.proofs.texts.label.Tie as tie
@@ -10,12 +10,12 @@ described c =
     let description = labelled.before.before.before in
     let past = description.before in
     let given = past.before.before in
-    label-description description.text-at2.result.from description.text-at2.result.to _ _
+    label_description description.text-at2.result.from description.text-at2.result.to _ _
     given.is-given.ensures c.if1.false past.past-optional-text.ensures description.text-at2.ensures
     labelled.label.ensures
 
-pub label-spec : {M : Type 1} → statement M
-label-spec =
+pub label_spec : {M : Type 1} → statement M
+label_spec =
     tie.close
     (tie.spec
     (λ c κs. search rules)
@@ -30,6 +30,6 @@ label-spec =
     (λ c. search rules)
     (λ c κs. search rules)
     (λ c. search rules)
-    (λ c. search label-header)
+    (λ c. search label_header)
     (λ c. search rules)
     described)

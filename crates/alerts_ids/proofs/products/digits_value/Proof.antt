@@ -1,11 +1,11 @@
 -- `alerts_ids::products::digits_value` meets its contract.
-use Rattle.alerts_ids.specs.laws.LineCodes.{five-digits}
+use Rattle.alerts_ids.specs.Laws.LineCodes.{five_digits}
 use borrow.Author.Rules.{rules}
 use Rattle.alerts_ids.proofs.products.digits_value.Statement.{statement}
 use Rattle.alerts_ids.proofs.products.digits_value.Tie as tie
 
-pub digits-value-spec : {M : Type 1} → statement M
-digits-value-spec =
+pub digits_value_spec : {M : Type 1} → statement M
+digits_value_spec =
     tie.close
     (tie.spec
     (λ c. search rules)
@@ -19,4 +19,4 @@ digits-value-spec =
     (λ c. search rules)
     (λ c κs. search rules)
     (λ c κs. search rules)
-    (λ c. search five-digits))
+    (λ c. search five_digits))

@@ -1,11 +1,11 @@
 -- `alerts_ids::products::row_name` meets its contract.
-use Rattle.alerts_ids.specs.laws.Products.{name-room, row_wrote}
+use Rattle.alerts_ids.specs.Laws.Products.{name_room, row_wrote}
 use borrow.Author.Rules.{rules}
 use Rattle.alerts_ids.proofs.products.row_name.Statement.{statement}
 use Rattle.alerts_ids.proofs.products.row_name.Tie as tie
 
-pub row-name-spec : {M : Type 1} → statement M
-row-name-spec =
+pub row_name_spec : {M : Type 1} → statement M
+row_name_spec =
     tie.close
     (tie.spec
     (λ c. search rules)
@@ -14,6 +14,6 @@ row-name-spec =
     (λ c. search rules)
     (λ c. search rules)
     (λ c κs. search rules)
-    (λ c κs. search (name-room))
+    (λ c κs. search (name_room))
     (λ c. search rules)
     (λ c. search (row_wrote)))

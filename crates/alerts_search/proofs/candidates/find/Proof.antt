@@ -1,6 +1,6 @@
 -- `alerts_search::candidates::find` meets its contract.
 -- The invariant: the candidates among the alerts that are behind are written and marked.
-use Rattle.alerts_search.specs.laws.Candidates.{Searching, searching-start, searching-on, searching-end}
+use Rattle.alerts_search.specs.Laws.Candidates.{Searching, searching_start, searching_on, searching_end}
 use borrow.Author.Rules.{rules}
 use Rattle.alerts_search.proofs.candidates.find.Statement.{statement}
 use Rattle.alerts_search.proofs.candidates.find.Tie as tie
@@ -20,13 +20,13 @@ find_spec =
     decreases-loop
     (λ c κs. search rules)
     (λ c κs. search rules)
-    (λ c. search (searching-start))
+    (λ c. search (searching_start))
     (λ c κs. search rules)
     (λ c κs. search rules)
     (λ c. search rules)
     (λ c. search rules)
     (λ c. search rules)
-    (λ c. search (searching-on))
+    (λ c. search (searching_on))
     (λ c. search rules)
     (λ c. search rules)
-    (λ c. search (searching-end)))
+    (λ c. search (searching_end)))

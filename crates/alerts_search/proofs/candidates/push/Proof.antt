@@ -1,5 +1,5 @@
 -- `alerts_search::candidates::push` meets its contract.
-use Rattle.alerts_search.specs.laws.Candidates.{push-miss, push-marked, push-full, push-new}
+use Rattle.alerts_search.specs.Laws.Candidates.{push_miss, push_marked, push_full, push_new}
 use borrow.Author.Rules.{rules}
 use Rattle.alerts_search.proofs.candidates.push.Statement.{statement}
 use Rattle.alerts_search.proofs.candidates.push.Tie as tie
@@ -8,17 +8,17 @@ pub push_spec : {M : Type 1} → statement M
 push_spec =
     tie.close
     (tie.spec
-    (λ c. search (push-miss))
+    (λ c. search (push_miss))
     (λ c κs. search rules)
     (λ c. search rules)
-    (λ c. search (push-marked))
+    (λ c. search (push_marked))
     (λ c κs. search rules)
     (λ c. search rules)
-    (λ c. search (push-full))
+    (λ c. search (push_full))
     (λ c. search rules)
     (λ c. search rules)
     (λ c. search rules)
     (λ c. search rules)
     (λ c. search rules)
     (λ c. search rules)
-    (λ c. search (push-new)))
+    (λ c. search (push_new)))

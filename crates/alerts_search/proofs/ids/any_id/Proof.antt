@@ -1,5 +1,5 @@
 -- `alerts_search::ids::any_id` meets its contract. The invariant: `hit` says whether an id that was read said yes.
-use Rattle.alerts_search.specs.laws.Ids.{Asking, asking-start, asking-on, asking-end}
+use Rattle.alerts_search.specs.Laws.Ids.{Asking, asking_start, asking_on, asking_end}
 use borrow.Author.Rules.{rules}
 use Rattle.alerts_search.proofs.ids.any_id.Statement.{statement}
 use Rattle.alerts_search.proofs.ids.any_id.Tie as tie
@@ -10,14 +10,14 @@ invariant-loop ask x y s at p₀ left₀ hit₀ p left hit = Asking ask x y s p�
 abbrev decreases-loop : tie.decreases-loop
 decreases-loop ask x y s at p₀ left₀ hit₀ p left hit = left
 
-pub any-id-spec : {M : Type 1} → statement M
-any-id-spec =
+pub any_id_spec : {M : Type 1} → statement M
+any_id_spec =
     tie.close
     (tie.spec
     invariant-loop
     decreases-loop
     (λ c κs. search rules)
-    (λ c. asking-start)
+    (λ c. asking_start)
     (λ c κs. search rules)
     (λ c. search rules)
     (λ c. search rules)
@@ -25,5 +25,5 @@ any-id-spec =
     (λ c κs. search rules)
     (λ c. search rules)
     (λ c. search rules)
-    (λ c. search (asking-on))
-    (λ c. search (asking-end)))
+    (λ c. search (asking_on))
+    (λ c. search (asking_end)))

@@ -1,11 +1,11 @@
 -- `alerts_search::ids::hits_either` meets its contract.
-use Rattle.alerts_search.specs.laws.Ids.{either_first, either_second}
+use Rattle.alerts_search.specs.Laws.Ids.{either_first, either_second}
 use borrow.Author.Rules.{rules}
 use Rattle.alerts_search.proofs.ids.hits_either.Statement.{statement}
 use Rattle.alerts_search.proofs.ids.hits_either.Tie as tie
 
-pub hits-either-spec : {M : Type 1} → statement M
-hits-either-spec =
+pub hits_either_spec : {M : Type 1} → statement M
+hits_either_spec =
     tie.close
     (tie.spec
     (λ c κs. search rules)

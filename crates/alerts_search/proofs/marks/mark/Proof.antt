@@ -1,5 +1,5 @@
 -- `alerts_search::marks::mark` meets its contract.
-use Rattle.alerts_search.specs.laws.Marks.{set-mark}
+use Rattle.alerts_search.specs.Laws.Marks.{set_mark}
 use borrow.Author.Rules.{rules}
 use native.Mathlib.Omega.{arith}
 use Rattle.alerts_search.proofs.marks.mark.Statement.{statement}
@@ -12,4 +12,4 @@ mark_spec =
     (λ c. search rules)
     (λ c. search rules)
     (λ c. search rules)
-    (λ c. set-mark _ _ (omega arith)))
+    (λ c. set_mark _ _ (omega arith)))

@@ -1,6 +1,6 @@
 -- `alerts_search::places::note_alerts` meets its contract.
 -- The invariant: the alerts that are behind stand at their places.
-use Rattle.alerts_search.specs.laws.Places.{Noting, noting-start, noting-on, noting-end}
+use Rattle.alerts_search.specs.Laws.Places.{Noting, noting_start, noting_on, noting_end}
 use borrow.Author.Rules.{rules}
 use Rattle.alerts_search.proofs.places.note_alerts.Statement.{statement}
 use Rattle.alerts_search.proofs.places.note_alerts.Tie as tie
@@ -11,19 +11,19 @@ invariant-loop s at places₀ p₀ left₀ i₀ places p left i = Noting s place
 abbrev decreases-loop : tie.decreases-loop
 decreases-loop s at places₀ p₀ left₀ i₀ places p left i = left
 
-pub note-alerts-spec : {M : Type 1} → statement M
-note-alerts-spec =
+pub note_alerts_spec : {M : Type 1} → statement M
+note_alerts_spec =
     tie.close
     (tie.spec
     invariant-loop
     decreases-loop
     (λ c κs. search rules)
-    (λ c. noting-start)
+    (λ c. noting_start)
     (λ c κs. search rules)
     (λ c κs. search rules)
     (λ c. search rules)
     (λ c. search rules)
     (λ c. search rules)
-    (λ c. search (noting-on))
+    (λ c. search (noting_on))
     (λ c. search rules)
-    (λ c. search (noting-end)))
+    (λ c. search (noting_end)))

@@ -6,8 +6,8 @@ use borrow.Author.Rules.{rules}
 use Rattle.alerts_text.proofs.blob.mark_folded.Statement.{statement}
 use Rattle.alerts_text.proofs.blob.mark_folded.Tie as tie
 
-pub mark-folded-spec : {M : Type 1} → statement M
-mark-folded-spec =
+pub mark_folded_spec : {M : Type 1} → statement M
+mark_folded_spec =
     tie.close
     (tie.spec
     (λ c.

@@ -6,8 +6,8 @@ use borrow.Author.Rules.{rules}
 use Rattle.alerts_text.proofs.blob.ok_at.Statement.{statement}
 use Rattle.alerts_text.proofs.blob.ok_at.Tie as tie
 
-pub ok-at-spec : {M : Type 1} → statement M
-ok-at-spec =
+pub ok_at_spec : {M : Type 1} → statement M
+ok_at_spec =
     tie.close
     (tie.spec
     (λ c.

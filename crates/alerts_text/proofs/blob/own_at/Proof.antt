@@ -6,8 +6,8 @@ use borrow.Author.Rules.{rules}
 use Rattle.alerts_text.proofs.blob.own_at.Statement.{statement}
 use Rattle.alerts_text.proofs.blob.own_at.Tie as tie
 
-pub own-at-spec : {M : Type 1} → statement M
-own-at-spec =
+pub own_at_spec : {M : Type 1} → statement M
+own_at_spec =
     tie.close
     (tie.spec
     (λ c. sym (length-take-le c.before.before.args.e c.before.before.args.s.now (omega arith)))

@@ -6,8 +6,8 @@ use borrow.Author.Rules.{rules}
 use Rattle.alerts_text.proofs.blob.road_at.Statement.{statement}
 use Rattle.alerts_text.proofs.blob.road_at.Tie as tie
 
-pub road-at-spec : {M : Type 1} → statement M
-road-at-spec =
+pub road_at_spec : {M : Type 1} → statement M
+road_at_spec =
     tie.close
     (tie.spec
     (λ c. sym (length-take-le c.before.before.args.n c.before.before.args.s.now (omega arith)))

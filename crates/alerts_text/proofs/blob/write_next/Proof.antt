@@ -3,12 +3,12 @@ use mathlib.Core.Path.{◌∙◌}
 use lib.ListN.{length-set}
 use native.Mathlib.Omega.{arith}
 use borrow.Author.Rules.{rules}
-use Rattle.alerts_text.proofs.Folding.{next-written}
+use Rattle.alerts_text.proofs.Folding.{next_written}
 use Rattle.alerts_text.proofs.blob.write_next.Statement.{statement}
 use Rattle.alerts_text.proofs.blob.write_next.Tie as tie
 
-pub write-next-spec : {M : Type 1} → statement M
-write-next-spec =
+pub write_next_spec : {M : Type 1} → statement M
+write_next_spec =
     tie.close
     (tie.spec
     (λ c. search rules)
@@ -19,4 +19,4 @@ write-next-spec =
     (λ c.
     let a = c.before.before.before.before.before.before.args in
     c.before.before.write.ensures.kept ∙ length-set a.out.now a.at 32)
-    (λ c. search (next-written)))
+    (λ c. search (next_written)))

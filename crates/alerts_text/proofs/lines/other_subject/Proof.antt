@@ -4,8 +4,8 @@ use Rattle.alerts_text.proofs.Naming.{others}
 use Rattle.alerts_text.proofs.lines.other_subject.Statement.{statement}
 use Rattle.alerts_text.proofs.lines.other_subject.Tie as tie
 
-pub other-subject-spec : {M : Type 1} → statement M
-other-subject-spec =
+pub other_subject_spec : {M : Type 1} → statement M
+other_subject_spec =
     tie.close
     (tie.spec
     (λ c. search rules)

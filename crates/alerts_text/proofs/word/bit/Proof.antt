@@ -1,11 +1,11 @@
 -- `alerts_text::word::bit` meets its contract.
-use Rattle.alerts_text.specs.laws.Word.{bit-set, bit-clear}
+use Rattle.alerts_text.specs.Laws.Word.{bit_set, bit_clear}
 use Rattle.alerts_text.proofs.word.bit.Statement.{statement}
 use Rattle.alerts_text.proofs.word.bit.Tie as tie
 
-pub bit-spec : {M : Type 1} → statement M
-bit-spec =
+pub bit_spec : {M : Type 1} → statement M
+bit_spec =
     tie.close
     (tie.spec
-    (λ c. search (bit-set))
-    (λ c. search (bit-clear)))
+    (λ c. search (bit_set))
+    (λ c. search (bit_clear)))

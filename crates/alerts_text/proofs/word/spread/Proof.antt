@@ -1,7 +1,7 @@
 -- `alerts_text::word::spread` meets its contract.
 use Prim.Native.Nat.{◌-◌}
 use borrow.Author.Rules.{rules}
-use Rattle.alerts_text.specs.laws.Word.{Spreading, spread-start, spread-more, spread_end}
+use Rattle.alerts_text.specs.Laws.Word.{Spreading, spread_start, spread_more, spread_end}
 use Rattle.alerts_text.proofs.word.spread.Statement.{statement}
 use Rattle.alerts_text.proofs.word.spread.Tie as tie
 
@@ -11,17 +11,17 @@ invariant-loop marks₀ word left₀ k₀ marks left k = Spreading word marks le
 abbrev decreases-loop : tie.decreases-loop
 decreases-loop marks₀ word left₀ k₀ marks left k = 32 - k
 
-pub spread-spec : {M : Type 1} → statement M
-spread-spec =
+pub spread_spec : {M : Type 1} → statement M
+spread_spec =
     tie.close
     (tie.spec
     invariant-loop
     decreases-loop
-    (λ c. search (spread-start))
+    (λ c. search (spread_start))
     (λ c κs. search rules)
     (λ c. search rules)
     (λ c. search rules)
     (λ c. search rules)
-    (λ c. search (spread-more))
+    (λ c. search (spread_more))
     (λ c. search rules)
     (λ c. search (spread_end)))

@@ -9,8 +9,8 @@ invariant-loop kind s at p₀ left₀ p left = Unit {0}
 abbrev decreases-loop : tie.decreases-loop
 decreases-loop kind s at p₀ left₀ p left = left
 
-pub leaves-spec : {M : Type 1} → statement M
-leaves-spec =
+pub leaves_spec : {M : Type 1} → statement M
+leaves_spec =
     tie.close
     (tie.spec
     invariant-loop

@@ -9,8 +9,8 @@ invariant-loop s at p₀ left₀ p left = Unit {0}
 abbrev decreases-loop : tie.decreases-loop
 decreases-loop s at p₀ left₀ p left = left
 
-pub legs-spec : {M : Type 1} → statement M
-legs-spec =
+pub legs_spec : {M : Type 1} → statement M
+legs_spec =
     tie.close
     (tie.spec
     invariant-loop

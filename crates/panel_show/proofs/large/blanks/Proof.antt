@@ -9,8 +9,8 @@ invariant-loop n left₀ left = Unit {0}
 abbrev decreases-loop : tie.decreases-loop
 decreases-loop n left₀ left = left
 
-pub blanks-spec : {M : Type 1} → statement M
-blanks-spec =
+pub blanks_spec : {M : Type 1} → statement M
+blanks_spec =
     tie.close
     (tie.spec
     invariant-loop

@@ -9,8 +9,8 @@ invariant-loop bits waiting b₀ w₀ left₀ b w left = Unit {0}
 abbrev decreases-loop : tie.decreases-loop
 decreases-loop bits waiting b₀ w₀ left₀ b w left = left
 
-pub letter-row-spec : {M : Type 1} → statement M
-letter-row-spec =
+pub letter_row_spec : {M : Type 1} → statement M
+letter_row_spec =
     tie.close
     (tie.spec
     invariant-loop

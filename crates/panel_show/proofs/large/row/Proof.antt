@@ -11,8 +11,8 @@ invariant-loop text n waiting₀ i₀ t5 waiting i = Unit {0}
 abbrev decreases-loop : tie.decreases-loop
 decreases-loop text n waiting₀ i₀ t5 waiting i = length text - i
 
-pub row-spec : {M : Type 1} → statement M
-row-spec =
+pub row_spec : {M : Type 1} → statement M
+row_spec =
     tie.close
     (tie.spec
     invariant-loop

@@ -9,8 +9,8 @@ invariant-loop m n x₀ left₀ x left = Unit {0}
 abbrev decreases-loop : tie.decreases-loop
 decreases-loop m n x₀ left₀ x left = left
 
-pub doubled-spec : {M : Type 1} → statement M
-doubled-spec =
+pub doubled_spec : {M : Type 1} → statement M
+doubled_spec =
     tie.close
     (tie.spec
     invariant-loop

@@ -9,8 +9,8 @@ invariant-loop m n x₀ left₀ x left = Unit {0}
 abbrev decreases-loop : tie.decreases-loop
 decreases-loop m n x₀ left₀ x left = left
 
-pub halved-spec : {M : Type 1} → statement M
-halved-spec =
+pub halved_spec : {M : Type 1} → statement M
+halved_spec =
     tie.close
     (tie.spec
     invariant-loop

@@ -9,8 +9,8 @@ invariant-loop fraction f₀ left₀ f left = Unit {0}
 abbrev decreases-loop : tie.decreases-loop
 decreases-loop fraction f₀ left₀ f left = left
 
-pub say-fraction-spec : {M : Type 1} → statement M
-say-fraction-spec =
+pub say_fraction_spec : {M : Type 1} → statement M
+say_fraction_spec =
     tie.close
     (tie.spec
     invariant-loop

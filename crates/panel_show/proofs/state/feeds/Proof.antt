@@ -9,8 +9,8 @@ invariant-loop s at p₀ left₀ p left = Unit {0}
 abbrev decreases-loop : tie.decreases-loop
 decreases-loop s at p₀ left₀ p left = left
 
-pub feeds-spec : {M : Type 1} → statement M
-feeds-spec =
+pub feeds_spec : {M : Type 1} → statement M
+feeds_spec =
     tie.close
     (tie.spec
     invariant-loop

@@ -9,8 +9,8 @@ invariant-loop trips s at p₀ left₀ p left = Unit {0}
 abbrev decreases-loop : tie.decreases-loop
 decreases-loop trips s at p₀ left₀ p left = left
 
-pub records-spec : {M : Type 1} → statement M
-records-spec =
+pub records_spec : {M : Type 1} → statement M
+records_spec =
     tie.close
     (tie.spec
     invariant-loop

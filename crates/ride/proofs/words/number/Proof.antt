@@ -9,8 +9,8 @@ invariant-loop word n₀ left₀ i₀ n left i = Unit {0}
 abbrev decreases-loop : tie.decreases-loop
 decreases-loop word n₀ left₀ i₀ n left i = left
 
-pub number-spec : {M : Type 1} → statement M
-number-spec =
+pub number_spec : {M : Type 1} → statement M
+number_spec =
     tie.close
     (tie.spec
     invariant-loop

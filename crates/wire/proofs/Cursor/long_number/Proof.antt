@@ -3,8 +3,8 @@ use borrow.Author.Rules.{rules}
 use native.Mathlib.Omega.{arith}
 use Prim.Native.Nat.{◌-◌, ◌%◌}
 use lib.ListN.{length}
-use Rattle.wire.proofs.Number.{Reading, reading-start, reading-more, number-ends, number-breaks, number-none}
-use Rattle.wire.proofs.Number.{digits_last, digits-over, digits_low, room-last, room-more, scaled}
+use Rattle.wire.proofs.Number.{Reading, reading_start, reading_more, number_ends, number_breaks, number_none}
+use Rattle.wire.proofs.Number.{digits_last, digits_over, digits_low, room_last, room_more, scaled}
 use Rattle.wire.proofs.Cursor.long_number.Statement.{statement}
 use Rattle.wire.proofs.Cursor.long_number.Tie as tie
 
@@ -14,13 +14,13 @@ invariant-loop s at₀ value₀ scale₀ more₀ at value scale more = Reading s
 abbrev decreases-loop : tie.decreases-loop
 decreases-loop s at₀ value₀ scale₀ more₀ at value scale more = length s - at
 
-pub long-number-spec : {M : Type 1} → statement M
-long-number-spec =
+pub long_number_spec : {M : Type 1} → statement M
+long_number_spec =
     tie.close
     (tie.spec
     invariant-loop
     decreases-loop
-    (λ c. reading-start _ _)
+    (λ c. reading_start _ _)
     (λ c. search rules)
     (λ c κs. search rules)
     (λ c. search rules)
@@ -28,7 +28,7 @@ long-number-spec =
     let w = c.before.before.wide in
     omega (
       arith,
-      room-last l.scale l.more c.before.if1.true l.invariant.room,
+      room_last l.scale l.more c.before.if1.true l.invariant.room,
       scaled w.result 1 l.scale c.if2.true,
     ))
     (λ c. let l = c.before.before.before.before.before.loop in
@@ -36,24 +36,24 @@ long-number-spec =
     omega (
       arith,
       l.invariant.small,
-      room-last l.scale l.more c.before.if1.true l.invariant.room,
+      room_last l.scale l.more c.before.if1.true l.invariant.room,
       scaled w.result 1 l.scale c.if2.true,
     ))
     (λ c. let l = c.before.before.before.before.before.loop in
     let w = c.before.before.wide in
-    number-ends _ _ l.at l.value l.scale l.more w.result l.invariant w.ensures
+    number_ends _ _ l.at l.value l.scale l.more w.result l.invariant w.ensures
     c.before.before.before.before.loop-test.true
     (digits_last l.more w.result _ c.before.if1.true c.if2.true))
     (λ c. let l = c.before.before.before.before.before.loop in
     let w = c.before.before.wide in
-    number-breaks _ _ l.at l.value l.scale l.more w.result l.invariant w.ensures
+    number_breaks _ _ l.at l.value l.scale l.more w.result l.invariant w.ensures
     c.before.before.before.before.loop-test.true
-    (digits-over l.more w.result _ c.before.if1.true c.if2.false))
+    (digits_over l.more w.result _ c.before.if1.true c.if2.false))
     (λ c. let l = c.before.before.before.before.before.loop in
     let w = c.before.before.wide in
     omega (
       arith,
-      room-more l.scale l.more c.before.if1.false l.invariant.room,
+      room_more l.scale l.more c.before.if1.false l.invariant.room,
       scaled w.result 127 l.scale (omega arith),
     ))
     (λ c. let l = c.before.before.before.before.before.loop in
@@ -61,19 +61,19 @@ long-number-spec =
     omega (
       arith,
       l.invariant.small,
-      room-more l.scale l.more c.before.if1.false l.invariant.room,
+      room_more l.scale l.more c.before.if1.false l.invariant.room,
       scaled w.result 127 l.scale (omega arith),
     ))
     (λ c. let l = c.before.before.before.before.before.loop in
     let w = c.before.before.wide in
-    number-ends _ _ l.at l.value l.scale l.more w.result l.invariant w.ensures
+    number_ends _ _ l.at l.value l.scale l.more w.result l.invariant w.ensures
     c.before.before.before.before.loop-test.true
     (digits_low l.more w.result _ c.before.if1.false c.if3.true))
     (λ c. let l = c.before.before.before.before.before.loop in
     let w = c.before.before.wide in
     omega (
       arith,
-      room-more l.scale l.more c.before.if1.false l.invariant.room,
+      room_more l.scale l.more c.before.if1.false l.invariant.room,
       scaled (w.result % 128) 127 l.scale (omega arith),
     ))
     (λ c. let l = c.before.before.before.before.before.loop in
@@ -81,16 +81,16 @@ long-number-spec =
     omega (
       arith,
       l.invariant.small,
-      room-more l.scale l.more c.before.if1.false l.invariant.room,
+      room_more l.scale l.more c.before.if1.false l.invariant.room,
       scaled (w.result % 128) 127 l.scale (omega arith),
     ))
     (λ c. let l = c.before.before.before.before.before.loop in
-    omega (arith, room-more l.scale l.more c.before.if1.false l.invariant.room))
+    omega (arith, room_more l.scale l.more c.before.if1.false l.invariant.room))
     (λ c. search rules)
     (λ c. search rules)
     (λ c. let l = c.before.before.before.before.before.loop in
     let w = c.before.before.wide in
-    reading-more _ _ l.at l.value l.scale l.more w.result l.invariant w.ensures
+    reading_more _ _ l.at l.value l.scale l.more w.result l.invariant w.ensures
     c.before.before.before.before.loop-test.true c.before.if1.false c.if3.false)
     (λ c. let l = c.before.loop in
-    number-none _ _ l.at l.value l.scale l.more l.invariant c.loop-test.false))
+    number_none _ _ l.at l.value l.scale l.more l.invariant c.loop-test.false))
