@@ -9,7 +9,7 @@ import sys
 ROOT = os.path.dirname(os.path.dirname(os.path.abspath(__file__)))
 WIDTH = 120
 KIT = ("check", "libc", "io", "os", "bytes")  # the kit's crates that crates.txt may list
-DEFINITION, PROMISE, LAW = "", "promises", "laws"  # folders of specs/, and the kinds of their files
+DEFINITION, PROMISE, LAW = "", "Promises", "Laws"  # folders of specs/, and the kinds of their files
 HEAD = {DEFINITION: "-- Believe: ", PROMISE: "-- Promise. ", LAW: "-- Law. "}
 
 # ---------------------------------------------------------------- files
@@ -38,7 +38,7 @@ def names_in(folder):
 def files(folder, *suffixes):
     """The files below a folder with one of these endings, in order, as paths of the repository."""
     for base, folders, found in os.walk(os.path.join(ROOT, folder)):
-        folders[:] = sorted(f for f in folders if f not in ("target", "__pycache__"))
+        folders[:] = sorted(f for f in folders if f not in ("target", "out", "__pycache__"))
         for name in sorted(found):
             if name.endswith(suffixes):
                 yield os.path.relpath(os.path.join(base, name), ROOT)
@@ -57,12 +57,12 @@ def digest(text):
 
 
 def crates():
-    """The crates in their order: name -> what it stands on."""
+    """The crates in their order: name -> what it stands on. A word after the name, `staticlib`, says of what kind."""
     found = collections.OrderedDict()
     for line in read("crates.txt").split("\n"):
         name, colon, below = line.partition("#")[0].partition(":")
         if colon:
-            found[name.strip()] = below.split()
+            found[name.split()[0]] = below.split()
     return found
 
 
@@ -90,8 +90,8 @@ def parse_use(statement):
     return (m.group(1), None, m.group(2)) if m else (statement, None, None)
 
 
-SPEC_PATH = re.compile(r"Rattle·(\w+?)(?:·specs)?\.specs\.(?:(laws|promises)\.)?([A-Z]\w*)$")
-TYPE_PATH = re.compile(r"Rattle·(\w+?)(?:·specs)?\.specs\.declared\.(\w+)")
+SPEC_PATH = re.compile(r"Rattle\.(\w+)\.specs\.(?:(Laws|Promises)\.)?([A-Z]\w*)$")
+TYPE_PATH = re.compile(r"Rattle\.(\w+)\.specs\.declared\.(?:\w+\.)*?([A-Z]\w*)")
 
 # ---------------------------------------------------------------- declarations of specs/
 
@@ -190,7 +190,7 @@ def specs():
     for crate in names_in("crates"):
         for folder in (DEFINITION, PROMISE, LAW):
             for name in names_in(os.path.join("crates", crate, "specs", folder)):
-                if name.endswith(".antt") and name[0].isupper() and name != "Lib.antt":
+                if name.endswith(".antt") and name[:-5] not in ("Lib", PROMISE, LAW):
                     found[crate, folder, name[:-5]] = Spec(crate, folder, name[:-5])
     return found
 

@@ -1,5 +1,6 @@
 //! Writes crates of antt, one for each definition, in which each case is an equation, closed by `refl`,
 //! between the definition at closed inputs and the original's answer. The checker then computes it.
+//! They are a repository of their own, in DIRECTORY, whose file `needed` names the crates that they stand on.
 //! usage: definitions DIRECTORY SEED SHARE (in the repository's folder; of the cases one in SHARE is written)
 mod alerts;
 mod branches;
@@ -56,13 +57,9 @@ pub fn equation(definition: &str, inputs: &[String], right: String) -> Equation 
 }
 
 const COMMON: &str = "\
-use mathlib.Core.Path.{_≡_, refl}
-use mathlib.Core.Bool.{Bool, true, false}
-use mathlib.Core.List.{List, [], _∷_}
-use mathlib.Core.Logic.{_⊎_, inl, inr}
-use mathlib.Core.Option.{Option, none, some}
-use Prim.Native.Nat.{ℕ}
-use lib.IntN.{ℤ, pos, negsuc}
+use Rattle.std.specs.Prelude.{◌≡◌, refl, Bool, true, false, List, [], ◌∷◌, ◌⊎◌, ℕ, ℤ, pos, negsuc}
+use Rattle.std.proofs.Common.{inl, inr}
+use Rattle.std.proofs.Math.Option.{Option, none, some}
 ";
 
 fn main() {
@@ -83,19 +80,21 @@ fn main() {
         panel::DEFINITIONS,
         refusals::DEFINITIONS,
     ];
-    let mut needed = BTreeSet::new();
+    let (mut needed, mut written) = (BTreeSet::new(), Vec::new());
     for definition in known.into_iter().flatten() {
         let crates = stands_on(definition.of);
         if crates.is_empty() {
             println!("{}: left out, there is no crate {}", definition.name, definition.of);
         } else {
             let cases = cases(definition, &mut Random::new(seed), share);
-            write_cases(&directory.join("cases").join(definition.name), definition, &crates, &cases);
+            write_cases(&directory.join("crates").join(definition.name), definition, &crates, &cases);
             needed.extend(crates);
+            written.push(definition.name);
         }
     }
-    let needed: String = needed.iter().map(|name| format!("{name}\n")).collect();
-    write(&directory.join("crates"), &needed);
+    write(&directory.join("needed"), &needed.iter().map(|name| format!("{name}\n")).collect::<String>());
+    let listed: String = written.iter().map(|name| format!("{name}:\n")).collect();
+    write(&directory.join("crates.txt"), &listed);
 }
 
 /// One in `share` of the definition's cases, and no fewer than the least.
