@@ -1,6 +1,7 @@
 """What the repository's tools share: its files and crates, the imports and declarations of specs/ and src/, and how a
 tool says what it found. A tool looks at the repository that it stands in."""
 import collections
+import functools
 import hashlib
 import os
 import re
@@ -56,6 +57,7 @@ def digest(text):
 # ---------------------------------------------------------------- crates.txt
 
 
+@functools.lru_cache(maxsize=None)
 def crates():
     """The crates in their order: name -> what it stands on. A word after the name, `staticlib`, says of what kind."""
     found = collections.OrderedDict()
@@ -90,8 +92,16 @@ def parse_use(statement):
     return (m.group(1), None, m.group(2)) if m else (statement, None, None)
 
 
+# Of the repository's crates and of the kit's libraries alike.
 SPEC_PATH = re.compile(r"Rattle\.(\w+)\.specs\.(?:(Laws|Promises)\.)?([A-Z]\w*)$")
 TYPE_PATH = re.compile(r"Rattle\.(\w+)\.specs\.declared\.(?:\w+\.)*?([A-Z]\w*)")
+
+
+def spec_at(path):
+    """The file of specs/ of this repository that an import leads to, as (crate, folder, name), or None."""
+    m = SPEC_PATH.match(path)
+    return (m.group(1), m.group(2) or DEFINITION, m.group(3)) if m and m.group(1) in crates() else None
+
 
 # ---------------------------------------------------------------- declarations of specs/
 
