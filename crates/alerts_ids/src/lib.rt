@@ -1,4 +1,6 @@
 // Tests on ids and short names, on lent slices, under the names of the rules.
+#![tactic(auto)]
+
 pub mod products; // product codes and their lines
 
 ghost use Rattle.std.specs.Prelude.{◌≡◌, ◌++◌, ◌≤◌, length, drop};

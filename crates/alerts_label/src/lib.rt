@@ -1,4 +1,6 @@
 // The label of an alert, as a part of lent bytes.
+#![tactic(auto)]
+
 ghost use Rattle.std.specs.Prelude.{◌≡◌};
 ghost use Rattle.alerts.specs.Label.{continues, label_of};
 ghost use Rattle.alerts.specs.Promises.Label.{Ends};

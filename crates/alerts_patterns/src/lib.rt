@@ -1,5 +1,7 @@
 // Texts searched for patterns: one that is lent in three parts, what stands before a name, the name, what stands after
 // it; and a table of them.
+#![tactic(auto)]
+
 ghost use Rattle.std.specs.Prelude.{◌≡◌, ◌&&◌, ◌||◌, ◌++◌, ◌+◌, ◌≤◌, ◌<◌, eqb, length, drop};
 ghost use Rattle.alerts.specs.Text.{begins, contains, find};
 ghost use Rattle.alerts_patterns.specs.Promises.Occurrence.{found_of, Skips, SkipsName, Seeks, SeeksTo, between};

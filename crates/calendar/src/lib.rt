@@ -1,5 +1,7 @@
 // The date in Paris at an instant, for every instant since 1970: the civil calendar, and the rule of document 01's
 // `chrono_tz`.
+#![tactic(auto)]
+
 ghost use Rattle.std.specs.Prelude.{◌≡◌, ◌≤◌};
 ghost use Rattle.calendar.specs.Civil.{leap_day, year_of, month_of, last_sunday};
 ghost use Rattle.calendar.specs.Paris.{is_summer, offset_at, paris_day, paris_date, digit_of, digits_of, paris_digits};

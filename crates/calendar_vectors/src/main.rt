@@ -3,6 +3,8 @@
 // database: midnight in Paris and the second before it, around each change of the clocks and at each new year from
 // 2000 to 2037. What the calendar answers is proved in `calendar`; the functions here promise nothing of what they
 // read, so they have no `ensures`.
+#![tactic(auto)]
+
 ghost use Rattle.std.specs.Prelude.{◌+◌, ◌≤◌, length};
 
 use libc::{STDIN_FILENO, STDOUT_FILENO};

@@ -1,4 +1,6 @@
 // Reading by a format: numbers, and an interpreter that passes over a value of the format that a table holds.
+#![tactic(auto)]
+
 ghost use Rattle.std.specs.Prelude.{◌≡◌, ◌+◌, ◌*◌, ◌<◌, ◌≤◌, length, get_or, drop};
 ghost use Rattle.formats.specs.Readers.{bytes_r, const_r};
 ghost use Rattle.formats.specs.Number.{number_r, little_r};

@@ -1,5 +1,7 @@
 // Checked reading: each function asks in one walk whether a good value of a format stands at a place, and answers the
 // place past it.
+#![tactic(auto)]
+
 ghost use Rattle.std.specs.Prelude.{◌≡◌, ◌+◌, ◌-◌, ◌≤◌, length, take, drop};
 ghost use Rattle.formats.specs.Class.{any, printable};
 ghost use Rattle.formats.specs.Format.{small, text, float, list, optional};

@@ -1,4 +1,6 @@
 // Document 01's questions 5, 6 and 7, put to a value of the format that a table holds, in one pass over it.
+#![tactic(auto)]
+
 ghost use Rattle.std.specs.Prelude.{◌≡◌, ◌&&◌, ◌<◌, ◌≤◌, length, drop, leb};
 ghost use Rattle.formats.specs.Number.{zag};
 ghost use Rattle.formats.specs.Readers.{bytes_r};

@@ -1,5 +1,7 @@
 // Reads at a place of a lent slice, by the format of the value that stands there. They are total: where no such
 // value stands, they answer something.
+#![tactic(auto)]
+
 ghost use Rattle.std.specs.Prelude.{◌≡◌, ℕ, ◌≤◌, ℤ, length};
 ghost use Rattle.formats.specs.Format.{Value, number, signed, float, optional};
 ghost use Rattle.formats.specs.Promises.Outcome.{format_at};

@@ -1,5 +1,7 @@
 // Quick passes over a value that is known to stand at a place: nothing is judged. They are total: where no such value
 // stands, they answer something.
+#![tactic(auto)]
+
 ghost use Rattle.std.specs.Prelude.{◌≡◌, ◌+◌, ◌≤◌, length};
 ghost use Rattle.formats.specs.Class.{any};
 ghost use Rattle.formats.specs.Format.{number, text, float, list, optional};

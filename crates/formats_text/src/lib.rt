@@ -1,4 +1,6 @@
 // Whether a text is of a class.
+#![tactic(auto)]
+
 ghost use Rattle.std.specs.Prelude.{◌≡◌, [], ◌+◌, ◌≤◌, ◌<◌, length};
 ghost use Rattle.formats.specs.Class.{printable, token, allowed, due, utf8_rows, next, sequences, in_class};
 ghost use Rattle.basics.specs.Lists.{all};

@@ -1,6 +1,8 @@
 // Writers into a lent slice, from its start on, with a room test: each takes the next place and answers the place
 // past what it wrote, or that there is no room. So a value's writing is a straight line of calls, with no early
 // return.
+#![tactic(auto)]
+
 ghost use Rattle.std.specs.Prelude.{◌≡◌, [], ◌∷◌, ◌<◌, ◌≤◌, length};
 ghost use Rattle.std.proofs.Math.Seq.{slice};
 ghost use Rattle.formats.specs.Number.{groups_w, number_w, little_w, zig};

@@ -1,5 +1,7 @@
 // Signed numbers as the formats and the times of the journey have them: zigzag codes, a difference wrapped to 32
 // bits, a bounded sum.
+#![tactic(auto)]
+
 ghost use Rattle.std.specs.Prelude.{◌≡◌, ◌<◌, pos, negsuc, ◌+ℤ◌, ◌-ℤ◌, T};
 ghost use Rattle.std.specs.Int.Signed.{mag, non_neg};
 ghost use Rattle.formats.specs.Number.{zig, zag};

@@ -1,1 +1,2 @@
 // Ordered maps as ascending lists, with their laws. No code.
+#![tactic(auto)]

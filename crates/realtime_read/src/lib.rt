@@ -1,4 +1,6 @@
 // The messages of GTFS Realtime, read by what a list says of each field.
+#![tactic(auto)]
+
 pub mod fields; // the numbers of the listed fields
 
 ghost use Rattle.std.specs.Prelude.{◌≡◌, cond};

@@ -130,10 +130,10 @@ scalar_read {k} s {x} i l {r} h e O t p =
       within = room_far s i l h e Q;
     }
 
-pub merged_read : {t a k : ℕ} (s : List ℕ) {x : List ℕ} (i l : ℕ) {r : Scalar} → i + l ≤ length s
+pub merged_read : {t k : ℕ} (a : ℕ) (s : List ℕ) {x : List ℕ} (i l : ℕ) {r : Scalar} → i + l ≤ length s
     → x ≡ take (i + l) s → Reads scalar (inside a (taking (scalar_at k))) feed t x i Scalar.Nothing r
     → ScalarRead feed t s i l (sub a) k r
-merged_read {t} {a} {k} s i l h e Q = record {
+merged_read {t} {k} a s i l h e Q = record {
   of = λ m q. made_of s i l h e Q m q ∙ inside_sub a (taking (scalar_at k)) none m
       ∙ taking_last (scalar_at k) none (sub a m) ∙ leaf_is k (last k (sub a m));
   within = room_far s i l h e Q;
@@ -141,7 +141,7 @@ merged_read {t} {a} {k} s i l h e Q = record {
 
 pub scalar_read_in : {a k : ℕ} (s : List ℕ) {x : List ℕ} (i l : ℕ) {r : Scalar} → i + l ≤ length s
     → x ≡ take (i + l) s → OneReadsIn a k x i Scalar.Nothing r → OneReadIn a k s i l r
-scalar_read_in s i l h e O t u p v = merged_read s i l h e (record { made = O.of t u p v; within = O.within })
+scalar_read_in s i l h e O t u p v = merged_read _ s i l h e (record { made = O.of t u p v; within = O.within })
 
 -- what the readers of a message ask: it starts in the bytes up to its end
 pub starts_in : (s : List ℕ) {x : List ℕ} (i l : ℕ) → i + l ≤ length s → x ≡ take (i + l) s → i ≤ length x

@@ -1,4 +1,6 @@
 // The lines of a file of vectors, and hexadecimal digits: for the programs that run vectors.
+#![tactic(auto)]
+
 ghost use Rattle.std.specs.Prelude.{◌≤◌, ◌<◌, length};
 ghost use Rattle.vector_lines.specs.Promises.Line.{Past};
 

@@ -1,6 +1,8 @@
 // A vehicle's place by value: latitude, longitude and when it was told. Floats are handed on bit for bit. The
 // language has no bits of a NaN, so a coordinate is a float, or the pattern of a NaN: together they carry all 2^64
 // patterns.
+#![tactic(auto)]
+
 ghost use Rattle.std.specs.Prelude.{◌≡◌, T, not};
 ghost use Rattle.std.specs.Float.{binary64};
 ghost use Rattle.std.specs.Float.Ieee.{is_nan, nan_bits, of_bits, to_bits};

@@ -1,5 +1,7 @@
 // Calls of `slices` and `wire` for a C host: bench/bytes.c measures them, and runs the wire reader on an input too
 // long for a program's own arrays.
+#![tactic(auto)]
+
 ghost use Rattle.std.specs.Prelude.{◌≡◌, length, replicate};
 ghost use Rattle.slices.specs.Lists.{zeros, lex_of};
 ghost use Rattle.wire_probes.specs.Probes.{field_end, xor_numbers, copied, order_number};

@@ -5,6 +5,8 @@
 // or '!' behind the bytes, where they are broken. All numbers are hexadecimal, and one space stands between two
 // words. A line that begins with '#' says what follows. What the reader answers is proved in `wire`; here only the
 // places in a line are, so most functions have no `ensures`.
+#![tactic(auto)]
+
 ghost use Rattle.std.specs.Prelude.{◌≤◌, length};
 
 use libc::{STDIN_FILENO, STDOUT_FILENO};

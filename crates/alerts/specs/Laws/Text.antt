@@ -1,7 +1,7 @@
 -- Law. Laws of texts: a part of a part is a part, what stands at the front or the end is a part, what trimming and
 -- cutting leave.
 use Rattle.std.specs.Prelude.{◌≡◌, refl, List, [], ◌∷◌, ◌++◌, Bool, true, false, ℕ, eqb}
-use Rattle.std.proofs.Common.{sym, ap, ◌∙◌, append_assoc, append-nil, ⊎_elim, eqb-true, eq-eqb}
+use Rattle.std.proofs.Common.{sym, ap, subst, ◌∙◌, append_assoc, append-nil, ⊎_elim, eqb-true, eq-eqb}
 use Rattle.std.proofs.Math.Option.{Option, none, some}
 use Rattle.formats.specs.Laws.Law.{found}
 use Rattle.basics.specs.Laws.Options.{none_some}
@@ -68,7 +68,7 @@ pub ends_contains : (p s : List ℕ) → ends p s ≡ true → contains p s ≡ 
 ends_contains p [] e = e
 ends_contains p (b ∷ s) e =
     ⊎_elim
-    (λ h. rw (same_true p (b ∷ s) h) (contains_end [] (b ∷ s)))
+    (λ h. subst (λ q. contains q (b ∷ s) ≡ true) (sym (same_true p (b ∷ s) h)) (contains_end [] (b ∷ s)))
     (λ h. rw (ends_contains p s h) (or_comm (begins p (b ∷ s)) true))
     (or_true (same p (b ∷ s)) (ends p s) e)
 

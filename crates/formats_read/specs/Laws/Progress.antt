@@ -22,7 +22,7 @@ Progress f g s a n p left l r m k = Walk f s a n p left (λ us. Adds l r m k (ma
 pub one_more : {A : Type 0} (g : A → List ℕ) (us : List A) (v : A) → many_w g us ++ g v ≡ many_w g (us ++ (v ∷ []))
 one_more g us v = sym (many_append g us (v ∷ []) ∙ ap (λ l. many_w g us ++ l) (append-nil (g v)))
 
-module _ {f : Format} {g : Value f → List ℕ} {s : List ℕ} {a n : ℕ} {l : List ℕ} {r : Put} where
+module _ {f : Format} (g : Value f → List ℕ) {s : List ℕ} {a n : ℕ} {l : List ℕ} {r : Put} where
   pub start : Progress f g s a n a n l r l r
   start = begin none
 

@@ -1,6 +1,6 @@
 -- Law. A loop over the values of one format that stand one after another: what it has done for the values behind it,
 -- and what is still ahead.
-use Rattle.std.specs.Prelude.{◌≡◌, refl, List, [], ◌∷◌, ◌++◌, ℕ, ◌+◌, ◌-◌, ◌≤◌, ◌<◌, length}
+use Rattle.std.specs.Prelude.{◌≡◌, refl, List, [], ◌∷◌, ◌++◌, ℕ, ◌-◌, ◌≤◌, ◌<◌, length}
 use Rattle.std.proofs.Common.{sym, ◌∙◌, append_assoc, append-nil, arith}
 use Rattle.formats.specs.Format.{Format, list, Value}
 use Rattle.formats_read.specs.Promises.Here.{Here}

@@ -24,5 +24,5 @@ trip_of_spec =
     let p = u.before in
     let a = p.before.before in
     trip_read (lasting (3 ∷ 1 ∷ []) a.requires p.part.ensures refl u.over-updates.ensures.trip)
-    (merged_read a.args.s.now a.args.start a.args.len a.requires p.part.ensures
+    (merged_read _ a.args.s.now a.args.start a.args.len a.requires p.part.ensures
     u.over-updates.ensures.delay) c.trip-from.ensures))

@@ -1,0 +1,23 @@
+-- `alerts_patterns::find_around` meets its contract. The invariant: the first place is the first from i on.
+use Prim.Native.Nat.{◌-◌}
+use mathlib.Core.List.{◌++◌}
+use lib.ListN.{length}
+use Rattle.alerts_patterns.specs.Laws.Searching.{Unfound, found_here, nowhere}
+use Rattle.alerts_patterns.specs.Laws.Skipping.{unfound_first, unfound_next}
+use borrow.Author.Rules.{rules}
+use Rattle.alerts_patterns.proofs.find_around.Goals as goal
+
+pub loop-i-init : goal.loop-i-init
+loop-i-init c = search (unfound_first)
+
+pub returns-then-around_at : goal.returns-then-around_at
+returns-then-around_at c = search (found_here)
+
+pub loop-i-preserved : goal.loop-i-preserved
+loop-i-preserved c = search (unfound_next)
+
+pub returns-then-around_at-2 : goal.returns-then-around_at-2
+returns-then-around_at-2 c = search (found_here)
+
+pub returns : goal.returns
+returns c = search (nowhere)

@@ -1,0 +1,25 @@
+-- `formats::pass` and `formats::pass_many` meet their contracts.
+use mathlib.Core.Path.{◌≡◌, refl}
+use Prim.Native.Nat.{ℕ, ◌+◌, ◌*◌, ◌≤◌, ◌<◌}
+use native.Mathlib.Omega.{arith}
+use lib.ListN.{length}
+use borrow.Author.Rules.{rules}
+use Rattle.formats.specs.Promises.Outcome.{skip_many, format_at}
+use Rattle.formats.proofs.Passes.{pass_none, pass_leaf, list_bad, list_over, list_good, choice_0, choice_1}
+use Rattle.formats.proofs.Passes.{choice_2, pair_bad, pair_good, pass_never, passed_in, many_none, many_bad}
+use Rattle.formats.proofs.Passes.{many_flat, many_more}
+use Rattle.formats.proofs.Parts.{count_within, tag_within}
+use Rattle.formats.proofs.+pass_pass_many.Given as goal
+
+abbrev pub decreases-pass : goal.decreases-pass
+decreases-pass l = 2 * l.depth
+
+abbrev pub decreases-pass_many : goal.decreases-pass_many
+decreases-pass_many l = 2 * l.depth + 1
+
+abbrev pub invariant-pass_many-loop-left : goal.invariant-pass_many-loop-left
+invariant-pass_many-loop-left l =
+    (l.p ≤ length l.s) × (skip_many (format_at l.depth l.t l.node) l.left l.s l.p ≡ skip_many (format_at l.depth l.t l.node) l.n l.s l.at)
+
+abbrev pub decreases-pass_many-loop-left : goal.decreases-pass_many-loop-left
+decreases-pass_many-loop-left l = l.left

@@ -1,0 +1,13 @@
+-- `formats::number` meets its contract.
+use borrow.Author.Rules.{rules}
+use Rattle.formats.proofs.Numbers.{at_end, front_good, front_more}
+use Rattle.formats.proofs.number.Goals as goal
+
+pub returns-then-s-at : goal.returns-then-s-at
+returns-then-s-at c = search at_end
+
+pub returns-then-b-lt128 : goal.returns-then-b-lt128
+returns-then-b-lt128 c = search front_good
+
+pub returns : goal.returns
+returns c = search front_more

@@ -1,0 +1,16 @@
+-- `formats_check::printables_from` meets its contract.
+use Prim.Native.Nat.{◌≤◌}
+use Rattle.formats.specs.Class.{printable}
+use Rattle.formats.specs.Format.{text}
+use Rattle.formats_check.specs.Laws.Checked.{check_in}
+use Rattle.formats_check.specs.Laws.Walks.{Eaching, each_end, each_no, each_so, each_start}
+use borrow.Author.Rules.{rules}
+use lib.ListN.{length}
+use Rattle.formats_check.proofs.printables_from.Given as goal
+
+abbrev pub invariant-loop-left : goal.invariant-loop-left
+invariant-loop-left l =
+    (l.p ≤ length l.s) × Eaching (text l.limit printable) l.n l.s l.at l.left l.p
+
+abbrev pub decreases-loop-left : goal.decreases-loop-left
+decreases-loop-left l = l.left

@@ -1,0 +1,28 @@
+-- `formats_judge::judge_many` and `formats_judge::judge_value` meet their contracts.
+use mathlib.Core.Path.{◌≡◌, refl}
+use Prim.Native.Nat.{ℕ, ◌+◌, ◌*◌, ◌≤◌, ◌<◌}
+use native.Mathlib.Omega.{arith}
+use lib.ListN.{length}
+use borrow.Author.Rules.{rules}
+use Rattle.formats.specs.Promises.Outcome.{format_at}
+use Rattle.formats.proofs.Parts.{count_within, tag_within}
+use Rattle.formats_judge.specs.Promises.Judged.{judge_many, judged_after}
+use Rattle.formats_judge.proofs.Judging.{value_none, value_leaf, list_bad, list_over, list_good, choice_0}
+use Rattle.formats_judge.proofs.Judging.{choice_1, choice_2, pair_bad, pair_bad_2, pair_good, value_never}
+use Rattle.formats_judge.proofs.Judging.{judged_in, many_none, many_bad, many_flat, many_more}
+use Rattle.formats_judge.proofs.+judge_many_judge_value.Given as goal
+
+abbrev pub decreases-judge_many : goal.decreases-judge_many
+decreases-judge_many l = 2 * l.depth + 1
+
+abbrev pub invariant-judge_many-loop-left : goal.invariant-judge_many-loop-left
+invariant-judge_many-loop-left l =
+    (l.p ≤ length l.s)
+    × (judged_after l.found (judge_many (format_at l.depth l.t l.node) l.left l.s l.p) ≡
+    judged_after l.x (judge_many (format_at l.depth l.t l.node) l.n l.s l.at))
+
+abbrev pub decreases-judge_many-loop-left : goal.decreases-judge_many-loop-left
+decreases-judge_many-loop-left l = l.left
+
+abbrev pub decreases-judge_value : goal.decreases-judge_value
+decreases-judge_value l = 2 * l.depth

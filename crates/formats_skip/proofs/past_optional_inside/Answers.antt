@@ -1,0 +1,10 @@
+-- `past_optional_inside` meets its contract.
+use Rattle.formats_skip.specs.Laws.Passes.{near_some, near_none}
+use borrow.Author.Rules.{rules}
+use Rattle.formats_skip.proofs.past_optional_inside.Goals as goal
+
+pub returns-then-s-at-eq1 : goal.returns-then-s-at-eq1
+returns-then-s-at-eq1 c = search near_some
+
+pub returns : goal.returns
+returns c = search near_none

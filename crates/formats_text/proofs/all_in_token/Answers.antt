@@ -1,0 +1,20 @@
+-- `formats_text::all_in_token` meets its contract.
+use mathlib.Core.Path.{◌≡◌, refl}
+use Prim.Native.Nat.{◌-◌, ◌≤◌}
+use native.Mathlib.Omega.{arith}
+use lib.ListN.{length, drop}
+use borrow.Author.Tests.{not-true, not-false}
+use borrow.Author.Rules.{rules}
+use Rattle.formats.specs.Class.{token, allowed}
+use Rattle.basics.specs.Lists.{all}
+use Rattle.formats_text.proofs.Bytewise.{all_end, all_stop, all_more}
+use Rattle.formats_text.proofs.all_in_token.Goals as goal
+
+pub returns-then-not-in_token : goal.returns-then-not-in_token
+returns-then-not-in_token c = search (all_stop, not-true)
+
+pub loop-i-preserved : goal.loop-i-preserved
+loop-i-preserved c = (omega arith, search (all_more, not-false))
+
+pub returns : goal.returns
+returns c = search all_end

@@ -1,0 +1,18 @@
+-- `optional_float` meets its contract.
+use Rattle.formats_write.proofs.Laws
+use Rattle.formats.specs.Number.{little_w}
+use Rattle.formats_write.specs.Promises.Given.{given_number}
+use borrow.Author.Rules.{rules}
+use mathlib.Core.Path.{ap}
+use Rattle.formats_write.proofs.optional_float.Goals as goal
+
+pub returns-in-Absent : goal.returns-in-Absent
+returns-in-Absent c =
+    Laws.absent_is (little_w 8) (ap given_number c.in-Absent.is)
+    c.byte.ensures
+
+pub returns-in-Present : goal.returns-in-Present
+returns-in-Present c =
+    Laws.present_is (little_w 8) _
+    (ap given_number c.in-Present.is)
+    c.byte-q.ensures c.float.ensures

@@ -1,0 +1,18 @@
+-- `optional_text` meets its contract.
+use Rattle.formats_write.proofs.Laws
+use Rattle.formats_write.specs.Promises.Given.{given_text, text_w}
+use borrow.Author.Rules.{rules}
+use mathlib.Core.Path.{ap}
+use Rattle.formats_write.proofs.optional_text.Goals as goal
+
+pub returns-in-Absent : goal.returns-in-Absent
+returns-in-Absent c =
+    λ h. Laws.absent_is text_w
+    (ap (given_text c.args.s.now)
+    c.in-Absent.is) c.byte.ensures
+
+pub returns-in-Present : goal.returns-in-Present
+returns-in-Present c =
+    λ h. Laws.present_text
+    c.args.s.now _ c.in-Present.is h
+    c.byte-q.ensures c.text.ensures

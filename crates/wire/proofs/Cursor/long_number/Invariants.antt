@@ -1,0 +1,14 @@
+-- `Cursor::long_number` meets its contract: what is read behind the bytes passed stands at `scale`. Assumes nothing.
+use borrow.Author.Rules.{rules}
+use native.Mathlib.Omega.{arith}
+use Prim.Native.Nat.{◌-◌, ◌%◌}
+use lib.ListN.{length}
+use Rattle.wire.proofs.Number.{Reading, reading_start, reading_more, number_ends, number_breaks, number_none}
+use Rattle.wire.proofs.Number.{digits_last, digits_over, digits_low, room_last, room_more, scaled}
+use Rattle.wire.proofs.Cursor.long_number.Given as goal
+
+abbrev pub invariant-loop-at : goal.invariant-loop-at
+invariant-loop-at l = Reading l.s l.initial.at l.at l.value l.scale l.more
+
+abbrev pub decreases-loop-at : goal.decreases-loop-at
+decreases-loop-at l = length l.s - l.at
