@@ -4,4 +4,3 @@ pub mod Index
 pub mod Applies
 pub mod Label
 pub mod Promises
-pub mod Laws

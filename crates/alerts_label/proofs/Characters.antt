@@ -11,7 +11,7 @@ use lib.Seq.{drop-cons, take-suc}
 use borrow.Author.Tests.{le-leb, lt-leb}
 use Rattle.alerts.specs.Label.{continues, characters}
 use Rattle.alerts.specs.Promises.Label.{Ends}
-use Rattle.alerts.specs.Laws.Label.{on_byte}
+use Rattle.alerts.proofs.Laws.Label.{on_byte}
 
 pub continues_low : (b : ℕ) → b < 128 → false ≡ continues b
 continues_low b h = rw (lt-leb 128 b h) refl

@@ -1,5 +1,7 @@
 // The lines that a folded text names and those that it is about: a byte for each of the 32 lines is set to 1, by one
 // scan for each text that stands before a name.
+#![tactic(auto)]
+
 ghost use Rattle.std.specs.Prelude.{◌≡◌, ◌||◌, ◌+◌, ◌-◌, ◌<◌, ◌≤◌, eqb, length, get_or, take, drop};
 ghost use Rattle.basics.specs.Texts.{same};
 ghost use Rattle.alerts.specs.Text.{begins};

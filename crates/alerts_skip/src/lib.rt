@@ -1,5 +1,6 @@
 // Quick passes over alerts, as formats_skip has them over leaves.
 #![tactic(auto)]
+
 ghost use Rattle.formats.specs.Format.{list};
 ghost use Rattle.formats_skip.specs.Promises.Passes.{Passes};
 ghost use Rattle.alerts.specs.Alert.{alert};

@@ -32,7 +32,7 @@ use Rattle.alerts_text.specs.declared.lines.Settled.TheVariants.{Right, Wrong, O
 use Rattle.basics.specs.Laws.Lists.{any_append, any_same, any_implies}
 use Rattle.basics.specs.Laws.Texts.{same_true}
 use Rattle.basics.specs.Laws.Booleans.{and_true, and_yes, and_no, or_false, implied_false}
-use Rattle.alerts.specs.Laws.Text.{begins_true}
+use Rattle.alerts.proofs.Laws.Text.{begins_true}
 
 -- the lesser of two numbers
 pub ahead_end : (i end : ℕ) → i ≤ end → end - i < 24 → end ≡ lesser (i + 24) end

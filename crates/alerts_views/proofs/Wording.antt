@@ -12,7 +12,7 @@ use Rattle.formats_write.specs.Promises.Given.{given_text, Inside}
 use Rattle.realtime.specs.Tree.{Tree, tree, sub, rep}
 use Rattle.realtime.specs.Schema.{field_rows, feed, alert_entity, alert, header_text, header_translation, description_text}
 use Rattle.realtime.specs.Schema.{description_translation}
-use Rattle.realtime.specs.Laws.Merged.{rep_sub}
+use Rattle.realtime.proofs.Laws.Merged.{rep_sub}
 use Rattle.realtime_views.specs.declared.Scalar.{Scalar}
 use Rattle.realtime_views.specs.declared.Walk.{Walk}
 use Rattle.realtime_views.specs.declared.Item.{Item}

@@ -26,7 +26,7 @@ use Rattle.realtime_views.specs.declared.Walk.{Walk}
 use Rattle.realtime_views.specs.declared.Item.{Item}
 use Rattle.maps.specs.Map.{puts, map_values}
 use Rattle.maps.specs.Order.{texts}
-use Rattle.maps.specs.Laws.Map.{map_puts, map_length, puts_append, puts_longer, puts_all}
+use Rattle.maps.proofs.Laws.Map.{map_puts, map_length, puts_append, puts_longer, puts_all}
 use Rattle.basics.specs.Laws.Booleans.{both_true}
 use Rattle.decode.specs.Trip as held
 use Rattle.decode.specs.Record.{trip_in}
@@ -116,17 +116,17 @@ module _ (f : Place → held.Trip) (p : Place) (t : held.Trip) (h : f p ≡ t) w
   one k = ap (λ x. (k, x) ∷ []) h
 
   placed_inserts : (name raw : List ℕ) → map_values f (placed_at p (inserts name raw t)) ≡ inserts name raw t
-  placed_inserts name [] = go (is_empty (held.routeOf t))
+  placed_inserts name [] = go (is_empty (held.route_of t))
     where
       go : (b : Bool)
           → map_values f (placed_at p (cond b [] ((incomplete_key name t, t) ∷ []))) ≡ cond b []
           ((incomplete_key name t, t) ∷ [])
       go true = refl
       go false = one (incomplete_key name t)
-  placed_inserts name (b ∷ raw) = go (is_empty (held.dateOf t))
+  placed_inserts name (b ∷ raw) = go (is_empty (held.date_of t))
     where
       dated : List ℕ
-      dated = dated_key (b ∷ raw) (held.dateOf t)
+      dated = dated_key (b ∷ raw) (held.date_of t)
 
       go : (c : Bool)
           → map_values f (placed_at p (cond c ((b ∷ raw, t) ∷ []) ((dated, t) ∷ (b ∷ raw, t) ∷ []))) ≡ cond c

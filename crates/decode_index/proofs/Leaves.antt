@@ -17,7 +17,7 @@ use Rattle.realtime_views.specs.declared.Header.{Header}
 use Rattle.decode.specs.Trip.{trip_entry}
 use Rattle.maps.specs.Map.{puts}
 use Rattle.maps.specs.Order.{texts}
-use Rattle.maps.specs.Laws.Map.{puts_all}
+use Rattle.maps.proofs.Laws.Map.{puts_all}
 use Rattle.decode_slots.specs.Index.{Place, slot_place, slotted, index}
 use Rattle.decode_slots.specs.Promises.Index.{SoundIndex}
 use Rattle.decode_slots.specs.Laws.Slots.{index_length}

@@ -8,7 +8,7 @@ use Rattle.basics.specs.Lists.{All}
 use Rattle.realtime_views.specs.Laws.Reading.{front_part}
 use Rattle.maps.specs.Map.{put, puts, ascending}
 use Rattle.maps.specs.Order.{texts}
-use Rattle.maps.specs.Laws.Map.{put_longer}
+use Rattle.maps.proofs.Laws.Map.{put_longer}
 use Rattle.decode_slots.specs.Index.{index, slot_key, slot_place, slotted}
 use Rattle.decode_slots.specs.Promises.Index.{SoundIndex, Settled}
 use Rattle.realtime_views.specs.Promises.Views.{part_in, view_direction}

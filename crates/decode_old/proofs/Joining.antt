@@ -23,7 +23,7 @@ use Rattle.formats_read.specs.Laws.Walk.{At, Walk, ended, of_list}
 use Rattle.decode.specs.Trip.{Trip, trip, trip_entry}
 use Rattle.maps.specs.Map.{put}
 use Rattle.maps.specs.Order.{texts}
-use Rattle.maps.specs.Laws.Map.{map_put, puts_append, put_all, put_one_more}
+use Rattle.maps.proofs.Laws.Map.{map_put, puts_append, put_all, put_one_more}
 use Rattle.decode_slots.specs.Index.{Place, index}
 use Rattle.decode_slots.specs.Promises.Index.{SoundIndex, Lent}
 use Rattle.decode_keys.specs.Promises.Entity.{Filed}

@@ -11,7 +11,7 @@ use Rattle.realtime.specs.Tree.{tree}
 use Rattle.realtime.specs.Schema.{feed, feed_entity}
 use Rattle.decode.specs.Trip.{StopUpdate}
 use Rattle.decode.specs.Record.{updates_in}
-use Rattle.maps.specs.Laws.Map.{map_length}
+use Rattle.maps.proofs.Laws.Map.{map_length}
 use Rattle.decode_slots.specs.Places.{update_at}
 use Rattle.decode_updates.specs.Line.{laid}
 use Rattle.decode_updates.specs.Laws.Line.{laid_length}

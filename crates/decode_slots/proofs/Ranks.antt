@@ -13,8 +13,8 @@ use Rattle.slices.specs.declared.Order.TheVariants.{Less, Same, More}
 use Rattle.maps.specs.Map.{Ordered, is_less, by_order, above, ascending}
 use Rattle.maps.specs.Promises.Order.{is_more}
 use Rattle.maps.specs.Order.{texts}
-use Rattle.maps.specs.Laws.Order.{texts_order}
-use Rattle.maps.specs.Laws.Map.{Lawful, is_less_means, rest_ascending}
+use Rattle.maps.proofs.Laws.Order.{texts_order}
+use Rattle.maps.proofs.Laws.Map.{Lawful, is_less_means, rest_ascending}
 use Rattle.basics.specs.Laws.Booleans.{both_true}
 use Rattle.decode_slots.specs.Index.{Place, slot_key, slot_entry, slotted, index}
 use Rattle.decode_slots.specs.Promises.Index.{SoundIndex, rank_of}

@@ -15,8 +15,8 @@ use Rattle.slices.specs.declared.Order.TheVariants.{Less, Same, More}
 use Rattle.maps.specs.Map.{Ordered, by_order, put, ascending}
 use Rattle.maps.specs.Promises.Order.{is_same}
 use Rattle.maps.specs.Order.{texts}
-use Rattle.maps.specs.Laws.Order.{texts_order, lex_itself, lex_same}
-use Rattle.maps.specs.Laws.Map.{put_ascending}
+use Rattle.maps.proofs.Laws.Order.{texts_order, lex_itself, lex_same}
+use Rattle.maps.proofs.Laws.Map.{put_ascending}
 use Rattle.basics.specs.Laws.Booleans.{both_true}
 use Rattle.decode_slots.specs.Index.{Place, slot_key, slot_place, slot_entry, slotted, index}
 use Rattle.slices.specs.Promises.Inserted.{inserted}

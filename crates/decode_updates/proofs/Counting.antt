@@ -12,7 +12,7 @@ use Rattle.realtime_views.specs.Promises.Starts.{at_merged}
 use Rattle.realtime_views.specs.declared.Walk.{Walk}
 use Rattle.realtime_views.specs.declared.Item.{Item}
 use Rattle.maps.specs.Order.{numbers}
-use Rattle.maps.specs.Laws.Map.{puts_most}
+use Rattle.maps.proofs.Laws.Map.{puts_most}
 use Rattle.decode.specs.Record.{updates_in, trip_in}
 use Rattle.decode_updates.specs.Promises.Updates.{Counted, CrowdedRead}
 use Rattle.realtime_views.specs.Laws.Turns.{walks_on, ends}

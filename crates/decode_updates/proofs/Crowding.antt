@@ -10,7 +10,7 @@ use lib.Seq.{drop-cons, get_or-take}
 use borrow.Author.Tests.{lt-ltb, le-ltb, ltb-true, ltb-false}
 use native.Mathlib.Numerals.{add-one}
 use Rattle.basics.specs.Lists.{All}
-use Rattle.maps.specs.Laws.Map.{map_length}
+use Rattle.maps.proofs.Laws.Map.{map_length}
 use Rattle.decode.specs.Record.{updates_in, trip_in}
 use Rattle.realtime.specs.Schema.{feed_entity}
 use Rattle.decode_slots.specs.Index.{slot_place}

@@ -17,7 +17,7 @@ use Rattle.realtime_views.specs.declared.Item.{Item}
 use Rattle.decode.specs.Trip.{StopUpdate}
 use Rattle.maps.specs.Map.{put, puts}
 use Rattle.maps.specs.Order.{numbers}
-use Rattle.maps.specs.Laws.Map.{map_put, map_length, puts_longer, put_all}
+use Rattle.maps.proofs.Laws.Map.{map_put, map_length, puts_longer, put_all}
 use Rattle.decode.specs.Record.{update_in, updates_in}
 use Rattle.decode_updates.specs.Line.{laid}
 use Rattle.decode_updates.specs.Laws.Line.{laid_length}

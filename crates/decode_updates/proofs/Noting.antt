@@ -15,8 +15,8 @@ use Rattle.slices.specs.declared.Order.TheVariants.{Less, Same, More}
 use Rattle.maps.specs.Map.{put, ascending}
 use Rattle.maps.specs.Promises.Order.{is_same, is_more}
 use Rattle.maps.specs.Order.{numbers}
-use Rattle.maps.specs.Laws.Order.{numbers_order, heads, lex_itself, lex_same, cons_behind}
-use Rattle.maps.specs.Laws.Map.{put_ascending}
+use Rattle.maps.proofs.Laws.Order.{numbers_order, heads, lex_itself, lex_same, cons_behind}
+use Rattle.maps.proofs.Laws.Map.{put_ascending}
 use Rattle.basics.specs.Laws.Booleans.{both_true}
 use Rattle.decode_slots.specs.Index.{Place, slot_place}
 use Rattle.slices.specs.Promises.Inserted.{inserted}

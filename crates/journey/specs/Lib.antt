@@ -2,4 +2,3 @@ pub mod Card
 pub mod Times
 pub mod Enrich
 pub mod ByIndex
-pub mod Laws

@@ -1,4 +1,3 @@
 pub mod Map
 pub mod Order
-pub mod Laws
 pub mod Promises

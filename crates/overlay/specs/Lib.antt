@@ -6,4 +6,3 @@ pub mod Lookup
 pub mod Change
 pub mod Report
 pub mod Buffer
-pub mod Laws

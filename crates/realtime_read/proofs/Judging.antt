@@ -1,4 +1,4 @@
--- A turn of the loop of `judge`, on plain values. Assumes nothing.
+-- A turn of the loop of `judge`, on plain values.
 use Prim.Native.Nat.{ℕ, ◌≤◌, ◌<◌}
 use mathlib.Core.Path.{◌≡◌, refl, sym, ap, ◌∙◌}
 use mathlib.Core.List.{List}
@@ -14,7 +14,11 @@ use Rattle.basics.specs.Options.{bind_o}
 use Rattle.realtime_read.specs.Promises.Steps.{Lies, Stepped}
 use Rattle.realtime.specs.Judge.{Rules, texts_fine, numbers_fine, asked}
 use Rattle.realtime_read.specs.Promises.Judge.{fine, asked_first}
+use Rattle.realtime_read.proofs.Turn.{Here, here}
 use Rattle.realtime_read.specs.declared.Step.{Step}
+use Rattle.wire.specs.Promises.Places.{key_at}
+use Rattle.wire.specs.declared.Cursor.{Cursor}
+use Rattle.wire.specs.declared.GotKey.{GotKey}
 use Rattle.realtime.specs.declared.Verdict.{Verdict}
 
 -- the judgement of a text
@@ -158,6 +162,12 @@ module _ {ρ : Rules} {σ : Schema} {t : ℕ} {s : List ℕ} {at : ℕ} {worst :
       (ap (asked ρ t) S.same ∙ asked_message ρ t f u (tree σ u (take l (drop i s))) r
       ∙ ap (λ a. asked_first (asked ρ u (tree σ u a)) (asked ρ t r)) (sym p)
       ∙ ap (λ a. asked_first a (asked ρ t r)) (sym e)) h
+
+-- the loop stands at `at`, and reads a key there
+abbrev pub key_here : {σ : Schema} {t : ℕ} {s : List ℕ} {at n w : ℕ} {c : Cursor} → at < length s
+    → GotKey.Read n w c ≡ key_at s at
+    → Here σ t s at n w c.at
+key_here h e = here (refl, omega arith) h e
 
 -- a part of a message has fewer bytes
 pub part_less : {s : List ℕ} {at i l n : ℕ} (x : List ℕ) → x ≡ take l (drop i s) → Lies s at i l n → length x < length s

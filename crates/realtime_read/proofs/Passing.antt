@@ -1,4 +1,4 @@
--- A field that is passed, whatever the schema says of it, on plain values. Assumes nothing.
+-- A field that is passed, whatever the schema says of it, on plain values.
 use Prim.Native.Nat.{ℕ, ◌<◌}
 use mathlib.Core.Path.{◌≡◌, refl, sym, ◌∙◌}
 use mathlib.Core.List.{List}

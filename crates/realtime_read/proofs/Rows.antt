@@ -1,4 +1,4 @@
--- The codes of a type's fields, and what each of them stands for. Assumes nothing.
+-- The codes of a type's fields, and what each of them stands for.
 use Prim.Native.Nat.{ℕ, zero, suc, ◌-◌, ◌*◌, ◌/◌, ◌%◌, ◌^◌, ◌≤◌, ◌<◌}
 use mathlib.Core.Path.{◌≡◌, refl, sym, ap, ◌∙◌}
 use mathlib.Core.Bool.{Bool, true, false, ◌&&◌}
@@ -9,18 +9,9 @@ use borrow.Author.Tests.{eqb-true, eqb-false, ltb-true, ltb-false}
 use Rattle.basics.specs.Laws.Booleans.{both_true}
 use Rattle.realtime.specs.Tree.{Kind, a_number, a_text, a_message}
 use Rattle.realtime.specs.Schema.{field_rows, feed}
-use Rattle.realtime.specs.Laws.Schema.{feed_above}
+use Rattle.realtime.proofs.Laws.Schema.{feed_above}
 use Rattle.realtime_read.specs.Promises.Schema.{holds, code, codes, row}
 use Rattle.realtime_read.specs.declared.Holds.{Holds}
-
--- m is none of the first n numbers
-abbrev pub Apart : ℕ → ℕ → Type 0
-Apart m zero = Unit {0}
-Apart m (suc n) = Apart m n × (m ≡ n → ⊥)
-
-apart : (m n : ℕ) → Apart m n → n ≤ m
-apart m zero h = omega arith
-apart m (suc n) h = omega (arith, apart m n h.0, h.1)
 
 -- a type that no message has
 codes_above : (t n : ℕ) → 16 ≤ t → codes t n ≡ 0
@@ -31,8 +22,8 @@ row_above : (t : ℕ) → 16 ≤ t → row t ≡ 0
 unfolding row
 row_above t h = codes_above t 12 h
 
-pub row_else : (t : ℕ) → Apart t 16 → 0 ≡ row t
-row_else t h = sym (row_above t (apart t 16 h))
+pub row_else : (t : ℕ) → 16 ≤ t → 0 ≡ row t
+row_else t h = sym (row_above t h)
 
 -- a test of every number below n, computed
 below : ℕ → (ℕ → Bool) → Bool

@@ -1,4 +1,4 @@
--- A turn of the loop of `next`, on plain values. Assumes nothing.
+-- A turn of the loop of `next`, on plain values.
 use Prim.Native.Nat.{ℕ, ◌-◌, ◌≤◌, ◌<◌}
 use mathlib.Core.Path.{◌≡◌, refl, sym, ap, ◌∙◌}
 use mathlib.Core.List.{List}
@@ -8,19 +8,20 @@ use native.Mathlib.Omega.{arith}
 use lib.ListN.{length, take, drop, length-drop, length-take, drop_of_length-le}
 use borrow.Author.Tests.{eqb-true, eqb-false}
 use lib.Dec.{eqb}
-use Rattle.wire.specs.Promises.Places.{number_at, text_at}
+use Rattle.wire.specs.Promises.Places.{number_at, key_at, text_at}
 use Rattle.wire.specs.declared.Cursor.{Cursor}
 use Rattle.wire.specs.declared.GotNumber.{GotNumber}
+use Rattle.wire.specs.declared.GotKey.{GotKey}
 use Rattle.wire.specs.declared.GotText.{GotText}
 use Rattle.wire.specs.Wire.{Read, broken, read, varint, Key, key, length_delimited, Value, VARINT, I64, LEN, GROUP}
 use Rattle.wire.specs.Wire.{I32, value, field}
 use Rattle.wire.specs.Laws.Wire.{moves, reader_key, key_nil}
 use Rattle.wire.specs.Laws.Values.{value_0, wire_of, value_wire}
-use Rattle.wire.specs.Laws.At.{ReadAt, TextAt, field_read, field_less, field_broken_key, field_broken_value}
+use Rattle.wire.specs.Laws.At.{ReadAt, TextAt, key_read, field_read, field_less, field_broken_key, field_broken_value}
 use Rattle.wire.specs.Laws.At.{number_read, number_broken, text_read, text_broken, text_value, text_value_broken}
 use Rattle.realtime.specs.Tree.{Kind, a_number, a_text, a_message, Schema, Tree, add_number, add_text, add_message}
 use Rattle.realtime.specs.Tree.{add_field, tree}
-use Rattle.realtime.specs.Laws.Tree.{tree_nil, tree_broken, tree_step, text_room}
+use Rattle.realtime.proofs.Laws.Tree.{tree_nil, tree_broken, tree_step, text_room}
 use Rattle.realtime_read.specs.Promises.Schema.{holds}
 use Rattle.realtime_read.specs.Promises.Steps.{number_behind, text_behind, Lies, Stepped}
 use Rattle.realtime_read.specs.declared.Holds.{Holds}
@@ -104,6 +105,12 @@ pub record Here (σ : Schema) (t : ℕ) (s : List ℕ) (from n w next : ℕ) : T
   pub more : at < length s
   pub inv : tree σ t (drop from s) ≡ tree σ t (drop at s)
   pub keyed : ReadAt key s at (record { number = n; wire = w }) next
+
+abbrev pub here : {σ : Schema} {t : ℕ} {s : List ℕ} {from at n w : ℕ} {c : Cursor}
+    → (tree σ t (drop from s) ≡ tree σ t (drop at s)) × (from ≤ at) → at < length s → GotKey.Read n w c ≡ key_at s at
+    → Here σ t s from n w c.at
+here {s = s} {at = at} {n = n} {w = w} {c = c} I h e =
+    record { at = at; fwd = I.1; more = h; inv = I.0; keyed = key_read s at n w c e }
 
 module _ {σ : Schema} {t : ℕ} {s : List ℕ} {from n w next : ℕ} (H : Here σ t s from n w next) where
   abbrev k : Key

@@ -1,4 +1,7 @@
 // The merged messages of a feed, read after the validator: a broken message is answered with anything.
+#![tactic(auto)]
+
+#![tactic(auto)]
 ghost use Rattle.std.specs.Prelude.{◌≡◌, ◌+◌, ◌≤◌, eqb, length, cond};
 ghost use Rattle.realtime.specs.Schema.{feed, stop_time_update};
 ghost use Rattle.realtime_views.specs.Promises.Reading.{Ready, Reads};

@@ -2,4 +2,3 @@ pub mod Script
 pub mod Tells
 pub mod Told
 pub mod Promises
-pub mod Laws

@@ -15,8 +15,8 @@ use Rattle.alerts.specs.Applies.{product_code_token, stop_tail, route_refs_match
 use Rattle.alerts.specs.Applies.{route_hit}
 use Rattle.alerts.specs.Applies.{road_blob, is_rail_like_mode, alert_applies_to_leg_with_mode}
 use Rattle.alerts.specs.Promises.Reduced.{hits_trip, hits_stop, hits_route, text_fits, road}
-use Rattle.alerts.specs.Laws.ProductCodes.{product_code_never_decides}
-use Rattle.alerts.specs.Laws.Implied.{applies_reduced}
+use Rattle.alerts.proofs.Laws.ProductCodes.{product_code_never_decides}
+use Rattle.alerts.proofs.Laws.Implied.{applies_reduced}
 use Rattle.alerts_search.specs.declared.ids.Ask.TheVariants.{HitsTrip, HitsRoute, HitsStops}
 use Rattle.alerts_search.specs.Promises.Ids.{hits_stop_id, hits_route_id, Asked}
 use Rattle.alerts_search.specs.Laws.Candidates.{in_trips, in_routes, in_stops}

@@ -1,6 +1,5 @@
 -- `alerts_ids::by_name` meets its contract.
 use Rattle.alerts_ids.specs.Laws.Names.{name_long, name_other, name_coded, name_plain}
-use borrow.Author.Rules.{rules}
 use Rattle.alerts_ids.proofs.by_name.Goals as goal
 
 pub returns-then-g-gt4 : goal.returns-then-g-gt4

@@ -1,6 +1,5 @@
 -- `alerts_ids::capital` meets its contract.
 use Rattle.alerts_ids.specs.Laws.Bytes.{capital_low, capital_high, capital_letter}
-use borrow.Author.Rules.{rules}
 use Rattle.alerts_ids.proofs.capital.Goals as goal
 
 pub returns-then-b-lt97 : goal.returns-then-b-lt97

@@ -1,12 +1,10 @@
 -- `alerts_ids::digits_from` meets its contract.
 -- The invariant: the bytes from i on are digits where those from k on are.
-use mathlib.Core.Path.{◌≡◌, refl}
+use mathlib.Core.Path.{◌≡◌}
 use Prim.Native.Nat.{◌-◌}
 use lib.ListN.{length, drop}
 use Rattle.basics.specs.Lists.{all}
 use Rattle.alerts.specs.Text.{digit}
-use Rattle.alerts_ids.specs.Laws.Pieces.{every_not, every_more, every_all}
-use borrow.Author.Rules.{rules}
 use Rattle.alerts_ids.proofs.digits_from.Given as goal
 
 abbrev pub invariant-loop-k : goal.invariant-loop-k

@@ -1,6 +1,5 @@
 -- `alerts_ids::ends_after_colon` meets its contract.
 use Rattle.alerts_ids.specs.Laws.Ends.{colon_short, colon_differs, colon_same}
-use borrow.Author.Rules.{rules}
 use Rattle.alerts_ids.proofs.ends_after_colon.Goals as goal
 
 pub returns-then-t-x : goal.returns-then-t-x

@@ -1,11 +1,9 @@
 -- `alerts_ids::has_alphanumeric` meets its contract. The invariant: one is there where one is from i on.
-use mathlib.Core.Path.{◌≡◌, refl}
+use mathlib.Core.Path.{◌≡◌}
 use Prim.Native.Nat.{◌-◌}
 use lib.ListN.{length, drop}
 use Rattle.basics.specs.Lists.{any}
 use Rattle.alerts.specs.Text.{alphanumeric}
-use Rattle.alerts_ids.specs.Laws.Pieces.{some_here, some_more, some_none}
-use borrow.Author.Rules.{rules}
 use Rattle.alerts_ids.proofs.has_alphanumeric.Given as goal
 
 abbrev pub invariant-loop-i : goal.invariant-loop-i

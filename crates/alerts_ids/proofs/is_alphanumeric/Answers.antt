@@ -1,7 +1,6 @@
 -- `alerts_ids::is_alphanumeric` meets its contract.
 use Rattle.alerts_ids.specs.Laws.Bytes.{letter_low, letter_middle, letter_high}
 use mathlib.Core.Path.{◌∙◌}
-use borrow.Author.Rules.{rules}
 use Rattle.alerts_ids.proofs.is_alphanumeric.Goals as goal
 
 pub returns-then-b-lt65 : goal.returns-then-b-lt65

@@ -1,6 +1,5 @@
 -- `alerts_ids::is_code` meets its contract.
 use Rattle.alerts_ids.specs.Laws.Pieces.{code_short, code_long, code_other, code_digits}
-use borrow.Author.Rules.{rules}
 use Rattle.alerts_ids.proofs.is_code.Goals as goal
 
 pub returns-then-p-lt5 : goal.returns-then-p-lt5

@@ -1,7 +1,6 @@
 -- `alerts_ids::is_rail_like_mode` meets its contract.
 use Rattle.alerts.specs.Text.{text}
 use Rattle.alerts_ids.specs.Laws.Names.{rail_word, rail_last}
-use borrow.Author.Rules.{rules}
 use Rattle.alerts_ids.proofs.is_rail_like_mode.Goals as goal
 
 pub returns-then-same_ignoring_case : goal.returns-then-same_ignoring_case

@@ -1,6 +1,5 @@
 -- `alerts_ids::is_taken` meets its contract.
 use Rattle.alerts_ids.specs.Laws.Pieces.{empty_not_taken, lettered_taken, any_taken}
-use borrow.Author.Rules.{rules}
 use Rattle.alerts_ids.proofs.is_taken.Goals as goal
 
 pub returns-then-p-eq0 : goal.returns-then-p-eq0

@@ -1,7 +1,6 @@
 -- `alerts_ids::is_tram_like` meets its contract.
 use Rattle.alerts.specs.Text.{text}
 use Rattle.alerts_ids.specs.Laws.Names.{tram_word, tram_last}
-use borrow.Author.Rules.{rules}
 use Rattle.alerts_ids.proofs.is_tram_like.Goals as goal
 
 pub same_ignoring_case-requires : goal.same_ignoring_case-requires

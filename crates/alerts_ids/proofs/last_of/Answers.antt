@@ -1,6 +1,5 @@
 -- `alerts_ids::last_of` meets its contract. The invariant: there is no c from e on.
-use Rattle.alerts_ids.specs.Laws.Ends.{Without, without_start, without_more, last_here, last_none}
-use native.Mathlib.Omega.{arith}
+use Rattle.alerts_ids.specs.Laws.Ends.{without_start, without_more, last_here, last_none}
 use Rattle.alerts_ids.proofs.last_of.Goals as goal
 
 pub loop-e-init : goal.loop-e-init

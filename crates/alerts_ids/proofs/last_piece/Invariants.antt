@@ -1,6 +1,5 @@
 -- `alerts_ids::last_piece` meets its contract. The invariant: the pieces from e on aren't taken.
-use Rattle.alerts_ids.specs.Laws.Pieces.{Sought, sought_start, piece_taken, none_taken, sought_more}
-use borrow.Author.Rules.{rules}
+use Rattle.alerts_ids.specs.Laws.Pieces.{Sought}
 use Rattle.alerts_ids.proofs.last_piece.Given as goal
 
 abbrev pub invariant-loop-lettered : goal.invariant-loop-lettered

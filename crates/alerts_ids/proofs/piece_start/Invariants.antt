@@ -1,6 +1,5 @@
 -- `alerts_ids::piece_start` meets its contract. The invariant: from a up to e there is no cut.
-use Rattle.alerts_ids.specs.Laws.Pieces.{Uncut, uncut_start, uncut_more, cut_found, uncut_whole}
-use borrow.Author.Rules.{rules}
+use Rattle.alerts_ids.specs.Laws.Pieces.{Uncut}
 use Rattle.alerts_ids.proofs.piece_start.Given as goal
 
 abbrev pub invariant-loop-a : goal.invariant-loop-a

@@ -1,8 +1,7 @@
 -- `alerts_ids::product_code_token` meets its contract. The invariant: the first code is the first from a on.
 use Prim.Native.Nat.{◌-◌}
 use lib.ListN.{length}
-use Rattle.alerts_ids.specs.Laws.Pieces.{Uncoded, uncoded_start, code_found, no_code, uncoded_more}
-use borrow.Author.Rules.{rules}
+use Rattle.alerts_ids.specs.Laws.Pieces.{Uncoded}
 use Rattle.alerts_ids.proofs.product_code_token.Given as goal
 
 abbrev pub invariant-loop-a : goal.invariant-loop-a

@@ -2,7 +2,6 @@
 use Rattle.alerts_ids.specs.Laws.Names.{no_leg, none_informed, refs_same, refs_leg_plain}
 use Rattle.alerts_ids.specs.Laws.Names.{refs_informed_plain, refs_coded}
 use Rattle.alerts_ids.specs.Laws.Names.{code_forward, code_within}
-use borrow.Author.Rules.{rules}
 use native.Mathlib.Omega.{arith}
 use Rattle.alerts_ids.proofs.route_refs_match.Goals as goal
 

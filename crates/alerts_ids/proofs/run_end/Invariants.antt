@@ -1,8 +1,7 @@
 -- `alerts_ids::run_end` meets its contract. The invariant: from a up to e there are letters and digits.
 use Prim.Native.Nat.{◌-◌}
 use lib.ListN.{length}
-use Rattle.alerts_ids.specs.Laws.Pieces.{Lettered, lettered_start, lettered_more, run_broken, run_whole}
-use borrow.Author.Rules.{rules}
+use Rattle.alerts_ids.specs.Laws.Pieces.{Lettered}
 use Rattle.alerts_ids.proofs.run_end.Given as goal
 
 abbrev pub invariant-loop-e : goal.invariant-loop-e

@@ -1,9 +1,6 @@
 -- `alerts_ids::same_ignoring_case` meets its contract.
-use Prim.Native.Nat.{◌-◌}
-use lib.ListN.{length}
-use Rattle.alerts_ids.specs.Laws.Ends.{Alike, other_length, alike_start, alike_more, alike_differs}
+use Rattle.alerts_ids.specs.Laws.Ends.{other_length, alike_start, alike_more, alike_differs}
 use Rattle.alerts_ids.specs.Laws.Ends.{alike_whole}
-use borrow.Author.Rules.{rules}
 use Rattle.alerts_ids.proofs.same_ignoring_case.Goals as goal
 
 pub returns-then-a-b : goal.returns-then-a-b

@@ -1,9 +1,7 @@
 -- `alerts_ids::same_ignoring_case` meets its contract.
 use Prim.Native.Nat.{◌-◌}
 use lib.ListN.{length}
-use Rattle.alerts_ids.specs.Laws.Ends.{Alike, other_length, alike_start, alike_more, alike_differs}
-use Rattle.alerts_ids.specs.Laws.Ends.{alike_whole}
-use borrow.Author.Rules.{rules}
+use Rattle.alerts_ids.specs.Laws.Ends.{Alike}
 use Rattle.alerts_ids.proofs.same_ignoring_case.Given as goal
 
 abbrev pub invariant-loop-i : goal.invariant-loop-i

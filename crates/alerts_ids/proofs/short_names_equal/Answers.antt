@@ -1,6 +1,5 @@
 -- `alerts_ids::short_names_equal` meets its contract.
 use Rattle.alerts_ids.specs.Laws.Names.{no_name, no_other, names_same}
-use borrow.Author.Rules.{rules}
 use Rattle.alerts_ids.proofs.short_names_equal.Goals as goal
 
 pub returns-then-s-eq0 : goal.returns-then-s-eq0

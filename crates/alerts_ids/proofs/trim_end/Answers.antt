@@ -1,7 +1,6 @@
 -- `alerts_ids::trim_end` meets its contract.
-use Rattle.alerts_ids.specs.Laws.Ends.{Trails, trails_start, trails_more, trails_end, trails_none}
+use Rattle.alerts_ids.specs.Laws.Ends.{trails_start, trails_more, trails_end, trails_none}
 use Rattle.alerts_ids.specs.Laws.Ends.{trails_part}
-use borrow.Author.Rules.{rules}
 use Rattle.alerts_ids.proofs.trim_end.Goals as goal
 
 pub loop-e-init : goal.loop-e-init

@@ -1,7 +1,5 @@
 -- `alerts_ids::trim_end` meets its contract.
-use Rattle.alerts_ids.specs.Laws.Ends.{Trails, trails_start, trails_more, trails_end, trails_none}
-use Rattle.alerts_ids.specs.Laws.Ends.{trails_part}
-use borrow.Author.Rules.{rules}
+use Rattle.alerts_ids.specs.Laws.Ends.{Trails}
 use Rattle.alerts_ids.proofs.trim_end.Given as goal
 
 abbrev pub invariant-loop-e : goal.invariant-loop-e

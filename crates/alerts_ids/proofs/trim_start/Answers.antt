@@ -1,8 +1,5 @@
 -- `alerts_ids::trim_start` meets its contract.
-use Prim.Native.Nat.{◌-◌}
-use lib.ListN.{length}
-use Rattle.alerts_ids.specs.Laws.Ends.{Leads, leads_start, leads_more, leads_end, leads_all}
-use borrow.Author.Rules.{rules}
+use Rattle.alerts_ids.specs.Laws.Ends.{leads_start, leads_more, leads_end, leads_all}
 use Rattle.alerts_ids.proofs.trim_start.Goals as goal
 
 pub loop-a-init : goal.loop-a-init

@@ -1,8 +1,7 @@
 -- `alerts_ids::trim_start` meets its contract.
 use Prim.Native.Nat.{◌-◌}
 use lib.ListN.{length}
-use Rattle.alerts_ids.specs.Laws.Ends.{Leads, leads_start, leads_more, leads_end, leads_all}
-use borrow.Author.Rules.{rules}
+use Rattle.alerts_ids.specs.Laws.Ends.{Leads}
 use Rattle.alerts_ids.proofs.trim_start.Given as goal
 
 abbrev pub invariant-loop-a : goal.invariant-loop-a

@@ -1,6 +1,5 @@
 -- `alerts_ids::undated` meets its contract.
 use Rattle.alerts_ids.specs.Laws.Ends.{cut_part, undated_cut}
-use borrow.Author.Rules.{rules}
 use Rattle.alerts_ids.proofs.undated.Goals as goal
 
 pub slice_bounds-result-end : goal.slice_bounds-result-end

@@ -1,13 +1,8 @@
 -- `alerts_label::characters_end` meets its contract. The invariant: the characters are the bytes passed and those
 -- that are left.
 use mathlib.Core.Path.{sym, ◌∙◌}
-use Prim.Native.Nat.{◌-◌}
 use native.Mathlib.Omega.{arith}
-use mathlib.Core.Logic.{⊎_elim}
-use lib.ListN.{length}
-use borrow.Author.Rules.{rules}
-use borrow.Author.Tests.{not-true, not-false}
-use Rattle.alerts_label.proofs.Characters.{Passed, start, goes_on, begins, stops, ended}
+use Rattle.alerts_label.proofs.Characters.{start, goes_on, begins, stops, ended}
 use Rattle.alerts_label.proofs.characters_end.Goals as goal
 use Rattle.alerts_label.proofs.characters_end.Goals.{then-not-goes_on+else-left-eq0, else-not-goes_on}
 
@@ -26,9 +21,10 @@ loop-i-preserved c =
     let more = c.loop-i-test.true in
     let told = c.goes_on.ensures in
     elim c.if-not-goes_on.branch [
-      then-not-goes_on+else-left-eq0 w ↦
-          rw (w.i-is, w.left-is) (begins _ _ _ _ inv more (sym told ∙ w.if-not-goes_on.true) (omega arith))
-    | else-not-goes_on w ↦ rw w.i-is (goes_on _ _ _ _ inv more (sym told ∙ w.if-not-goes_on.false)) ]
+      | then-not-goes_on+else-left-eq0 w ↦
+          rw w.left-is (begins _ _ _ _ inv more (sym told ∙ w.if-not-goes_on.true) (omega arith))
+      | else-not-goes_on w ↦ rw w.left-is (goes_on _ _ _ _ inv more (sym told ∙ w.if-not-goes_on.false))
+    ]
 
 pub returns : goal.returns
 returns c = search (ended)

@@ -1,7 +1,6 @@
 -- `alerts_label::label` meets its contract.
 use mathlib.Core.Path.{refl, sym}
 use lib.Seq.{length-take-le}
-use borrow.Author.Rules.{rules}
 use Rattle.alerts_label.proofs.label.Goals as goal
 
 pub returns-then-present : goal.returns-then-present

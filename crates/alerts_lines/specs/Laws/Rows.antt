@@ -10,7 +10,7 @@ use Rattle.basics.specs.Laws.Texts.{same_refl, same_true}
 use Rattle.alerts.specs.Text.{text, begins, contains}
 use Rattle.alerts.specs.Applies.{around, names, letter_rows, number_rows, bare_rows}
 use Rattle.alerts.specs.Promises.Reduced.{subject_rows}
-use Rattle.alerts.specs.Laws.Text.{contains_append, contains_trans}
+use Rattle.alerts.proofs.Laws.Text.{contains_append, contains_trans}
 use Rattle.alerts_patterns.specs.Promises.Tables.{any_in}
 use Rattle.alerts_patterns.specs.Laws.Searching.{ends_long, ends_begins}
 use Rattle.alerts_lines.specs.Promises.Lines.{width_of, line_at, last_of, bare_of, number_of, tram_of, named_of}

@@ -1,10 +1,8 @@
 -- `alerts_patterns::any_at` meets its contract. The invariant: the patterns from `at` on are still to be tried.
 use Prim.Native.Nat.{◌-◌}
-use native.Mathlib.Omega.{arith}
 use lib.ListN.{length, drop}
-use borrow.Author.Rules.{rules}
 use Rattle.alerts.specs.Text.{begins}
-use Rattle.alerts_patterns.specs.Laws.Patterns.{Untried, untried_start, tried, untried_more, tried_last}
+use Rattle.alerts_patterns.specs.Laws.Patterns.{Untried}
 use Rattle.alerts_patterns.proofs.any_at.Given as goal
 
 abbrev pub invariant-loop-e : goal.invariant-loop-e

@@ -1,11 +1,5 @@
 -- `alerts_patterns::any_in` meets its contract. The invariant: the patterns from `at` on are still to be tried.
-use Prim.Native.Nat.{◌-◌}
-use native.Mathlib.Omega.{arith}
-use lib.ListN.{length}
-use borrow.Author.Rules.{rules}
-use Rattle.alerts.specs.Text.{contains}
-use Rattle.alerts_patterns.specs.Promises.Tables.{name_filled}
-use Rattle.alerts_patterns.specs.Laws.Patterns.{Untried, untried_start, tried, untried_more, tried_last}
+use Rattle.alerts_patterns.specs.Laws.Patterns.{untried_start, tried, untried_more, tried_last}
 use Rattle.alerts_patterns.proofs.any_in.Goals as goal
 
 pub loop-e-init : goal.loop-e-init

@@ -1,6 +1,5 @@
 -- `alerts_patterns::apart` meets its contract.
 use Rattle.alerts_patterns.specs.Laws.Skipping.{apart_below, apart_above}
-use borrow.Author.Rules.{rules}
 use Rattle.alerts_patterns.proofs.apart.Goals as goal
 
 pub returns-then-x-a : goal.returns-then-x-a

@@ -4,7 +4,6 @@ use mathlib.Core.Path.{ap}
 use mathlib.Core.Bool.{not}
 use native.Mathlib.Omega.{arith}
 use lib.ListN.{length}
-use borrow.Author.Rules.{rules}
 use Rattle.alerts_patterns.specs.Laws.Searching.{room, not_before, not_name, then_after}
 use Rattle.alerts_patterns.proofs.around_at.Goals as goal
 

@@ -1,8 +1,5 @@
 -- `alerts_patterns::begins_at` meets its contract. The invariant: p stands at i where the rest of p stands at k.
-use Prim.Native.Nat.{◌-◌}
-use native.Mathlib.Omega.{arith}
-use lib.ListN.{length}
-use Rattle.alerts_patterns.specs.Laws.Searching.{Stands, stands_start, stands_short, stands_differs, stands_more}
+use Rattle.alerts_patterns.specs.Laws.Searching.{stands_start, stands_short, stands_differs, stands_more}
 use Rattle.alerts_patterns.specs.Laws.Searching.{stands_whole}
 use Rattle.alerts_patterns.proofs.begins_at.Goals as goal
 

@@ -1,5 +1,4 @@
 -- `alerts_patterns::contains_filled` meets its contract.
-use borrow.Author.Rules.{rules}
 use Rattle.alerts_patterns.specs.Laws.Searching.{found_contained, nowhere_contained}
 use Rattle.alerts_patterns.proofs.contains_filled.Goals as goal
 

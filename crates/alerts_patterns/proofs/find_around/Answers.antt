@@ -1,10 +1,6 @@
 -- `alerts_patterns::find_around` meets its contract. The invariant: the first place is the first from i on.
-use Prim.Native.Nat.{◌-◌}
-use mathlib.Core.List.{◌++◌}
-use lib.ListN.{length}
-use Rattle.alerts_patterns.specs.Laws.Searching.{Unfound, found_here, nowhere}
+use Rattle.alerts_patterns.specs.Laws.Searching.{found_here, nowhere}
 use Rattle.alerts_patterns.specs.Laws.Skipping.{unfound_first, unfound_next}
-use borrow.Author.Rules.{rules}
 use Rattle.alerts_patterns.proofs.find_around.Goals as goal
 
 pub loop-i-init : goal.loop-i-init

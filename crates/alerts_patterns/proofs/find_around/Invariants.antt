@@ -2,9 +2,7 @@
 use Prim.Native.Nat.{◌-◌}
 use mathlib.Core.List.{◌++◌}
 use lib.ListN.{length}
-use Rattle.alerts_patterns.specs.Laws.Searching.{Unfound, found_here, nowhere}
-use Rattle.alerts_patterns.specs.Laws.Skipping.{unfound_first, unfound_next}
-use borrow.Author.Rules.{rules}
+use Rattle.alerts_patterns.specs.Laws.Searching.{Unfound}
 use Rattle.alerts_patterns.proofs.find_around.Given as goal
 
 abbrev pub invariant-loop-i : goal.invariant-loop-i

@@ -2,7 +2,6 @@
 use mathlib.Core.Path.{sym}
 use native.Mathlib.Omega.{arith}
 use lib.Seq.{length-take-le}
-use borrow.Author.Rules.{rules}
 use Rattle.alerts_patterns.specs.Laws.Patterns.{unfilled, fills}
 use Rattle.alerts_patterns.proofs.find_filled.Goals as goal
 

@@ -1,9 +1,5 @@
 -- `alerts_patterns::next` meets its contract. The invariant: the first b from i on is the first from k on.
-use mathlib.Core.Path.{refl}
-use Prim.Native.Nat.{◌-◌}
-use native.Mathlib.Omega.{arith}
-use lib.ListN.{length}
-use Rattle.alerts_patterns.specs.Laws.Patterns.{First, first_here, first_more, first_end}
+use Rattle.alerts_patterns.specs.Laws.Patterns.{first_here, first_more, first_end}
 use Rattle.alerts_patterns.proofs.next.Goals as goal
 
 pub returns-then-s-k : goal.returns-then-s-k

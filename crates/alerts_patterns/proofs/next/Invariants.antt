@@ -1,9 +1,7 @@
 -- `alerts_patterns::next` meets its contract. The invariant: the first b from i on is the first from k on.
-use mathlib.Core.Path.{refl}
 use Prim.Native.Nat.{◌-◌}
-use native.Mathlib.Omega.{arith}
 use lib.ListN.{length}
-use Rattle.alerts_patterns.specs.Laws.Patterns.{First, first_here, first_more, first_end}
+use Rattle.alerts_patterns.specs.Laws.Patterns.{First}
 use Rattle.alerts_patterns.proofs.next.Given as goal
 
 abbrev pub invariant-loop-k : goal.invariant-loop-k

@@ -1,6 +1,5 @@
 -- `alerts_patterns::outside` meets its contract.
 use Rattle.alerts_patterns.specs.Laws.Skipping.{outside_below, outside_above, outside_not}
-use borrow.Author.Rules.{rules}
 use Rattle.alerts_patterns.proofs.outside.Goals as goal
 
 pub returns-then-x-lo : goal.returns-then-x-lo

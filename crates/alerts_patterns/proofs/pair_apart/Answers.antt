@@ -1,6 +1,5 @@
 -- `alerts_patterns::pair_apart` meets its contract.
 use Rattle.alerts_patterns.specs.Laws.Skipping.{pair_is}
-use borrow.Author.Rules.{rules}
 use Rattle.alerts_patterns.proofs.pair_apart.Goals as goal
 
 pub returns : goal.returns

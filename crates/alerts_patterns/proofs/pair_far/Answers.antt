@@ -1,6 +1,4 @@
 -- `alerts_patterns::pair_far` meets its contract. The invariant: nothing stands before k.
-use Prim.Native.Nat.{◌-◌}
-use Rattle.alerts_patterns.specs.Promises.Occurrence.{SeeksTo}
 use Rattle.alerts_patterns.specs.Laws.Skipping.{to_start, far_then, far_more, far_alike}
 use borrow.Author.Rules.{rules}
 use Rattle.alerts_patterns.proofs.pair_far.Goals as goal

@@ -1,8 +1,5 @@
 -- `alerts_patterns::pair_from` meets its contract. The invariant: nothing stands before k.
-use Prim.Native.Nat.{◌-◌}
-use Rattle.alerts_patterns.specs.Promises.Occurrence.{SeeksTo}
 use Rattle.alerts_patterns.specs.Laws.Skipping.{to_start, to_more}
-use borrow.Author.Rules.{rules}
 use Rattle.alerts_patterns.proofs.pair_from.Goals as goal
 
 pub loop-k-init : goal.loop-k-init

@@ -1,8 +1,5 @@
 -- `alerts_patterns::pair_in` meets its contract. The invariant: the places from k on are still to be looked at.
-use Prim.Native.Nat.{◌-◌}
-use lib.ListN.{length}
-use Rattle.alerts_patterns.specs.Laws.Skipping.{Pairing, pairing_start, pairing_more, pairing_end}
-use borrow.Author.Rules.{rules}
+use Rattle.alerts_patterns.specs.Laws.Skipping.{pairing_start, pairing_more, pairing_end}
 use Rattle.alerts_patterns.proofs.pair_in.Goals as goal
 
 pub loop-k-init : goal.loop-k-init

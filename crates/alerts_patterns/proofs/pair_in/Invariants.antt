@@ -1,8 +1,7 @@
 -- `alerts_patterns::pair_in` meets its contract. The invariant: the places from k on are still to be looked at.
 use Prim.Native.Nat.{◌-◌}
 use lib.ListN.{length}
-use Rattle.alerts_patterns.specs.Laws.Skipping.{Pairing, pairing_start, pairing_more, pairing_end}
-use borrow.Author.Rules.{rules}
+use Rattle.alerts_patterns.specs.Laws.Skipping.{Pairing}
 use Rattle.alerts_patterns.proofs.pair_in.Given as goal
 
 abbrev pub invariant-loop-k : goal.invariant-loop-k

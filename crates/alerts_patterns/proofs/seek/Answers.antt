@@ -1,6 +1,5 @@
 -- `alerts_patterns::seek` meets its contract.
 use Rattle.alerts_patterns.specs.Laws.Skipping.{near_then}
-use borrow.Author.Rules.{rules}
 use Rattle.alerts_patterns.proofs.seek.Goals as goal
 
 pub returns : goal.returns

@@ -1,6 +1,5 @@
 -- `alerts_patterns::skip` meets its contract.
 use Rattle.alerts_patterns.specs.Laws.Skipping.{skips_name, skips_before, skips_both}
-use borrow.Author.Rules.{rules}
 use Rattle.alerts_patterns.proofs.skip.Goals as goal
 
 pub returns-then-before-eq0 : goal.returns-then-before-eq0

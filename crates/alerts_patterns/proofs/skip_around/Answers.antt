@@ -1,6 +1,5 @@
 -- `alerts_patterns::skip_around` meets its contract.
 use Rattle.alerts_patterns.specs.Laws.Skipping.{skips_front, skips_ends}
-use borrow.Author.Rules.{rules}
 use Rattle.alerts_patterns.proofs.skip_around.Goals as goal
 
 pub returns-then-before-eq0 : goal.returns-then-before-eq0

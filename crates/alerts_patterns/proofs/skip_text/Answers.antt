@@ -1,6 +1,5 @@
 -- `alerts_patterns::skip_text` meets its contract.
 use Rattle.alerts_patterns.specs.Laws.Skipping.{skips_none, skips_text}
-use borrow.Author.Rules.{rules}
 use Rattle.alerts_patterns.proofs.skip_text.Goals as goal
 
 pub returns-then-p-eq0 : goal.returns-then-p-eq0

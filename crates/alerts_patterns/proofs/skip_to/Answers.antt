@@ -1,6 +1,5 @@
 -- `alerts_patterns::skip_to` meets its contract.
 use Rattle.alerts_patterns.specs.Laws.Skipping.{name_any, name_ranged, name_alone, name_nothing}
-use borrow.Author.Rules.{rules}
 use Rattle.alerts_patterns.proofs.skip_to.Goals as goal
 
 pub returns-then-first-lt2 : goal.returns-then-first-lt2

@@ -1,7 +1,6 @@
 -- `alerts_patterns::telling` meets its contract. The invariant: d lies in p.
 use Prim.Native.Nat.{◌<◌}
 use lib.ListN.{length}
-use borrow.Author.Rules.{rules}
 use Rattle.alerts_patterns.proofs.telling.Given as goal
 
 abbrev pub invariant-loop-d : goal.invariant-loop-d

@@ -10,7 +10,7 @@ use Rattle.alerts_patterns.specs.declared.Occurrence.TheVariants.{At, Nowhere}
 use Rattle.basics.specs.Texts.{same}
 use Rattle.basics.specs.Laws.Texts.{same_true}
 use Rattle.basics.specs.Laws.Booleans.{false_true, or_false}
-use Rattle.alerts.specs.Laws.Text.{begins_true}
+use Rattle.alerts.proofs.Laws.Text.{begins_true}
 
 -- p stands at i where the rest of p stands at k
 pub record Stands (p s : List ℕ) (i j k : ℕ) : Type 0 where

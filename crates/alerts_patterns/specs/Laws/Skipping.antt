@@ -4,7 +4,7 @@ use Rattle.std.proofs.Common.{sym, ap, ◌∙◌, append-nil, add-one, arith, le
 use Rattle.std.proofs.lemmas.Bool.{eqb-false, lt-leb}
 use Rattle.basics.specs.Laws.Booleans.{and_true, or_assoc, or_false, false_true}
 use Rattle.alerts.specs.Text.{begins}
-use Rattle.alerts.specs.Laws.Text.{begins_true}
+use Rattle.alerts.proofs.Laws.Text.{begins_true}
 use Rattle.alerts_patterns.specs.Promises.Occurrence.{Skips, SkipsName, Seeks, SeeksTo, between}
 use Rattle.alerts_patterns.specs.Promises.Occurrence.{any_pair}
 use Rattle.alerts_patterns.specs.Laws.Searching.{Unfound, unfound_start, unfound_more, begins_joined}

@@ -5,7 +5,7 @@ use Rattle.alerts.specs.Text.{text, trim}
 use Rattle.alerts.specs.Alert.{Alert, header, description, cause, or_empty_text}
 use Rattle.alerts.specs.Applies.{road_blob, alert_text_compatible_with_leg}
 use Rattle.alerts.specs.Promises.Reduced.{text_fits, road}
-use Rattle.alerts.specs.Laws.Implied.{applies_reduced}
+use Rattle.alerts.proofs.Laws.Implied.{applies_reduced}
 use Rattle.alerts_text.specs.Promises.Blob.{fits_of, road_of}
 
 -- of an alert's texts these are the two tests of the reduced form

@@ -6,7 +6,7 @@ use Rattle.realtime.specs.Tree.{tree}
 use Rattle.realtime.specs.Schema.{feed_message}
 use Rattle.realtime.specs.Schema as schema
 use Rattle.realtime.specs.Gains.{Gains}
-use Rattle.realtime.specs.Laws.Gains.{gains_same_tree}
+use Rattle.realtime.proofs.Laws.Gains.{gains_same_tree}
 use Rattle.decode.specs.Leaves.{Trips, leaves}
 
 -- and by its bytes, where it is not broken

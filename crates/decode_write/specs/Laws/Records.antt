@@ -14,7 +14,7 @@ use Rattle.formats_write.specs.Laws.Slices.{slice_is}
 use Rattle.formats_write.specs.Promises.Adds.{Adds}
 use Rattle.formats_write.specs.Promises.Given.{text_w}
 use Rattle.formats_read.specs.Laws.Rewriting.{kept}
-use Rattle.maps.specs.Laws.Map.{map_length}
+use Rattle.maps.proofs.Laws.Map.{map_length}
 use Rattle.realtime.specs.Schema.{feed_entity, stop_time_update}
 use Rattle.realtime.specs.Schema as schema
 use Rattle.realtime_views.specs.declared.Trip as read

@@ -12,7 +12,7 @@ use Rattle.formats_read.specs.Laws.Progress.{one_more}
 use Rattle.formats_write.specs.declared.Put.{Put}
 use Rattle.formats_write.specs.Laws.Adds.{none, then, same}
 use Rattle.formats_write.specs.Promises.Adds.{Adds}
-use Rattle.maps.specs.Laws.Map.{map_length}
+use Rattle.maps.proofs.Laws.Map.{map_length}
 use Rattle.decode.specs.Sizes.{most_trips}
 use Rattle.decode.specs.Trip.{trip_entry}
 use Rattle.decode_slots.specs.Index.{slot_entry, slot_place, slotted, index}

@@ -1,10 +1,5 @@
 -- `formats::pass` and `formats::pass_many` meet their contracts.
-use mathlib.Core.Path.{◌≡◌, refl}
-use Prim.Native.Nat.{ℕ, ◌+◌, ◌*◌, ◌≤◌, ◌<◌}
 use native.Mathlib.Omega.{arith}
-use lib.ListN.{length}
-use borrow.Author.Rules.{rules}
-use Rattle.formats.specs.Promises.Outcome.{skip_many, format_at}
 use Rattle.formats.proofs.Passes.{pass_none, pass_leaf, list_bad, list_over, list_good, choice_0, choice_1}
 use Rattle.formats.proofs.Passes.{choice_2, pair_bad, pair_good, pass_never, passed_in, many_none, many_bad}
 use Rattle.formats.proofs.Passes.{many_flat, many_more}

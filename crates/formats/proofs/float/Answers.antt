@@ -1,5 +1,4 @@
 -- `formats::float` meets its contract.
-use borrow.Author.Rules.{rules}
 use Rattle.formats.proofs.Numbers.{float_end}
 use Rattle.formats.proofs.float.Goals as goal
 

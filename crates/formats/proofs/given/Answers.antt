@@ -1,5 +1,4 @@
 -- `formats::given` meets its contract.
-use borrow.Author.Rules.{rules}
 use Rattle.formats.proofs.Passes.{given_end, given_good, given_bad}
 use Rattle.formats.proofs.given.Goals as goal
 

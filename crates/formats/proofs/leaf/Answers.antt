@@ -1,5 +1,4 @@
 -- `formats::leaf` meets its contract.
-use borrow.Author.Rules.{rules}
 use Rattle.formats.proofs.Parts.{begins, count_within}
 use Rattle.formats.proofs.Passes.{leaf_0, leaf_1, leaf_6, leaf_6_bad, leaf_7, leaf_bad, leaf_4, leaf_4_over}
 use Rattle.formats.proofs.Passes.{leaf_5, leaf_23}

@@ -1,7 +1,4 @@
 -- `formats::more`: what is found from the next group on is the number. Assumes nothing.
-use native.Mathlib.Omega.{arith}
-use borrow.Author.Rules.{rules}
-use Rattle.formats.specs.Promises.Number.{Rest}
 use Rattle.formats.proofs.Groups.{begins, ends, last_good, last_bad, zero_bad, one_good, goes_on}
 use Rattle.formats.proofs.Groups.{last_fits, unit_fits, end_part_fits, end_fits, next_part_fits, next_fits}
 use Rattle.formats.proofs.more.Goals as goal

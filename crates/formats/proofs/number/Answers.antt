@@ -1,5 +1,4 @@
 -- `formats::number` meets its contract.
-use borrow.Author.Rules.{rules}
 use Rattle.formats.proofs.Numbers.{at_end, front_good, front_more}
 use Rattle.formats.proofs.number.Goals as goal
 

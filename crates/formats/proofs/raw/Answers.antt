@@ -1,5 +1,4 @@
 -- `formats::raw` meets its contract.
-use borrow.Author.Rules.{rules}
 use Rattle.formats.proofs.Passes.{raw_good, raw_bad}
 use Rattle.formats.proofs.raw.Goals as goal
 

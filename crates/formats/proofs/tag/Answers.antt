@@ -1,5 +1,4 @@
 -- `formats::tag` meets its contract.
-use borrow.Author.Rules.{rules}
 use Rattle.formats.proofs.Passes.{tag_end, tag_in}
 use Rattle.formats.proofs.tag.Goals as goal
 

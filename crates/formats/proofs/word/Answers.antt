@@ -1,5 +1,4 @@
 -- `formats::word` meets its contract.
-use borrow.Author.Rules.{rules}
 use Rattle.formats.proofs.Nodes.{word_end, word_past}
 use Rattle.formats.proofs.word.Goals as goal
 

@@ -1,6 +1,5 @@
 -- `formats_check::at_most` meets its contract.
 use Rattle.formats_check.specs.Laws.Elements.{small_no, small_over, small_so}
-use borrow.Author.Rules.{rules}
 use Rattle.formats_check.proofs.at_most.Goals as goal
 
 pub returns-in_default : goal.returns-in_default

@@ -1,7 +1,6 @@
 -- `formats_check::bytes_at` meets its contract.
 use Rattle.formats_check.specs.Laws.Climbing.{span_no, span_so}
 use Rattle.formats_check.specs.Laws.Elements.{in_place, text_no, text_over, text_short}
-use borrow.Author.Rules.{rules}
 use Rattle.formats_check.proofs.bytes_at.Goals as goal
 
 pub returns-in_default : goal.returns-in_default

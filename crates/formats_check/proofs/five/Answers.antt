@@ -1,5 +1,4 @@
 -- `formats_check::five` meets its contract.
-use borrow.Author.Rules.{rules}
 use Rattle.formats_check.specs.Laws.Five.{none_got, five_got}
 use Rattle.formats_check.proofs.five.Goals as goal
 

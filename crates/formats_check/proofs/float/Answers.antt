@@ -1,6 +1,5 @@
 -- `formats_check::float` meets its contract.
 use Rattle.formats_check.specs.Laws.Elements.{float_no, float_so}
-use borrow.Author.Rules.{rules}
 use Rattle.formats_check.proofs.float.Goals as goal
 
 pub returns-in-Got : goal.returns-in-Got

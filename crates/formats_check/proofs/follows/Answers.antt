@@ -1,6 +1,5 @@
 -- `formats_check::follows` meets its contract.
 use Rattle.formats_check.specs.Laws.Climbing.{follows_less, follows_same, follows_more}
-use borrow.Author.Rules.{rules}
 use Rattle.formats_check.proofs.follows.Goals as goal
 
 pub returns-in-Less : goal.returns-in-Less

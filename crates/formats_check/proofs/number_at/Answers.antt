@@ -1,5 +1,4 @@
 -- `formats_check::number_at` meets its contract.
-use borrow.Author.Rules.{rules}
 use Rattle.formats.proofs.Numbers.{at_end, front_good}
 use Rattle.formats_check.proofs.number_at.Goals as goal
 

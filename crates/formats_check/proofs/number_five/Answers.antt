@@ -1,5 +1,4 @@
 -- `formats_check::number_five` meets its contract.
-use borrow.Author.Rules.{rules}
 use Rattle.formats_check.specs.Laws.Five.{one_got}
 use Rattle.formats_check.proofs.number_five.Goals as goal
 

@@ -1,6 +1,5 @@
 -- `formats_check::optional_text` meets its contract.
 use Rattle.formats_check.specs.Laws.Checked.{optional_absent, optional_end, optional_given, optional_other}
-use borrow.Author.Rules.{rules}
 use Rattle.formats_check.proofs.optional_text.Goals as goal
 
 pub returns-then-s-at : goal.returns-then-s-at

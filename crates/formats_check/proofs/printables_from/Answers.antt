@@ -1,11 +1,7 @@
 -- `formats_check::printables_from` meets its contract.
-use Prim.Native.Nat.{◌≤◌}
-use Rattle.formats.specs.Class.{printable}
-use Rattle.formats.specs.Format.{text}
 use Rattle.formats_check.specs.Laws.Checked.{check_in}
-use Rattle.formats_check.specs.Laws.Walks.{Eaching, each_end, each_no, each_so, each_start}
+use Rattle.formats_check.specs.Laws.Walks.{each_end, each_no, each_so, each_start}
 use borrow.Author.Rules.{rules}
-use lib.ListN.{length}
 use Rattle.formats_check.proofs.printables_from.Goals as goal
 
 pub loop-left-init : goal.loop-left-init

@@ -2,9 +2,7 @@
 use Prim.Native.Nat.{◌≤◌}
 use Rattle.formats.specs.Class.{printable}
 use Rattle.formats.specs.Format.{text}
-use Rattle.formats_check.specs.Laws.Checked.{check_in}
-use Rattle.formats_check.specs.Laws.Walks.{Eaching, each_end, each_no, each_so, each_start}
-use borrow.Author.Rules.{rules}
+use Rattle.formats_check.specs.Laws.Walks.{Eaching}
 use lib.ListN.{length}
 use Rattle.formats_check.proofs.printables_from.Given as goal
 

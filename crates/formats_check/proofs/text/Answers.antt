@@ -1,6 +1,5 @@
 -- `formats_check::text` meets its contract.
 use Rattle.formats_check.specs.Laws.Climbing.{span_is, span_none}
-use borrow.Author.Rules.{rules}
 use Rattle.formats_check.proofs.text.Goals as goal
 
 pub returns-in-At : goal.returns-in-At

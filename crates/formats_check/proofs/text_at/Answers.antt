@@ -1,6 +1,5 @@
 -- `formats_check::text_at` meets its contract.
 use Rattle.formats_check.specs.Laws.Climbing.{span_forward, span_within, class_none, class_so, class_other}
-use borrow.Author.Rules.{rules}
 use Rattle.formats_check.proofs.text_at.Goals as goal
 
 pub returns-in_default : goal.returns-in_default

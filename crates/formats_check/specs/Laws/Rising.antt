@@ -15,7 +15,7 @@ use Rattle.formats.proofs.Numbers.{NumberGot, got, bad_none}
 use Rattle.slices.specs.Lists.{lex_of}
 use Rattle.maps.specs.Map.{is_less, above, ascending}
 use Rattle.maps.specs.Order.{numbers}
-use Rattle.maps.specs.Laws.Order.{cons_before, cons_behind, lex_itself}
+use Rattle.maps.proofs.Laws.Order.{cons_before, cons_behind, lex_itself}
 use Rattle.formats_check.specs.Promises.Checked.{Number, Checked, fine, Walk, runs, Walked, Ahead}
 use Rattle.formats_check.specs.Laws.Checked.{Missed, absent, refused, good, missed}
 use Rattle.formats_check.specs.Laws.Walks.{walk_end, walk_no, walk_on, list_no, list_over, list_so}

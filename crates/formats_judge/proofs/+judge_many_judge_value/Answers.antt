@@ -1,12 +1,6 @@
 -- `formats_judge::judge_many` and `formats_judge::judge_value` meet their contracts.
-use mathlib.Core.Path.{◌≡◌, refl}
-use Prim.Native.Nat.{ℕ, ◌+◌, ◌*◌, ◌≤◌, ◌<◌}
 use native.Mathlib.Omega.{arith}
-use lib.ListN.{length}
-use borrow.Author.Rules.{rules}
-use Rattle.formats.specs.Promises.Outcome.{format_at}
 use Rattle.formats.proofs.Parts.{count_within, tag_within}
-use Rattle.formats_judge.specs.Promises.Judged.{judge_many, judged_after}
 use Rattle.formats_judge.proofs.Judging.{value_none, value_leaf, list_bad, list_over, list_good, choice_0}
 use Rattle.formats_judge.proofs.Judging.{choice_1, choice_2, pair_bad, pair_bad_2, pair_good, value_never}
 use Rattle.formats_judge.proofs.Judging.{judged_in, many_none, many_bad, many_flat, many_more}

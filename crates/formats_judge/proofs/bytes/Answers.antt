@@ -1,6 +1,4 @@
 -- `formats_judge::bytes` meets its contract.
-use native.Mathlib.Omega.{arith}
-use borrow.Author.Rules.{rules}
 use Rattle.formats_judge.proofs.Leaves.{bytes_over, bytes_good}
 use Rattle.formats_judge.proofs.bytes.Goals as goal
 

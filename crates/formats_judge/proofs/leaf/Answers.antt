@@ -1,5 +1,4 @@
 -- `formats_judge::leaf` meets its contract.
-use borrow.Author.Rules.{rules}
 use Rattle.formats.proofs.Parts.{begins, count_within}
 use Rattle.formats_judge.proofs.Leaves.{leaf_0, leaf_1, leaf_6, leaf_6_bad, leaf_7, leaf_7_bad, leaf_bad, leaf_2}
 use Rattle.formats_judge.proofs.Leaves.{leaf_3, leaf_4, leaf_4_over, leaf_5}

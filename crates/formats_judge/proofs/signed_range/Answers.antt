@@ -1,5 +1,4 @@
 -- `formats_judge::signed_range` meets its contract.
-use borrow.Author.Rules.{rules}
 use Rattle.formats_judge.proofs.Rules.{both_yes, second_no, first_no}
 use Rattle.formats_judge.proofs.signed_range.Goals as goal
 

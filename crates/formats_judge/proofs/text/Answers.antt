@@ -1,5 +1,4 @@
 -- `formats_judge::text` meets its contract.
-use borrow.Author.Rules.{rules}
 use Rattle.formats_judge.proofs.Rules.{text_good, text_class, text_over}
 use Rattle.formats_judge.proofs.text.Goals as goal
 

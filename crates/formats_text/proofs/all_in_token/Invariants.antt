@@ -1,13 +1,9 @@
 -- `formats_text::all_in_token` meets its contract.
-use mathlib.Core.Path.{◌≡◌, refl}
+use mathlib.Core.Path.{◌≡◌}
 use Prim.Native.Nat.{◌-◌, ◌≤◌}
-use native.Mathlib.Omega.{arith}
 use lib.ListN.{length, drop}
-use borrow.Author.Tests.{not-true, not-false}
-use borrow.Author.Rules.{rules}
 use Rattle.formats.specs.Class.{token, allowed}
 use Rattle.basics.specs.Lists.{all}
-use Rattle.formats_text.proofs.Bytewise.{all_end, all_stop, all_more}
 use Rattle.formats_text.proofs.all_in_token.Given as goal
 
 abbrev pub invariant-loop-i : goal.invariant-loop-i

@@ -1,9 +1,7 @@
 -- `formats_text::all_printable` meets its contract.
-use borrow.Author.Rules.{rules}
 use Prim.Native.Nat.{◌-◌, ◌≤◌}
 use lib.ListN.{length}
-use native.Mathlib.Omega.{arith}
-use Rattle.formats_text.proofs.Printable.{Passed, passed_start, passed_eight, passed_no, passed_last}
+use Rattle.formats_text.proofs.Printable.{Passed}
 use Rattle.formats_text.proofs.all_printable.Given as goal
 
 abbrev pub invariant-loop-i : goal.invariant-loop-i

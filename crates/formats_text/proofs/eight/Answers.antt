@@ -1,7 +1,6 @@
 -- `formats_text::eight` meets its contract.
 use Rattle.formats_text.proofs.Spans.{span_eight}
 use Rattle.formats.specs.Class.{allowed, printable}
-use borrow.Author.Rules.{rules}
 use Rattle.formats_text.proofs.eight.Goals as goal
 
 pub returns : goal.returns

@@ -1,9 +1,7 @@
 -- `formats_text::few_printable` meets its contract.
 use borrow.Author.Rules.{rules}
-use Prim.Native.Nat.{◌-◌, ◌≤◌}
-use lib.ListN.{length}
 use native.Mathlib.Omega.{arith}
-use Rattle.formats_text.proofs.Printable.{Passed, passed_start, passed_end, both_fours}
+use Rattle.formats_text.proofs.Printable.{passed_start, passed_end, both_fours}
 use Rattle.formats_text.proofs.Printable.{passed_low, passed_high, passed_one}
 use Rattle.formats_text.proofs.few_printable.Goals as goal
 

@@ -1,7 +1,6 @@
 -- `formats_text::four` meets its contract.
 use Rattle.formats_text.proofs.Spans.{span_four}
 use Rattle.formats.specs.Class.{allowed, printable}
-use borrow.Author.Rules.{rules}
 use Rattle.formats_text.proofs.four.Goals as goal
 
 pub returns : goal.returns

@@ -1,5 +1,4 @@
 -- `formats_text::in_class` meets its contract.
-use borrow.Author.Rules.{rules}
 use Rattle.formats_text.proofs.Bytewise.{class_any, class_printable, class_empty, class_token, class_utf8}
 use Rattle.formats_text.proofs.in_class.Goals as goal
 

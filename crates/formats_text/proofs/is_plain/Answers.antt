@@ -1,6 +1,4 @@
 -- `formats_text::is_plain` meets its contract.
-use borrow.Author.Rules.{rules}
-use native.Mathlib.Omega.{arith}
 use Rattle.formats_text.proofs.Spans.{plain_due, plain_short, plain_eight}
 use Rattle.formats_text.proofs.is_plain.Goals as goal
 

@@ -1,5 +1,4 @@
 -- `formats_text::step` meets its contract.
-use borrow.Author.Rules.{rules}
 use Rattle.formats_text.proofs.Leads.{step_lead, step_low, step_high, step_good}
 use Rattle.formats_text.proofs.step.Goals as goal
 

@@ -1,14 +1,10 @@
 -- `formats_text::utf8` meets its contract.
-use mathlib.Core.Path.{◌≡◌, refl}
+use mathlib.Core.Path.{◌≡◌}
 use mathlib.Core.List.{[]}
 use Prim.Native.Nat.{◌-◌, ◌≤◌}
-use native.Mathlib.Omega.{arith}
 use lib.ListN.{length, drop}
-use borrow.Author.Rules.{rules}
 use Rattle.formats.specs.Class.{sequences}
 use Rattle.formats_text.specs.Promises.Due.{ranges}
-use Rattle.formats_text.proofs.Leads.{walk_end, walk_wrong, walk_on}
-use Rattle.formats_text.proofs.Spans.{plain_inside, plain_on}
 use Rattle.formats_text.proofs.utf8.Given as goal
 
 abbrev pub invariant-loop-i : goal.invariant-loop-i

@@ -1,8 +1,5 @@
 -- `groups` meets its contract.
 use Rattle.formats_write.proofs.Laws
-use Prim.Native.Nat.{ℕ, ◌<◌}
-use borrow.Author.Rules.{rules}
-use native.Mathlib.Omega.{arith}
 use Rattle.formats_write.proofs.+groups.Goals as goal
 
 pub returns-then-n-lt128 : goal.returns-then-n-lt128

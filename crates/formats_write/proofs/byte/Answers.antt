@@ -1,6 +1,5 @@
 -- `byte` meets its contract.
 use Rattle.formats_write.proofs.Laws
-use borrow.Author.Rules.{rules}
 use Rattle.formats_write.proofs.byte.Goals as goal
 
 pub returns-in_default : goal.returns-in_default

@@ -2,7 +2,6 @@
 use Rattle.formats_write.proofs.Laws
 use Rattle.formats.specs.Number.{number_w}
 use Rattle.formats_write.specs.Promises.Given.{given_number}
-use borrow.Author.Rules.{rules}
 use mathlib.Core.Path.{ap}
 use Rattle.formats_write.proofs.optional_number.Goals as goal
 

@@ -1,7 +1,6 @@
 -- `optional_text` meets its contract.
 use Rattle.formats_write.proofs.Laws
 use Rattle.formats_write.specs.Promises.Given.{given_text, text_w}
-use borrow.Author.Rules.{rules}
 use mathlib.Core.Path.{ap}
 use Rattle.formats_write.proofs.optional_text.Goals as goal
 

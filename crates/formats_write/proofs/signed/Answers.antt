@@ -1,7 +1,6 @@
 -- `signed` meets its contract.
 use Rattle.formats_write.proofs.Laws
 use Rattle.formats.specs.Number.{zig}
-use borrow.Author.Rules.{rules}
 use mathlib.Core.Path.{◌∙◌, ap}
 use mir.Facts.{to_z-of_z}
 use Rattle.formats_write.proofs.signed.Goals as goal

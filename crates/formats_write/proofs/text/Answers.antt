@@ -1,6 +1,5 @@
 -- `text` meets its contract.
 use Rattle.formats_write.proofs.Laws
-use borrow.Author.Rules.{rules}
 use native.Mathlib.Omega.{arith}
 use Rattle.formats_write.proofs.text.Goals as goal
 

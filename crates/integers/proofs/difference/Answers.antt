@@ -1,7 +1,5 @@
 -- `difference` meets its contract.
 use Rattle.integers.proofs.Laws
-use borrow.Author.Rules.{rules}
-use native.Mathlib.Omega.{arith}
 use Rattle.integers.proofs.difference.Goals as goal
 
 pub returns : goal.returns

@@ -1,6 +1,5 @@
 -- `from_zigzag` meets its contract.
 use Rattle.integers.proofs.Laws
-use borrow.Author.Rules.{rules}
 use Rattle.integers.proofs.from_zigzag.Goals as goal
 
 pub returns-then-n-eq0 : goal.returns-then-n-eq0

@@ -1,6 +1,5 @@
 -- `integer` meets its contract.
 use Rattle.integers.proofs.Laws
-use borrow.Author.Rules.{rules}
 use Rattle.integers.proofs.integer.Goals as goal
 
 pub returns : goal.returns

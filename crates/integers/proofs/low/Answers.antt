@@ -1,6 +1,5 @@
 -- `low` meets its contract.
 use Rattle.integers.proofs.Laws
-use borrow.Author.Rules.{rules}
 use Rattle.integers.proofs.low.Goals as goal
 
 pub returns-then-z-lt0 : goal.returns-then-z-lt0

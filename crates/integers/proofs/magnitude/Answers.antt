@@ -1,6 +1,5 @@
 -- `magnitude` meets its contract.
 use Rattle.integers.proofs.Laws
-use borrow.Author.Rules.{rules}
 use Rattle.integers.proofs.magnitude.Goals as goal
 
 pub natural-requires : goal.natural-requires

@@ -1,6 +1,5 @@
 -- `signed` meets its contract.
 use Rattle.integers.proofs.Laws
-use borrow.Author.Rules.{rules}
 use Rattle.integers.proofs.signed.Goals as goal
 
 pub returns-then-n-lt2147483648 : goal.returns-then-n-lt2147483648

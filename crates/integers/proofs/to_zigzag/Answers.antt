@@ -1,6 +1,5 @@
 -- `to_zigzag` meets its contract.
 use Rattle.integers.proofs.Laws
-use borrow.Author.Rules.{rules}
 use Rattle.integers.proofs.to_zigzag.Goals as goal
 
 pub returns-then-z-lt0 : goal.returns-then-z-lt0

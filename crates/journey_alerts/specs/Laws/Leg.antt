@@ -8,7 +8,7 @@ use Rattle.basics.specs.Options.{Maybe}
 use Rattle.basics.specs.Laws.Booleans.{both_true}
 use Rattle.maps.specs.Map.{get}
 use Rattle.maps.specs.Order.{texts}
-use Rattle.maps.specs.Laws.Order.{texts_order}
+use Rattle.maps.proofs.Laws.Order.{texts_order}
 use Rattle.formats.specs.Class.{Class, printable, utf8, in_class}
 use Rattle.formats.specs.Format.{text, list, optional, ◌&◌, Value}
 use Rattle.formats_judge.specs.Judged.{ok}
@@ -24,16 +24,16 @@ use Rattle.overlay.specs.State.{State, Feed, overlay, timestamp, vehicle_entry, 
 use Rattle.overlay.specs.State.{timestamp_of, trips_of, vehicles_of, alerts_of}
 use Rattle.overlay.specs.Records.{Records, Feeds, records_of, shown}
 use Rattle.overlay.specs.Lookup.{feed_of}
-use Rattle.overlay.specs.Laws.Within.{Judged56, left, right, few, counted}
-use Rattle.overlay.specs.Laws.EveryEntry.{each_of, each_map, get_each}
+use Rattle.overlay.proofs.Laws.Within.{Judged56, left, right, few, counted}
+use Rattle.overlay.proofs.Laws.EveryEntry.{each_of, each_map, get_each}
 use Rattle.overlay_resolve.specs.Promises.Shown.{ShowsAlerts}
 use Rattle.overlay_seek.specs.declared.Found.{Found}
 use Rattle.overlay_seek.specs.declared.Found.TheVariants.{At, Missing}
 use Rattle.journey.specs.Card.{Transit, transit, transit_of}
 use Rattle.journey.specs.Enrich.{alerts_in, applies, alerts_of_transit, disrupted, labels_of}
 use Rattle.journey.specs.ByIndex.{passes}
-use Rattle.journey.specs.Laws.Found.{RecordsJudged}
-use Rattle.journey.specs.Laws.Labels.{any_filter}
+use Rattle.journey.proofs.Laws.Found.{RecordsJudged}
+use Rattle.journey.proofs.Laws.Labels.{any_filter}
 use Rattle.journey_labels.specs.Promises.Labels.{SoundLabels}
 use Rattle.journey_alerts.specs.declared.LegTexts.{LegTexts}
 use Rattle.journey_alerts.specs.declared.LegAlerts.{LegAlerts}

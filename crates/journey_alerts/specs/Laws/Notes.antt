@@ -7,7 +7,7 @@ use Rattle.maps.specs.Map.{by_order, put, puts}
 use Rattle.maps.specs.Order.{texts}
 use Rattle.decode_slots.specs.Index.{Place}
 use Rattle.decode_slots.specs.Places.{bytes_in}
-use Rattle.journey.specs.Laws.Headers.{Entry, entry}
+use Rattle.journey.proofs.Laws.Headers.{Entry, entry}
 use Rattle.journey_labels.specs.Promises.Labels.{most_labels, Inside, labels, SoundLabels, LabelNoted}
 use Rattle.journey_labels.specs.Laws.Labels.{count_of}
 use Rattle.journey_alerts.specs.Promises.Alerts.{Notes, nonempty, LabelAdded}

@@ -16,11 +16,11 @@ use Rattle.alerts_apply.specs.Promises.Hits.{Room}
 use Rattle.alerts_apply.specs.Promises.Known.{Knows}
 use Rattle.overlay.specs.State.{State, overlay}
 use Rattle.overlay.specs.Records.{Feeds, shown}
-use Rattle.overlay.specs.Laws.Within.{Judged56}
+use Rattle.overlay.proofs.Laws.Within.{Judged56}
 use Rattle.journey.specs.Card.{Transit, transit, transit_of}
 use Rattle.journey.specs.Enrich.{disrupted, labels_of}
 use Rattle.journey.specs.ByIndex.{passes}
-use Rattle.journey.specs.Laws.Headers.{entry}
+use Rattle.journey.proofs.Laws.Headers.{entry}
 use Rattle.journey_finish.specs.Promises.Finish.{StateIn}
 use Rattle.journey_labels.specs.Promises.Labels.{most_labels, labels, SoundLabels}
 use Rattle.journey_alerts.specs.declared.LegTexts.{LegTexts}

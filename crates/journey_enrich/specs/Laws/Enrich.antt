@@ -10,10 +10,10 @@ use Rattle.formats_skip.specs.Laws.Leads.{lead_field}
 use Rattle.formats_write.specs.declared.Put.{Put}
 use Rattle.formats_write.specs.Laws.Adds.{then, same}
 use Rattle.overlay.specs.Records.{shown}
-use Rattle.overlay.specs.Laws.Within.{Judged56, left, right}
+use Rattle.overlay.proofs.Laws.Within.{Judged56, left, right}
 use Rattle.journey.specs.Card.{card_time, card, card_of}
 use Rattle.journey.specs.Enrich.{headers_of, transits, enrich_leg}
-use Rattle.journey.specs.Laws.Finished.{finished_judged}
+use Rattle.journey.proofs.Laws.Finished.{finished_judged}
 use Rattle.journey_places.specs.declared.CardPlaces.{CardPlaces}
 use Rattle.journey_places.specs.Promises.Places.{CardAt}
 use Rattle.journey_leg.specs.Laws.Opens.{closes}

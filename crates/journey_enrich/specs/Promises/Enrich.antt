@@ -10,7 +10,7 @@ use Rattle.formats_write.specs.Promises.Adds.{Adds}
 use Rattle.formats_write.specs.Promises.Given.{text_w}
 use Rattle.overlay.specs.State.{State}
 use Rattle.overlay.specs.Records.{shown}
-use Rattle.overlay.specs.Laws.Within.{Judged56}
+use Rattle.overlay.proofs.Laws.Within.{Judged56}
 use Rattle.journey.specs.Card.{card, card_of, card_value}
 use Rattle.journey.specs.Enrich.{keys, transits, headers_of, enrich_with_realtime}
 use Rattle.journey_labels.specs.Promises.Labels.{labels, SoundLabels}

@@ -8,7 +8,7 @@ use Rattle.journey_finish.specs.Promises.Finish.{StateIn}
 use Rattle.journey_stops.specs.Laws.Advance.{Advance, start, step, stop}
 use Rattle.overlay.specs.Records.{shown}
 use Rattle.overlay.specs.State.{State}
-use Rattle.overlay.specs.Laws.Within.{Judged56}
+use Rattle.overlay.proofs.Laws.Within.{Judged56}
 use borrow.Author.Rules.{rules}
 use lib.ListN.{length}
 use mathlib.Core.Path.{◌≡◌, refl}

@@ -19,7 +19,7 @@ use Rattle.formats_write.specs.Promises.Given.{given_number}
 use Rattle.decode.specs.Trip.{trip}
 use Rattle.overlay.specs.Lookup.{FeedTrip}
 use Rattle.overlay.specs.Records.{shown}
-use Rattle.overlay.specs.Laws.Within.{Judged56, left, right}
+use Rattle.overlay.proofs.Laws.Within.{Judged56, left, right}
 use Rattle.overlay_resolve.specs.declared.Resolved.{Resolved}
 use Rattle.overlay_resolve.specs.declared.Resolved.TheVariants as resolves
 use Rattle.overlay_resolve.specs.Promises.Shown.{Resolves, ShowsVehicle, record_for}
@@ -28,7 +28,7 @@ use Rattle.overlay_seek.specs.declared.Found.TheVariants as seeks
 use Rattle.overlay_vehicle.specs.declared.OptionalPlace.{OptionalPlace}
 use Rattle.journey.specs.Card.{scheduled}
 use Rattle.journey.specs.Enrich.{seconds, trip_rt, departs, arrives, cancels}
-use Rattle.journey.specs.Laws.Found.{FoundJudged, resolve_gives}
+use Rattle.journey.proofs.Laws.Found.{FoundJudged, resolve_gives}
 use Rattle.journey_places.specs.declared.LegPlaces.{LegPlaces}
 use Rattle.journey_places.specs.Promises.Places.{LegAt}
 use Rattle.journey_leg.specs.declared.LegRealtime.{LegRealtime}

@@ -14,7 +14,7 @@ use Rattle.formats_write.specs.Promises.Adds.{Adds}
 use Rattle.formats_write.specs.Laws.Adds.{then}
 use Rattle.overlay.specs.State.{State}
 use Rattle.overlay.specs.Records.{shown}
-use Rattle.overlay.specs.Laws.Within.{Judged56, elements}
+use Rattle.overlay.proofs.Laws.Within.{Judged56, elements}
 use Rattle.journey.specs.Card.{leg}
 use Rattle.journey.specs.Enrich.{enrich_leg}
 use Rattle.journey_stops.specs.Laws.Advance.{list_mapped}

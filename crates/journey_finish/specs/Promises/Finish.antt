@@ -12,7 +12,7 @@ use Rattle.formats_write.specs.Promises.Adds.{Adds}
 use Rattle.overlay.specs.State.{State, overlay, feeds_of}
 use Rattle.overlay.specs.Records.{shown}
 use Rattle.overlay.specs.Lookup.{get_vehicle_for_trip}
-use Rattle.overlay.specs.Laws.Within.{Judged56}
+use Rattle.overlay.proofs.Laws.Within.{Judged56}
 use Rattle.overlay_resolve.specs.declared.Resolved.{Resolved}
 use Rattle.overlay_resolve.specs.Promises.Shown.{FoundIn}
 use Rattle.overlay_seek.specs.declared.Found as seek
@@ -20,7 +20,7 @@ use Rattle.overlay_vehicle.specs.declared.OptionalPlace.{OptionalPlace}
 use Rattle.overlay_vehicle.specs.Promises.Vehicle.{Sees}
 use Rattle.journey.specs.Card.{transit, leg, transit_of, transit_value}
 use Rattle.journey.specs.Enrich.{trip_rt, departs, arrives, cancels, enrich_transit, enrich_leg}
-use Rattle.journey.specs.Laws.Found.{FeedsJudged}
+use Rattle.journey.proofs.Laws.Found.{FeedsJudged}
 use Rattle.journey_times.specs.Promises.Realtime.{realtime_of}
 use Rattle.journey_leg.specs.declared.LegRealtime.{LegRealtime}
 use Rattle.journey_stops.specs.Promises.Stops.{Holds}

@@ -11,8 +11,8 @@ use Rattle.slices.specs.declared.Order.{Order}
 use Rattle.maps.specs.Map.{put, ascending}
 use Rattle.maps.specs.Order.{texts}
 use Rattle.maps.specs.Promises.Order.{is_same, is_more}
-use Rattle.maps.specs.Laws.Map.{put_ascending}
-use Rattle.maps.specs.Laws.Order.{texts_order, lex_same}
+use Rattle.maps.proofs.Laws.Map.{put_ascending}
+use Rattle.maps.proofs.Laws.Order.{texts_order, lex_same}
 use Rattle.decode_slots.specs.Index.{Place}
 use Rattle.decode_slots.specs.Places.{bytes_in}
 use Rattle.slices.specs.Promises.Inserted.{inserted}

@@ -6,7 +6,7 @@ use Rattle.journey_stops.proofs.each_middle.Tie as tie
 use Rattle.journey_stops.specs.Laws.Advance.{Advance, start, step, stop}
 use Rattle.journey_stops.specs.Promises.Stops.{Holds, stop_by}
 use Rattle.overlay.specs.Lookup.{FeedTrip}
-use Rattle.overlay.specs.Laws.Within.{Judged56}
+use Rattle.overlay.proofs.Laws.Within.{Judged56}
 use borrow.Author.Rules.{rules}
 use lib.ListN.{length}
 use mathlib.Core.Option.{Option}

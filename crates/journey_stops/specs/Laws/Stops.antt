@@ -21,14 +21,14 @@ use Rattle.formats_skip.specs.Laws.Passes.{any_signed}
 use Rattle.formats_skip.specs.Laws.Leads.{lead_field}
 use Rattle.decode.specs.Trip.{stop_update}
 use Rattle.overlay.specs.Lookup.{FeedTrip, find_stop_update}
-use Rattle.overlay.specs.Laws.Within.{Judged56, left, right, elements}
+use Rattle.overlay.proofs.Laws.Within.{Judged56, left, right, elements}
 use Rattle.overlay_seek.specs.declared.Found as seek
 use Rattle.overlay_seek.specs.declared.Found.TheVariants as seeks
 use Rattle.overlay_updates.specs.Promises.Updates.{FindsUpdate}
 use Rattle.overlay_vehicle.specs.declared.OptionalPlace.{OptionalPlace}
 use Rattle.journey.specs.Card.{scheduled, middle, transit}
 use Rattle.journey.specs.Times.{arrival, departure, apply_time}
-use Rattle.journey.specs.Laws.Found.{Gives, update_gives}
+use Rattle.journey.proofs.Laws.Found.{Gives, update_gives}
 use Rattle.journey_places.specs.declared.ChangingPlaces.{ChangingPlaces}
 use Rattle.journey_places.specs.Promises.Places.{ChangingAt}
 use Rattle.journey_times.specs.declared.Event.TheVariants as events

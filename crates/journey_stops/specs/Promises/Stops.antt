@@ -14,7 +14,7 @@ use Rattle.formats_write.specs.Promises.Adds.{Adds}
 use Rattle.decode.specs.Trip.{id, number32, trip}
 use Rattle.overlay.specs.Lookup.{FeedTrip}
 use Rattle.overlay.specs.State.{Vehicle}
-use Rattle.overlay.specs.Laws.Within.{Judged56}
+use Rattle.overlay.proofs.Laws.Within.{Judged56}
 use Rattle.overlay_seek.specs.declared.Found as seek
 use Rattle.overlay_seek.specs.declared.Found.TheVariants as seeks
 use Rattle.overlay_vehicle.specs.declared.OptionalPlace.{OptionalPlace}

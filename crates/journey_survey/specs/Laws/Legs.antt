@@ -20,10 +20,10 @@ use Rattle.formats_write.specs.Promises.Given.{given_signed}
 use Rattle.alerts.specs.Label.{label}
 use Rattle.overlay.specs.State.{State, overlay}
 use Rattle.overlay.specs.Records.{Feeds, shown}
-use Rattle.overlay.specs.Laws.Within.{Judged56, elements}
+use Rattle.overlay.proofs.Laws.Within.{Judged56, elements}
 use Rattle.journey.specs.Card.{Transit, transit, leg, transit_of}
 use Rattle.journey.specs.Enrich.{alerts_of_transit, transits, keys, labels_of, headers_of}
-use Rattle.journey.specs.Laws.Headers.{Entry, entry, headers_few}
+use Rattle.journey.proofs.Laws.Headers.{Entry, entry, headers_few}
 use Rattle.journey_places.specs.declared.LegPlaces.{LegPlaces}
 use Rattle.journey_places.specs.Promises.Places.{LegAt}
 use Rattle.journey_leg.specs.declared.LegRealtime.{LegRealtime}

@@ -8,7 +8,7 @@ use Rattle.formats_read.specs.Promises.Here.{Here}
 use Rattle.formats_read.specs.Promises.Lists.{Many}
 use Rattle.overlay.specs.State.{State, overlay}
 use Rattle.overlay.specs.Records.{shown}
-use Rattle.overlay.specs.Laws.Within.{Judged56}
+use Rattle.overlay.proofs.Laws.Within.{Judged56}
 use Rattle.journey.specs.Card.{transit, leg, transit_of}
 use Rattle.journey.specs.Enrich.{transits, labels_of}
 use Rattle.journey_finish.specs.Promises.Finish.{StateIn}

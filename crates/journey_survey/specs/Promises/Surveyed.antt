@@ -8,10 +8,10 @@ use Rattle.formats_judge.specs.Judged.{ok}
 use Rattle.formats_read.specs.Promises.Here.{Here}
 use Rattle.overlay.specs.State.{State, overlay}
 use Rattle.overlay.specs.Records.{shown}
-use Rattle.overlay.specs.Laws.Within.{Judged56}
+use Rattle.overlay.proofs.Laws.Within.{Judged56}
 use Rattle.journey.specs.Card.{leg}
 use Rattle.journey.specs.Enrich.{transits, labels_of}
-use Rattle.journey.specs.Laws.Headers.{entry}
+use Rattle.journey.proofs.Laws.Headers.{entry}
 use Rattle.journey_finish.specs.Promises.Finish.{StateIn}
 use Rattle.journey_card.specs.declared.Survey as code
 use Rattle.journey_card.specs.Promises.Survey.{nothing, gathered_of, look}

@@ -6,7 +6,7 @@ use Rattle.basics.specs.Lists.{All}
 use Rattle.basics.specs.Laws.Booleans.{both_true}
 use Rattle.slices.specs.declared.Order.TheVariants.{Less, More}
 use Rattle.maps.specs.Map.{Ordered, is_less, get, put, above, ascending}
-use Rattle.maps.specs.Laws.Map.{Lawful, is_less_means, rest_ascending}
+use Rattle.maps.proofs.Laws.Map.{Lawful, is_less_means, rest_ascending}
 
 module _ {K : Type 0} (O : Ordered K) {A : Type 0} (k : K) where
   pub get_past : (front back : List (K × A)) → All (λ e. O.compare k e.0 ≡ More) front

@@ -8,7 +8,7 @@ use Rattle.slices.specs.declared.Order.{Order}
 use Rattle.slices.specs.declared.Order.TheVariants.{Less, Same, More}
 use Rattle.maps.specs.Map.{get, put, ascending}
 use Rattle.maps.specs.Order.{texts}
-use Rattle.maps.specs.Laws.Order.{texts_order, lex_same}
+use Rattle.maps.proofs.Laws.Order.{texts_order, lex_same}
 use Rattle.formats.specs.Class.{any}
 use Rattle.formats.specs.Format.{Format, text, Value}
 use Rattle.formats_write.specs.Laws.Slices.{slice_is}

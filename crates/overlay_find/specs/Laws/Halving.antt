@@ -8,7 +8,7 @@ use Rattle.basics.specs.Laws.Booleans.{both_true}
 use Rattle.slices.specs.declared.Order.{Order}
 use Rattle.slices.specs.declared.Order.TheVariants.{Less, Same, More}
 use Rattle.maps.specs.Map.{Ordered, is_less, by_order, get, above, ascending}
-use Rattle.maps.specs.Laws.Map.{Lawful, is_less_means, rest_ascending}
+use Rattle.maps.proofs.Laws.Map.{Lawful, is_less_means, rest_ascending}
 use Rattle.overlay_feeds.specs.Laws.Map.{get_past, back_ascending, get_below}
 
 -- a list at one of its places

@@ -6,7 +6,7 @@ use Rattle.slices.specs.declared.Order.{Order}
 use Rattle.slices.specs.declared.Order.TheVariants.{Less, Same, More}
 use Rattle.maps.specs.Map.{get}
 use Rattle.maps.specs.Order.{texts}
-use Rattle.maps.specs.Laws.Order.{texts_order}
+use Rattle.maps.proofs.Laws.Order.{texts_order}
 use Rattle.formats.specs.Class.{any}
 use Rattle.formats.specs.Format.{text}
 use Rattle.formats_read.specs.Promises.Here.{Here}

@@ -12,8 +12,8 @@ use Rattle.slices.specs.declared.Order.{Order}
 use Rattle.slices.specs.declared.Order.TheVariants.{Less, Same, More}
 use Rattle.maps.specs.Map.{puts}
 use Rattle.maps.specs.Order.{texts}
-use Rattle.maps.specs.Laws.Map.{rest_ascending}
-use Rattle.maps.specs.Laws.Order.{texts_order}
+use Rattle.maps.proofs.Laws.Map.{rest_ascending}
+use Rattle.maps.proofs.Laws.Order.{texts_order}
 use Rattle.formats.specs.Number.{zag}
 use Rattle.formats.specs.Laws.Number.{zag_zig}
 use Rattle.formats_write.specs.Laws.Slices.{slice_is}

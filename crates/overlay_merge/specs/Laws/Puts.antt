@@ -4,7 +4,7 @@ use Rattle.std.specs.Prelude.{◌≡◌, refl, true, List, [], ◌∷◌}
 use Rattle.slices.specs.declared.Order.TheVariants.{Less, Same, More}
 use Rattle.basics.specs.Laws.Booleans.{both_true}
 use Rattle.maps.specs.Map.{Ordered, is_less, put, puts, above, ascending}
-use Rattle.maps.specs.Laws.Map.{Lawful, is_less_means}
+use Rattle.maps.proofs.Laws.Map.{Lawful, is_less_means}
 
 module _ {K : Type 0} {O : Ordered K} (W : Lawful O) {A : Type 0} where
   above_less : (j k : K) (m : List (K × A)) → O.compare j k ≡ Less → above O k m ≡ true → above O j m ≡ true

@@ -7,8 +7,8 @@ use Rattle.std.proofs.Math.Option.{some}
 use Rattle.basics.specs.Lists.{All}
 use Rattle.maps.specs.Map.{ascending}
 use Rattle.maps.specs.Order.{texts}
-use Rattle.maps.specs.Laws.Map.{puts_itself}
-use Rattle.maps.specs.Laws.Order.{texts_order}
+use Rattle.maps.proofs.Laws.Map.{puts_itself}
+use Rattle.maps.proofs.Laws.Order.{texts_order}
 use Rattle.formats.specs.Format.{write}
 use Rattle.formats_judge.specs.Judged.{ok}
 use Rattle.formats_write.specs.declared.Put.{Put}
@@ -29,8 +29,8 @@ use Rattle.decode_index.specs.Promises.Leaving.{Leaves, Old, view_left}
 use Rattle.decode_write.specs.Promises.Slots.{Writable}
 use Rattle.overlay.specs.Change.{after_message, feed_at, put_feed}
 use Rattle.overlay.specs.State.{Feed, State, overlay, trips_of, version_of}
-use Rattle.overlay.specs.Laws.Buffer.{valid_parts}
-use Rattle.overlay.specs.Laws.Counts.{message_seven}
+use Rattle.overlay.proofs.Laws.Buffer.{valid_parts}
+use Rattle.overlay.proofs.Laws.Counts.{message_seven}
 use Rattle.overlay_feeds.specs.declared.Front.{Front}
 use Rattle.overlay_feeds.specs.declared.Parts.{Parts}
 use Rattle.overlay_feeds.specs.Promises.Parts.{FrontOf, PartsOf, ReadsFront, ReadsBack}

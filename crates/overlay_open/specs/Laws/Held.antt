@@ -7,7 +7,7 @@ use Rattle.basics.specs.Lists.{All, all}
 use Rattle.basics.specs.Laws.Booleans.{both_true}
 use Rattle.maps.specs.Map.{get, ascending}
 use Rattle.maps.specs.Order.{texts, numbers}
-use Rattle.maps.specs.Laws.Order.{texts_order}
+use Rattle.maps.proofs.Laws.Order.{texts_order}
 use Rattle.formats.specs.Class.{Class, printable, token, in_class}
 use Rattle.formats.specs.Format.{Format, number, small, text, list, optional, ◌&◌, Value, write}
 use Rattle.formats_check.specs.Promises.Checked.{fine}
@@ -20,8 +20,8 @@ use Rattle.overlay.specs.State.{State, Feed, timestamp, vehicle_entry, feed_entr
 use Rattle.overlay.specs.State.{trips_of, vehicles_of, alerts_of}
 use Rattle.overlay.specs.Valid.{trip_valid, count_valid, feed_valid, valid}
 use Rattle.overlay.specs.Image.{filled, image, state_of}
-use Rattle.overlay.specs.Laws.Buffer.{state_buffer, ValidParts, valid_parts}
-use Rattle.overlay.specs.Laws.EveryEntry.{each_of, each_map, each_both, get_each}
+use Rattle.overlay.proofs.Laws.Buffer.{state_buffer, ValidParts, valid_parts}
+use Rattle.overlay.proofs.Laws.EveryEntry.{each_of, each_map, each_both, get_each}
 use Rattle.overlay_open.specs.declared.Opened.{Opened}
 use Rattle.overlay_open.specs.declared.Opened.TheVariants.{No, At}
 use Rattle.overlay_open.specs.Promises.Opened.{ending}

@@ -14,7 +14,7 @@ use Rattle.decode.specs.Leaves.{Trips, has_byte, count_without_at}
 use Rattle.alerts.specs.Alert.{alert}
 use Rattle.overlay.specs.State.{State, vehicle, overlay, feeds_of, trips_of, vehicles_of}
 use Rattle.overlay.specs.Valid.{trip_valid, count_valid, feed_valid, within, valid}
-use Rattle.overlay.specs.Laws.Within.{all_true}
+use Rattle.overlay.proofs.Laws.Within.{all_true}
 use Rattle.overlay_trip.specs.Laws.Trip.{trip_good, trip_good_holds}
 use Rattle.overlay_keyed.specs.Promises.Trips.{plain, is_count, trips_good}
 use Rattle.overlay_keyed.specs.Promises.Trips as trips

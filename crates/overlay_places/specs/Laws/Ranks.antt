@@ -8,7 +8,7 @@ use Rattle.slices.specs.declared.Order.{Order}
 use Rattle.slices.specs.declared.Order.TheVariants.{Less, Same, More}
 use Rattle.maps.specs.Map.{get, ascending}
 use Rattle.maps.specs.Order.{texts}
-use Rattle.maps.specs.Laws.Order.{texts_order, lex_same}
+use Rattle.maps.proofs.Laws.Order.{texts_order, lex_same}
 use Rattle.formats_read.specs.Promises.Here.{Here}
 use Rattle.formats_read.specs.Laws.Here.{reads}
 use Rattle.overlay.specs.State.{State, Feed, overlay, feeds_of}

@@ -13,8 +13,8 @@ use Rattle.slices.specs.declared.Order.{Order}
 use Rattle.slices.specs.declared.Order.TheVariants.{Less, Same, More}
 use Rattle.maps.specs.Map.{Ordered, by_order, get}
 use Rattle.maps.specs.Order.{texts, numbers}
-use Rattle.maps.specs.Laws.Map.{Lawful}
-use Rattle.maps.specs.Laws.Order.{texts_order, numbers_order}
+use Rattle.maps.proofs.Laws.Map.{Lawful}
+use Rattle.maps.proofs.Laws.Order.{texts_order, numbers_order}
 use Rattle.overlay.specs.Lookup.{first_that, value_of}
 
 module _ {A : Type 0} (t : A → Bool) where

@@ -18,9 +18,9 @@ use Rattle.alerts.specs.Alert.{Alert, alert}
 use Rattle.overlay.specs.State.{Feed, State, Vehicles, vehicle_entry, feed, overlay, version_of, vehicles_of}
 use Rattle.overlay.specs.Change.{feed_at, put_feed, after_alerts, without_stale, after_vehicles}
 use Rattle.overlay.specs.Valid.{valid}
-use Rattle.overlay.specs.Laws.Buffer.{valid_parts}
-use Rattle.overlay.specs.Laws.Counts.{alerts_seven, vehicles_seven}
-use Rattle.overlay.specs.Laws.Within.{unjudged, all_true}
+use Rattle.overlay.proofs.Laws.Buffer.{valid_parts}
+use Rattle.overlay.proofs.Laws.Counts.{alerts_seven, vehicles_seven}
+use Rattle.overlay.proofs.Laws.Within.{unjudged, all_true}
 use Rattle.overlay_feeds.specs.declared.Parts.{Parts}
 use Rattle.overlay_feeds.specs.Promises.Head.{ReadsHead}
 use Rattle.overlay_feeds.specs.Promises.Parts.{PartsOf, ReadsParts}

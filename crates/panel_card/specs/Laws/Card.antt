@@ -20,9 +20,9 @@ use Rattle.decode.specs.Sizes.{most_old}
 use Rattle.overlay.specs.State.{State, overlay}
 use Rattle.overlay.specs.Valid.{Held}
 use Rattle.overlay.specs.Image.{state_of}
-use Rattle.overlay.specs.Laws.Buffer.{state_buffer, held_rules}
-use Rattle.overlay.specs.Laws.StaysValid.{kept_of}
-use Rattle.overlay.specs.Laws.Within.{Judged56, right, formed_of}
+use Rattle.overlay.proofs.Laws.Buffer.{state_buffer, held_rules}
+use Rattle.overlay.proofs.Laws.StaysValid.{kept_of}
+use Rattle.overlay.proofs.Laws.Within.{Judged56, right, formed_of}
 use Rattle.overlay_open.specs.declared.Opened.{Opened}
 use Rattle.overlay_open.specs.declared.Opened.TheVariants.{No, At}
 use Rattle.overlay_noted.specs.Promises.Noted.{places_length}
@@ -32,8 +32,8 @@ use Rattle.alerts_apply.specs.Promises.Known.{Knows}
 use Rattle.alerts_apply.specs.Laws.Known.{knows_nothing}
 use Rattle.journey.specs.Card.{card}
 use Rattle.journey.specs.Enrich.{keys, headers_of}
-use Rattle.journey.specs.Laws.Counts.{finished_seven}
-use Rattle.journey.specs.Laws.Found.{shown_judged}
+use Rattle.journey.proofs.Laws.Counts.{finished_seven}
+use Rattle.journey.proofs.Laws.Found.{shown_judged}
 use Rattle.journey_places.specs.declared.CardPlaces.{CardPlaces}
 use Rattle.journey_places.specs.Promises.Places.{CardAt}
 use Rattle.journey_finish.specs.Promises.Finish.{StateIn}

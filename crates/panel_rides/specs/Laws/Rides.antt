@@ -19,7 +19,7 @@ use Rattle.overlay.specs.Image as image
 use Rattle.overlay.specs.Records.{shown}
 use Rattle.overlay.specs.Change as change
 use Rattle.overlay.specs.Lookup as lookup
-use Rattle.overlay.specs.Laws.Buffer.{image_state}
+use Rattle.overlay.proofs.Laws.Buffer.{image_state}
 use Rattle.journey.specs.Card.{card as card_form}
 use Rattle.journey.specs.Times as times
 use Rattle.journey.specs.Enrich as enrich
@@ -33,8 +33,8 @@ use Rattle.panel.specs.Outcome.{accepted, need, need_some}
 use Rattle.panel.specs.Calls.{fresh, card, gives, fresh_overlay, run}
 use Rattle.panel.specs.Rides.{Rides, empty_card, keyed, trips_from, table}
 use Rattle.basics.specs.Rows.{Holds}
-use Rattle.panel.specs.Laws.Fresh.{empty_held}
-use Rattle.panel.specs.Laws.Sizes.{out_long}
+use Rattle.panel.proofs.Laws.Fresh.{empty_held}
+use Rattle.panel.proofs.Laws.Sizes.{out_long}
 
 table_holds : Holds table
 unfolding table trips_from run fresh_asks message_asks tree_asks card_asks

@@ -12,14 +12,14 @@ use Rattle.alerts.specs.Alert.{Alert, alert, alert_sheet}
 use Rattle.overlay.specs.State.{State}
 use Rattle.overlay.specs.Image.{state_of}
 use Rattle.overlay.specs.Change.{after_alerts}
-use Rattle.overlay.specs.Laws.Within.{unjudged}
+use Rattle.overlay.proofs.Laws.Within.{unjudged}
 use Rattle.overlay_bodies.specs.Promises.Bodies.{AlertsIn}
 use Rattle.overlay_frame.specs.Promises.Changes.{Changes}
 use Rattle.panel.specs.Outcome.{Outcome, refused, need, need_some}
 use Rattle.panel.specs.Questions.{Lengths, whole, feed_ok, lengths_ok}
 use Rattle.panel.specs.AlertSheet.{alert_sheet_asks, alerts_ask}
 use Rattle.panel.specs.Promises.Ends.{changed_state, alerts_outcome, alert_sheet_of}
-use Rattle.panel.specs.Laws.Lawful.{due_is}
+use Rattle.panel.proofs.Laws.Lawful.{due_is}
 use Rattle.panel_output.specs.declared.Ending.{Ending}
 use Rattle.panel_output.specs.Promises.Ending.{outcome_of, put_ending}
 use Rattle.panel_output.specs.Laws.Changed.{changed_outcome}

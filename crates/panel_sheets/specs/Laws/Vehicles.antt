@@ -22,7 +22,7 @@ use Rattle.panel.specs.Outcome.{Outcome, refused, need, need_some}
 use Rattle.panel.specs.Questions.{Lengths, whole, feed_ok, lengths_ok}
 use Rattle.panel.specs.VehicleSheet.{keys_ascend, vehicles_in, vehicle_sheet_asks, vehicles_ask}
 use Rattle.panel.specs.Promises.Ends.{changed_state, vehicles_outcome, vehicle_sheet_of}
-use Rattle.panel.specs.Laws.Lawful.{due_is}
+use Rattle.panel.proofs.Laws.Lawful.{due_is}
 use Rattle.panel_output.specs.declared.Ending.{Ending}
 use Rattle.panel_output.specs.Promises.Ending.{outcome_of, put_ending}
 use Rattle.panel_output.specs.Laws.Changed.{changed_outcome}

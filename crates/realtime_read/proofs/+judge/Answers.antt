@@ -1,50 +1,125 @@
--- `realtime_read::judge` meets its contract. It calls itself on the bytes of a message inside: the measure is the
--- bytes. The invariant: the judgement so far, and then that of what is left, is the whole's. Assumes nothing.
-use borrow.Author.Rules.{rules}
+-- `realtime_read::judge` meets its contract: each field is a turn of `next`, and is judged with what came before.
 use native.Mathlib.Omega.{arith}
-use mathlib.Core.Path.{◌≡◌, refl, sym, ◌∙◌}
-use mathlib.Core.Option.{none, some}
-use mathlib.Core.List.{List}
-use lib.ListN.{length}
-use Rattle.wire.specs.Wire.{Value, value}
-use Rattle.wire.specs.Laws.At.{ReadAt, key_read, key_broken, skipped_read, skipped_broken}
-use Rattle.realtime.specs.Judge.{rules_by}
+use mathlib.Core.Path.{refl}
+use Rattle.wire.specs.Laws.At.{key_broken, skipped_read, skipped_broken}
 use Rattle.realtime.specs.Schema.{feed}
-use Rattle.realtime.specs.Tree.{a_number, a_text, a_message}
-use Rattle.realtime_read.specs.Promises.Steps.{Stepped}
-use Rattle.realtime_read.specs.declared.Step.{Step}
-use Rattle.realtime.specs.declared.Verdict.{Verdict}
-use Rattle.realtime_read.proofs.Turn.{is_unlisted, is_number, is_text, is_message, at_end, key_bad, Here}
-use Rattle.realtime_read.proofs.Turn.{value_bad}
-use Rattle.realtime_read.proofs.Turn.{less, pass, no_number, no_text, no_message, some_number, some_text}
-use Rattle.realtime_read.proofs.Turn.{some_message}
-use Rattle.realtime_read.proofs.Judging.{Judged, ends, breaks, passes, more_number, more_text, more_message}
-use Rattle.realtime_read.proofs.Judging.{part_less}
-use Prim.Native.Nat.{ℕ, ◌<◌, ◌-◌}
+use Rattle.realtime_read.proofs.Turn.{is_unlisted, is_number, is_text, is_message, at_end, key_bad, value_bad, less, pass}
+use Rattle.realtime_read.proofs.Turn.{no_number, no_text, no_message, some_number, some_text, some_message}
+use Rattle.realtime_read.proofs.Judging.{ends, breaks, passes, more_number, more_text, more_message, key_here, part_less}
 use Rattle.realtime_read.proofs.+judge.Goals as goal
-
-abbrev claims : ℕ → judge_lts.Claims
-claims t = (
-  key_reads.Asked,
-  key_reads.Learnt,
-  kind_of_reads.Asked,
-  kind_of_reads.Learnt,
-  past_reads.Asked,
-  past_reads.Learnt,
-  number_behind_reads.Asked,
-  number_behind_reads.Learnt,
-  judge_number_reads.Asked,
-  judge_number_reads.Learnt,
-  worse_reads.Asked,
-  worse_reads.Learnt,
-  text_behind_reads.Asked,
-  text_behind_reads.Learnt,
-  part_reads.Asked,
-  part_reads.Learnt,
-  judge_text_reads.Asked,
-  judge_text_reads.Learnt,
-  judge_below t,
-  judge.Post,
 
 pub loop-at-init : goal.loop-at-init
 loop-at-init t c = record { whole = refl }
+
+pub returns-in-Broken : goal.returns-in-Broken
+returns-in-Broken t c =
+    breaks c.loop-at.invariant (key_bad refl c.loop-at-test.true (key_broken _ c.loop-at.at c.in-Broken.ensures))
+
+pub returns-in-Broken-past : goal.returns-in-Broken-past
+returns-in-Broken-past t c =
+    breaks c.loop-at.invariant (value_bad (key_here c.loop-at-test.true c.in-Read.ensures)
+    (skipped_broken c.args.s.now c.in-Read.next.at _ _ 16 c.in-Broken-past.ensures))
+
+pub loop-at-smaller-in-Past : goal.loop-at-smaller-in-Past
+loop-at-smaller-in-Past t c =
+    less (key_here {σ = feed} {t = c.args.message} c.loop-at-test.true c.in-Read.ensures) _ _
+    (skipped_read c.args.s.now c.in-Read.next.at _ _ 16 _ c.in-Past.ensures).1
+
+pub loop-at-preserved-in-Past : goal.loop-at-preserved-in-Past
+loop-at-preserved-in-Past t c =
+    passes c.loop-at.invariant (pass (key_here c.loop-at-test.true c.in-Read.ensures) _ _
+    (skipped_read c.args.s.now c.in-Read.next.at _ _ 16 _ c.in-Past.ensures).1
+    (is_unlisted _ c.in-Unlisted.ensures)).0
+
+pub returns-in-Broken-number_behind : goal.returns-in-Broken-number_behind
+returns-in-Broken-number_behind t c =
+    breaks c.loop-at.invariant
+    (no_number (key_here c.loop-at-test.true c.in-Read.ensures) (is_number _ c.in-Number.ensures)
+    c.in-Broken-number_behind.ensures)
+
+pub returns-in-Broken-text_behind : goal.returns-in-Broken-text_behind
+returns-in-Broken-text_behind t c =
+    breaks c.loop-at.invariant
+    (no_text (key_here c.loop-at-test.true c.in-Read.ensures) (is_text _ c.in-Text.ensures)
+    c.in-Broken-text_behind.ensures)
+
+pub returns-in-Broken-text_behind-2 : goal.returns-in-Broken-text_behind-2
+returns-in-Broken-text_behind-2 t c =
+    breaks c.loop-at.invariant
+    (no_message (key_here c.loop-at-test.true c.in-Read.ensures) (is_message _ _ c.in-Message.ensures)
+    c.in-Broken-text_behind-2.ensures)
+
+pub loop-at-smaller-in-Read-number_behind : goal.loop-at-smaller-in-Read-number_behind
+loop-at-smaller-in-Read-number_behind t c =
+    omega (
+      arith,
+      (some_number (key_here {σ = feed} {t = c.args.message} c.loop-at-test.true c.in-Read.ensures) (is_number _ c.in-Number.ensures)
+          c.in-Read-number_behind.ensures).forward,
+    )
+
+pub loop-at-preserved-in-Read-number_behind : goal.loop-at-preserved-in-Read-number_behind
+loop-at-preserved-in-Read-number_behind t c =
+    more_number c.loop-at.invariant
+    (some_number (key_here c.loop-at-test.true c.in-Read.ensures) (is_number _ c.in-Number.ensures)
+    c.in-Read-number_behind.ensures)
+    c.judge_number.ensures c.worse-worst.ensures
+
+pub part-requires : goal.part-requires
+part-requires t c =
+    omega (
+      arith,
+      (some_text (key_here {σ = feed} {t = c.args.message} c.loop-at-test.true c.in-Read.ensures) (is_text _ c.in-Text.ensures)
+          c.in-Read-text_behind.ensures).forward,
+    )
+
+pub loop-at-smaller-in-Read-text_behind : goal.loop-at-smaller-in-Read-text_behind
+loop-at-smaller-in-Read-text_behind t c =
+    omega (
+      arith,
+      (some_text (key_here {σ = feed} {t = c.args.message} c.loop-at-test.true c.in-Read.ensures) (is_text _ c.in-Text.ensures)
+          c.in-Read-text_behind.ensures).forward,
+    )
+
+pub loop-at-preserved-in-Read-text_behind : goal.loop-at-preserved-in-Read-text_behind
+loop-at-preserved-in-Read-text_behind t c =
+    more_text c.loop-at.invariant
+    (some_text (key_here c.loop-at-test.true c.in-Read.ensures) (is_text _ c.in-Text.ensures)
+    c.in-Read-text_behind.ensures)
+    c.part.ensures c.judge_text.ensures c.worse-worst-in-Read-text_behind.ensures
+
+pub part-requires-in-Read-text_behind-2 : goal.part-requires-in-Read-text_behind-2
+part-requires-in-Read-text_behind-2 t c =
+    omega (
+      arith,
+      (some_message (key_here {σ = feed} {t = c.args.message} c.loop-at-test.true c.in-Read.ensures) (is_message _ _ c.in-Message.ensures)
+          c.in-Read-text_behind-2.ensures).forward,
+    )
+
+pub judge-requires : goal.judge-requires
+judge-requires t c = (
+  omega (
+    arith,
+    c.decreases,
+    part_less _ c.part-in-Read-text_behind-2.ensures (some_message (key_here {σ = feed} {t = c.args.message} c.loop-at-test.true c.in-Read.ensures) (is_message _ _ c.in-Message.ensures)
+        c.in-Read-text_behind-2.ensures).forward,
+  ),
+  tt,
+)
+
+pub loop-at-smaller : goal.loop-at-smaller
+loop-at-smaller t c =
+    omega (
+      arith,
+      (some_message (key_here {σ = feed} {t = c.args.message} c.loop-at-test.true c.in-Read.ensures) (is_message _ _ c.in-Message.ensures)
+          c.in-Read-text_behind-2.ensures).forward,
+    )
+
+pub loop-at-preserved : goal.loop-at-preserved
+loop-at-preserved t c =
+    more_message c.loop-at.invariant
+    (some_message (key_here c.loop-at-test.true c.in-Read.ensures) (is_message _ _ c.in-Message.ensures)
+    c.in-Read-text_behind-2.ensures)
+    c.part-in-Read-text_behind-2.ensures c.judge.ensures c.worse-worst-in-Read-text_behind-2.ensures
+
+pub returns : goal.returns
+returns t c = ends c.loop-at.invariant (at_end refl c.loop-at-test.false)

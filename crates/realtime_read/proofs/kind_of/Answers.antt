@@ -6,7 +6,7 @@ use native.Mathlib.Omega.{arith}
 use borrow.Author.Rules.{rules}
 use Rattle.realtime.specs.Tree.{Kind}
 use Rattle.realtime.specs.Schema.{feed}
-use Rattle.realtime.specs.Laws.Schema.{feed_beyond}
+use Rattle.realtime.proofs.Laws.Schema.{feed_beyond}
 use Rattle.realtime_read.specs.Promises.Schema.{holds, code}
 use Rattle.realtime_read.proofs.Rows.{coded, none_of, number_of, text_of, message_of}
 use Rattle.realtime_read.proofs.kind_of.Goals as goal

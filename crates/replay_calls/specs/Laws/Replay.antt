@@ -6,14 +6,14 @@ use Rattle.formats_write.specs.declared.Put.TheVariants.{At, Full}
 use Rattle.formats_read.specs.Laws.Walk as walk
 use Rattle.panel.specs.Questions.{Lengths}
 use Rattle.panel.specs.Calls.{fresh, Gave, fresh_overlay}
-use Rattle.panel.specs.Laws.Sizes.{out_long}
+use Rattle.panel.proofs.Laws.Sizes.{out_long}
 use Rattle.panel_output.specs.declared.Ending.{Ending}
 use Rattle.panel_output.specs.declared.Ending.TheVariants.{Refused}
 use Rattle.panel_output.specs.Promises.Ending.{ending_of, Finished}
 use Rattle.panel.specs.Given.{Given}
 use Rattle.replay_script.specs.Script.{call_form, Lent}
 use Rattle.replay_script.specs.Tells.{Replays}
-use Rattle.replay_script.specs.Laws.Told.{replay_told, replay_gained}
+use Rattle.replay_script.proofs.Laws.Told.{replay_told, replay_gained}
 use Rattle.replay_script.specs.Promises.Asked.{Counted}
 use Rattle.replay_script.specs.declared.Standing.{Standing}
 use Rattle.replay_script.specs.declared.Standing.TheVariants as standing

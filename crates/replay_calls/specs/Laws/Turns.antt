@@ -23,7 +23,7 @@ use Rattle.panel_output.specs.declared.Ending.TheVariants.{Refused, Written}
 use Rattle.replay_script.specs.Script.{call_form, script, call_of, calls_of, standing, size_of, Lent, lends, lent_all}
 use Rattle.replay_script.specs.Script.{calls_in}
 use Rattle.replay_script.specs.Tells.{telling, tell_all, tells, replay_of, Replays}
-use Rattle.replay_script.specs.Laws.Told.{stands_long, tells_long}
+use Rattle.replay_script.proofs.Laws.Told.{stands_long, tells_long}
 use Rattle.replay_script.specs.Promises.Asked.{Stand, Counted}
 use Rattle.replay_script.specs.declared.Standing.TheVariants as standing
 use Rattle.replay_turn.specs.Promises.Turns.{Stepped, Turned}

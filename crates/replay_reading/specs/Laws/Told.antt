@@ -11,10 +11,10 @@ use Rattle.formats_write.specs.Laws.Adds as adds
 use Rattle.formats_write.specs.Laws.Slices.{slice_is}
 use Rattle.panel.specs.Questions.{Lengths}
 use Rattle.panel.specs.Calls.{Call, report, Gave, gives, out_of, writes}
-use Rattle.panel.specs.Laws.Sizes.{out_long}
+use Rattle.panel.proofs.Laws.Sizes.{out_long}
 use Rattle.panel.specs.Given.{Given}
 use Rattle.replay_script.specs.Tells.{telling}
-use Rattle.replay_script.specs.Laws.Told.{stands_long}
+use Rattle.replay_script.proofs.Laws.Told.{stands_long}
 use Rattle.replay_script.specs.declared.Asked.{Asked}
 use Rattle.replay_writing.specs.Promises.Ran.{Spans}
 use Rattle.replay_writing.specs.Laws.Ran.{few, lent_part}

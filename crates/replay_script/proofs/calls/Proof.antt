@@ -1,6 +1,6 @@
 -- `calls` meets its contract.
 use borrow.Author.Rules.{rules}
-use Rattle.replay_script.specs.Laws.Asked.{script_broken, script_short, script_at}
+use Rattle.replay_script.proofs.Laws.Asked.{script_broken, script_short, script_at}
 use Rattle.replay_script.proofs.calls.Statement.{statement}
 use Rattle.replay_script.proofs.calls.Tie as tie
 

@@ -1,6 +1,6 @@
 -- `length_at` meets its contract.
 use borrow.Author.Rules.{rules}
-use Rattle.replay_script.specs.Laws.Asked.{length_missing, length_found}
+use Rattle.replay_script.proofs.Laws.Asked.{length_missing, length_found}
 use Rattle.replay_script.proofs.length_at.Statement.{statement}
 use Rattle.replay_script.proofs.length_at.Tie as tie
 

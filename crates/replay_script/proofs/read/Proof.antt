@@ -1,6 +1,6 @@
 -- `read` meets its contract.
 use borrow.Author.Rules.{rules}
-use Rattle.replay_script.specs.Laws.Asked.{call_read}
+use Rattle.replay_script.proofs.Laws.Asked.{call_read}
 use Rattle.replay_script.proofs.read.Statement.{statement}
 use Rattle.replay_script.proofs.read.Tie as tie
 

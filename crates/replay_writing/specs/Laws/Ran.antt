@@ -8,9 +8,9 @@ use Rattle.basics.specs.Lists.{all}
 use Rattle.panel.specs.Questions.{Lengths}
 use Rattle.panel.specs.Calls.{Call, fresh, message, alert_sheet, vehicle_sheet, Gave, asks as questions, gives, writes}
 use Rattle.panel.specs.Answers.{order, answer, first_no}
-use Rattle.panel.specs.Laws.Answers.{first_no_holds}
-use Rattle.panel.specs.Laws.History.{writes_overlay}
-use Rattle.panel.specs.Laws.Sizes.{out_long}
+use Rattle.panel.proofs.Laws.Answers.{first_no_holds}
+use Rattle.panel.proofs.Laws.History.{writes_overlay}
+use Rattle.panel.proofs.Laws.Sizes.{out_long}
 use Rattle.formats_write.specs.Laws.Slices.{slice_is}
 use Rattle.replay_script.specs.Script.{within}
 use Rattle.replay_script.specs.declared.Asked.{Asked}

@@ -1,6 +1,5 @@
 -- `alerts_ids::products::code_number` meets its contract.
 use Rattle.alerts_ids.specs.Laws.LineCodes.{number_long, number_other, number_code}
-use borrow.Author.Rules.{rules}
 use Rattle.alerts_ids.proofs.products.code_number.Goals as goal
 
 pub returns-then-code-ne6 : goal.returns-then-code-ne6

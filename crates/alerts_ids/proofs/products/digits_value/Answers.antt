@@ -1,6 +1,5 @@
 -- `alerts_ids::products::digits_value` meets its contract.
 use Rattle.alerts_ids.specs.Laws.LineCodes.{five_digits}
-use borrow.Author.Rules.{rules}
 use Rattle.alerts_ids.proofs.products.digits_value.Goals as goal
 
 pub returns : goal.returns

@@ -1,7 +1,5 @@
 -- `alerts_ids::products::idfm_product_to_short` meets its contract.
-use mathlib.Core.Logic.{⊎_elim}
 use Rattle.alerts_ids.specs.Laws.LineCodes.{below, above, worked_out}
-use borrow.Author.Rules.{rules}
 use Rattle.alerts_ids.proofs.products.idfm_product_to_short.Goals as goal
 use Rattle.alerts_ids.proofs.products.idfm_product_to_short.Goals.{then-n-ge1371+else-n-le1384, else-n-ge1371}
 

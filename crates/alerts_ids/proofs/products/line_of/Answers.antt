@@ -1,7 +1,5 @@
 -- `alerts_ids::products::line_of` meets its contract. The invariant: the rows before `at` have other codes.
-use Rattle.alerts_ids.specs.Laws.Products.{Seeking, seeking_start, row_found, seeking_on, none_found}
-use borrow.Author.Rules.{rules}
-use native.Mathlib.Omega.{arith}
+use Rattle.alerts_ids.specs.Laws.Products.{seeking_start, row_found, seeking_on, none_found}
 use Rattle.alerts_ids.proofs.products.line_of.Goals as goal
 
 pub loop-left-init : goal.loop-left-init

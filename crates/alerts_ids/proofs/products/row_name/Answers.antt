@@ -1,6 +1,5 @@
 -- `alerts_ids::products::row_name` meets its contract.
 use Rattle.alerts_ids.specs.Laws.Products.{name_room, row_wrote}
-use borrow.Author.Rules.{rules}
 use Rattle.alerts_ids.proofs.products.row_name.Goals as goal
 
 pub write_name-requires : goal.write_name-requires
