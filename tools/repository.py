@@ -10,7 +10,7 @@ import sys
 ROOT = os.path.dirname(os.path.dirname(os.path.abspath(__file__)))
 WIDTH = 120
 KIT = ("check", "libc", "io", "os", "bytes")  # the kit's crates that crates.txt may list
-DEFINITION, PROMISE, LAW = "", "Promises", "Laws"  # folders of specs/, and the kinds of their files
+DEFINITION, PROMISE, LAW = "", "Promises", "Laws"  # folders of specs/ (of proofs/, too, for laws), and kinds of files
 HEAD = {DEFINITION: "-- Believe: ", PROMISE: "-- Promise. ", LAW: "-- Law. "}
 
 # ---------------------------------------------------------------- files
@@ -93,14 +93,14 @@ def parse_use(statement):
 
 
 # Of the repository's crates and of the kit's libraries alike.
-SPEC_PATH = re.compile(r"Rattle\.(\w+)\.specs\.(?:(Laws|Promises)\.)?([A-Z]\w*)$")
+SPEC_PATH = re.compile(r"Rattle\.(\w+)\.(?:specs\.(?:(Laws|Promises)\.)?|proofs\.(Laws)\.)([A-Z]\w*)$")
 TYPE_PATH = re.compile(r"Rattle\.(\w+)\.specs\.declared\.(?:\w+\.)*?([A-Z]\w*)")
 
 
 def spec_at(path):
-    """The file of specs/ of this repository that an import leads to, as (crate, folder, name), or None."""
+    """The file of definitions, promises or laws that an import leads to, as (crate, folder, name), or None."""
     m = SPEC_PATH.match(path)
-    return (m.group(1), m.group(2) or DEFINITION, m.group(3)) if m and m.group(1) in crates() else None
+    return (m.group(1), m.group(2) or m.group(3) or DEFINITION, m.group(4)) if m and m.group(1) in crates() else None
 
 
 # ---------------------------------------------------------------- declarations of specs/
@@ -132,11 +132,10 @@ class Item:
 
 
 class Spec:
-    """A file of specs/: its imports and its declarations."""
+    """A file of definitions, promises or laws: its imports and its declarations."""
 
-    def __init__(self, crate, folder, name):
-        self.crate, self.folder, self.name = crate, folder, name
-        self.path = "/".join(part for part in ("crates", crate, "specs", folder, name + ".antt") if part)
+    def __init__(self, crate, folder, name, path):
+        self.crate, self.folder, self.name, self.path = crate, folder, name, path
         self.place = "/".join(part for part in (crate, folder, name) if part)
         self.text = read(self.path)
         self.uses, self.items = [], []
@@ -195,13 +194,15 @@ class Spec:
 
 
 def specs():
-    """Every file of specs/: (crate, folder, name) -> Spec."""
+    """Every file of definitions, promises and laws: (crate, folder, name) -> Spec."""
     found = {}
     for crate in names_in("crates"):
         for folder in (DEFINITION, PROMISE, LAW):
-            for name in names_in(os.path.join("crates", crate, "specs", folder)):
-                if name.endswith(".antt") and name[:-5] not in ("Lib", PROMISE, LAW):
-                    found[crate, folder, name[:-5]] = Spec(crate, folder, name[:-5])
+            for part in ("specs", "proofs") if folder == LAW else ("specs",):
+                at = os.path.normpath(os.path.join("crates", crate, part, folder))
+                for name in names_in(at):
+                    if name.endswith(".antt") and name[:-5] not in ("Lib", PROMISE, LAW):
+                        found[crate, folder, name[:-5]] = Spec(crate, folder, name[:-5], f"{at}/{name}")
     return found
 
 

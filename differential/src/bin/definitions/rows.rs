@@ -15,7 +15,7 @@ pub const DEFINITIONS: &[Definition] = &[
         preamble: "use Rattle.alerts.specs.Applies.{
   rail_modes, accents, letters, numerals, trams, letter_rows, number_rows, bare_rows, markers, needle_rows, primary_rows,
 }
-use Rattle.alerts.specs.Laws.LineCodes.{listed}
+use Rattle.alerts.proofs.Laws.LineCodes.{listed}
 ",
         cases: Listed(tables),
         ..OF_APPLIES
