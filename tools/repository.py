@@ -9,7 +9,7 @@ import sys
 
 ROOT = os.path.dirname(os.path.dirname(os.path.abspath(__file__)))
 WIDTH = 120
-KIT = ("check", "libc", "io", "os", "bytes")  # the kit's crates that crates.txt may list
+KIT = ("anyhow", "bytes", "check", "io", "libc", "os", "thiserror")  # the kit's crates that crates.txt may list
 DEFINITION, PROMISE, LAW = "", "Promises", "Laws"  # folders of specs/ (of proofs/, too, for laws), and kinds of files
 HEAD = {DEFINITION: "-- Believe: ", PROMISE: "-- Promise. ", LAW: "-- Law. "}
 
@@ -232,6 +232,33 @@ def code_names(crate):
                         if v:
                             found[f"{inner}{m.group(3)}::{v.group(1)}"] = variant
     return found
+
+
+USE = re.compile(r"(?m)^\s*(?:pub )?use ([^;]+);")
+
+
+def imports(text):
+    """What the `use` lines of code bring in: a name here -> its path."""
+    return dict(pair for use in USE.findall(text) for pair in imported(use))
+
+
+def imported(use, before=""):
+    """The names and paths of one `use`: `a::{b, c as d}` brings in two."""
+    depth, parts, part = 0, [], ""
+    for sign in use + ",":
+        depth += (sign == "{") - (sign == "}")
+        if sign == "," and not depth:
+            parts, part = parts + [part.strip()], ""
+        else:
+            part += sign
+    for part in filter(None, parts):
+        head, brace, rest = part.partition("{")
+        if brace:
+            yield from imported(rest.rpartition("}")[0], before + head)
+        else:
+            path, _, name = (before + part).partition(" as ")
+            path = path.removesuffix("::self")
+            yield name.strip() or path.split("::")[-1], path
 
 
 # ---------------------------------------------------------------- what a tool says
