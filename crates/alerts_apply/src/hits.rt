@@ -5,7 +5,7 @@ ghost use Rattle.alerts_apply.specs.Promises.Hits.{HitBy, unless};
 use alerts_search::candidates::trips_place;
 use alerts_search::ids::{Ask, any_id};
 
-#[derive(Drop)]
+#[derive(Clone, Copy)]
 pub struct Hit {
     pub trip: bool,
     pub route: bool,

@@ -12,7 +12,7 @@ ghost use Rattle.alerts_lines.specs.Promises.Marks.{on, any_from, pick_of, picks
 ghost use Rattle.alerts_lines.specs.Promises.Marks.{MarkedIn, Begin, Cleared};
 
 // What is asked of each line.
-#[derive(Drop)]
+#[derive(Clone, Copy)]
 pub enum Pick {
     // It is named.
     Named,

@@ -18,7 +18,7 @@ pub fn trips_place(s: &[u8], at: usize) -> usize
 }
 
 // By which of its ids an alert is a candidate, and the place past the alert.
-#[derive(Drop)]
+#[derive(Clone, Copy)]
 pub struct Meet {
     pub trip: bool,
     pub route: bool,

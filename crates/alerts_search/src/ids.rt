@@ -10,7 +10,7 @@ ghost use Rattle.alerts_search.specs.Promises.Ids.{hits_route_id, answer_of, Ask
 use alerts_ids::{last_of, same_ignoring_case, stop_tail, undated};
 
 // What is asked: whether the id makes the alert a candidate, or hits the leg, by trip, route or stops.
-#[derive(Drop)]
+#[derive(Clone, Copy)]
 pub enum Ask {
     MeetsTrip,
     MeetsRoute,

@@ -247,7 +247,7 @@ pub extern "C" fn trips_texts(e: &[u8], time: &[u8], date: &[u8], route: &[u8]) 
 
 // The numbers of a stop time update.
 #[repr(C)]
-#[derive(Drop)]
+#[derive(Clone, Copy)]
 pub struct EventNumbers {
     pub delayed: bool,
     pub delay: i32,

@@ -16,7 +16,7 @@ use decode::sizes::KEY_BYTES;
 use formats_write::Put;
 
 // The record that was written last: its place in the index, and from where to where it stands in the output.
-#[derive(Drop)]
+#[derive(Clone, Copy)]
 struct Last {
     from: usize,
     to: usize,

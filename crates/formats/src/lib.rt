@@ -59,20 +59,20 @@ pub enum Skip {
 }
 
 // A number, or the bits of a float, that may be missing.
-#[derive(Drop)]
+#[derive(Clone, Copy)]
 pub enum OptionalNumber {
     Absent,
     Present(u64),
 }
 
-#[derive(Drop)]
+#[derive(Clone, Copy)]
 pub enum OptionalSigned {
     Absent,
     Present(i64),
 }
 
 // The bytes of a slice from `from` up to `to`.
-#[derive(Drop)]
+#[derive(Clone, Copy)]
 pub struct Span {
     pub from: usize,
     pub to: usize,

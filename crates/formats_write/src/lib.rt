@@ -15,7 +15,7 @@ ghost use Rattle.formats_write.specs.Promises.Given.{Inside};
 use formats::{OptionalNumber, OptionalSigned, OptionalText};
 
 // The next place of an output; or what was to be written does not fit.
-#[derive(Drop)]
+#[derive(Clone, Copy)]
 pub enum Put {
     At(usize),
     Full,

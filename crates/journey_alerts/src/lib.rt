@@ -19,7 +19,7 @@ const MOST_ALERTS: usize = 256;
 const MOST_TEXT: usize = 2626;
 
 // The texts of a leg that alerts are asked by.
-#[derive(Drop)]
+#[derive(Clone, Copy)]
 pub struct LegTexts {
     pub mode: Span,
     pub short: Span,

@@ -12,7 +12,7 @@ use formats_write::Put;
 use journey_leg::LegRealtime;
 
 // A card's departure and arrival.
-#[derive(Drop)]
+#[derive(Clone, Copy)]
 struct CardTimes {
     departure: i64,
     arrival: i64,
@@ -20,7 +20,7 @@ struct CardTimes {
 
 // What decides the status: a trip cancelled, late, an alert that applies, realtime; whether a transit leg was met; the
 // first one's realtime departure, and the last one's realtime arrival.
-#[derive(Drop)]
+#[derive(Clone, Copy)]
 pub struct Survey {
     pub cancel: bool,
     pub delay: bool,

@@ -11,7 +11,7 @@ use journey_times::StopRealtime;
 use overlay_vehicle::OptionalPlace;
 
 // What look-ups gave for a leg: its endpoints, and whether its trip is cancelled.
-#[derive(Drop)]
+#[derive(Clone, Copy)]
 pub struct LegRealtime {
     pub departs: StopRealtime,
     pub arrives: StopRealtime,

@@ -35,7 +35,7 @@ pub struct LegPlaces {
 
 // Of a leg, the parts that may change: realtime times and delays, whether it is cancelled, the vehicle's place, the
 // middle stops.
-#[derive(Drop)]
+#[derive(Clone, Copy)]
 pub struct ChangingPlaces {
     pub realtime: usize,
     pub cancelled: usize,

@@ -12,7 +12,7 @@ ghost use Rattle.journey_times.specs.Promises.Realtime.{ByTrip, ByUpdate, Applie
 use formats::OptionalSigned;
 
 // An event's time, by how much it is late, and whether it has realtime.
-#[derive(Drop)]
+#[derive(Clone, Copy)]
 pub struct StopRealtime {
     pub time: i64,
     pub delay: i32,
@@ -32,7 +32,7 @@ pub enum Event {
 }
 
 // What look-ups found for a stop: no record; the place of the trip's record, in which no update is; and its update's.
-#[derive(Drop)]
+#[derive(Clone, Copy)]
 pub enum Known {
     Nothing,
     Trip(usize),

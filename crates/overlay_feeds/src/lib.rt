@@ -54,7 +54,7 @@ pub fn read_front(old: &[u8], at: usize) -> Front
 }
 
 // The same, the places of its vehicles and alerts, its end.
-#[derive(Drop)]
+#[derive(Clone, Copy)]
 pub struct Parts {
     pub timestamp: OptionalSigned,
     pub counted: usize,

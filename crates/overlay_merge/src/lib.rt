@@ -22,7 +22,7 @@ struct Entry {
 
 // A turn of the merge: the entry that it takes, of the sheet or of the feed, and whether it stays; and what is left:
 // n entries of the sheet from p on, and m of the feed from q on.
-#[derive(Drop)]
+#[derive(Clone, Copy)]
 pub struct Turn {
     pub sheet: bool,
     pub from: usize,

@@ -3,7 +3,7 @@
 ghost use Rattle.overlay_seek.specs.Promises.Answers.{IsText};
 
 // Where the value that is sought stands.
-#[derive(Drop)]
+#[derive(Clone, Copy)]
 pub enum Found {
     At(usize),
     Missing,

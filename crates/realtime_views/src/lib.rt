@@ -1,7 +1,6 @@
 // The merged messages of a feed, read after the validator: a broken message is answered with anything.
 #![tactic(auto)]
 
-#![tactic(auto)]
 ghost use Rattle.std.specs.Prelude.{◌≡◌, ◌+◌, ◌≤◌, eqb, length, cond};
 ghost use Rattle.realtime.specs.Schema.{feed, stop_time_update};
 ghost use Rattle.realtime_views.specs.Promises.Reading.{Ready, Reads};
@@ -46,7 +45,7 @@ const RELATIONSHIP_KEY: u8 = 40;
 pub const NO_FIELD: u64 = 0;
 
 // The last value of a field: of a text, where it stands.
-#[derive(Drop)]
+#[derive(Clone, Copy)]
 pub enum Scalar {
     Number(u64),
     Text { start: usize, len: usize },
@@ -327,33 +326,33 @@ fn over_updates(s: &[u8], from: usize) -> TripScalars
 }
 
 // Where a text stands. An absent text is empty.
-#[derive(Drop)]
+#[derive(Clone, Copy)]
 pub struct TextPart {
     pub start: usize,
     pub len: usize,
 }
 
-#[derive(Drop)]
+#[derive(Clone, Copy)]
 pub enum Timestamp {
     Given(u64),
     Absent,
 }
 
-#[derive(Drop)]
+#[derive(Clone, Copy)]
 pub enum Direction {
     Given(u32),
     Absent,
 }
 
 // In seconds.
-#[derive(Drop)]
+#[derive(Clone, Copy)]
 pub enum Delay {
     Given(i32),
     Absent,
 }
 
 // Seconds since 1970 UTC.
-#[derive(Drop)]
+#[derive(Clone, Copy)]
 pub enum Time {
     Given(i64),
     Absent,
@@ -365,7 +364,7 @@ pub struct Header {
     pub timestamp: Timestamp,
 }
 
-#[derive(Drop)]
+#[derive(Clone, Copy)]
 pub struct Trip {
     pub id: TextPart,
     pub time: TextPart,

@@ -2,14 +2,13 @@
 ghost use Rattle.std.specs.Prelude.{◌≡◌, true, ◌≤◌, min, length, take};
 ghost use Rattle.decode.specs.Sizes.{most_old};
 ghost use Rattle.panel.specs.Calls.{fresh_overlay};
-ghost use Rattle.panel.specs.Lengths.{sized, lengths};
+ghost use Rattle.panel.specs.Lengths.{sized};
 ghost use Rattle.replay_turn.specs.Lent.{lent_to};
 ghost use Rattle.replay_calls.specs.Replay.{ReplayHolds};
 ghost use Rattle.replay_calls.specs.Promises.Turns.{Overlays, TurnsEnd, ScriptEnds};
 
 use formats_write::Put;
 use panel_output::Ending;
-use panel_report::OVERLAY;
 use replay_script::Standing;
 
 // The turns of `count` calls, of which the first stands at `start`: the place behind what they told.
@@ -114,22 +113,4 @@ pub fn replay(
     let lent = smaller(a.len(), b.len());
     let e = run_script(n, lent, s, a, b, out, keys, marks, order);
     panel_output::finish(out, e)
-}
-
-// A REPLAY of a script at the published lengths.
-#[unsafe(no_mangle)]
-pub extern "C" fn mipsuqal_replay(
-    script: &[u8],
-    a: &mut [u8],
-    b: &mut [u8],
-    out: &mut [u8],
-    keys: &mut [u8],
-    marks: &mut [u32],
-    order: &mut [u32],
-) -> u32
-    ensures { ReplayHolds lengths (lent_to (min (length a.old) (length b.old))
-        (length out.old) (length keys.old) (length marks.old)
-        (length order.old)) script.now result out.new }
-{
-    replay(OVERLAY, script, a, b, out, keys, marks, order)
 }

@@ -49,7 +49,7 @@ pub fn report(n: usize, q: Asked, s: &[u8], old: &[u8], out: &mut [u8], p: usize
 }
 
 // The lengths of a card's working buffers.
-#[derive(Drop)]
+#[derive(Clone, Copy)]
 struct CardWork {
     candidates: usize,
     met: usize,

@@ -16,7 +16,7 @@ use table::{CALL, DEPTH, FORMS, LENGTH, LENGTHS, SCRIPT};
 
 // What a call asks for: its kind; where its feed id, its message, sheet or card, and its clock stand; its output's
 // length; where the lengths of its working buffers stand; and where it ends.
-#[derive(Drop)]
+#[derive(Clone, Copy)]
 pub struct Asked {
     pub kind: u64,
     pub feed: Span,

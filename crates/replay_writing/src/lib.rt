@@ -11,7 +11,7 @@ ghost use Rattle.replay_writing.specs.Promises.Ran.{ReadsWork, within3, Fits, So
 use replay_script::Asked;
 
 // How a call of a script ended: with its number; or it asks for more than is lent, and was not run.
-#[derive(Drop)]
+#[derive(Clone, Copy)]
 pub enum Ran {
     Unlent,
     Number(u32),
@@ -83,7 +83,7 @@ fn vehicle_sheet(n: usize, lent: usize, q: Asked, s: &[u8], old: &[u8], new: &mu
 }
 
 // The lengths of a message's working buffers.
-#[derive(Drop)]
+#[derive(Clone, Copy)]
 struct MessageWork {
     keys: usize,
     marks: usize,

@@ -6,7 +6,7 @@ use Rattle.basics.specs.Lists.{any, member}
 use Rattle.basics.specs.Laws.Lists.{any_append}
 use Rattle.basics.specs.Laws.Booleans.{false_true, and_no, or_false, not_true}
 use Rattle.formats.specs.Class as Class
-use Rattle.formats.specs.Format.{text, list, optional, ◌&◌}
+use Rattle.formats.specs.Format.{text, optional, ◌&◌}
 use Rattle.formats_read.specs.Promises.Here.{Here}
 use Rattle.formats_read.specs.Promises.Reads.{ReadsNumber}
 use Rattle.formats_read.specs.Laws.Here.{halves}

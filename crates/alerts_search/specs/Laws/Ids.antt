@@ -13,7 +13,7 @@ use Rattle.formats_read.specs.Laws.Walk.{Walk, begin, onward, ended, of_list}
 use Rattle.formats_skip.specs.Laws.Passes.{Passing, any_text, read_text, list_start, list_on, list_end}
 use Rattle.alerts.specs.Text.{ends, same_ignoring_case}
 use Rattle.alerts.specs.Text as Text
-use Rattle.alerts.specs.Index.{undated, part_after, tail, nonempty, id_keys}
+use Rattle.alerts.specs.Index.{undated, part_after, tail, id_keys}
 use Rattle.alerts.specs.Applies.{stop_tail, route_refs_match, by_name}
 use Rattle.alerts_ids.specs.Promises.Cuts.{LastOf}
 use Rattle.alerts_ids.specs.Laws.Ends.{rest}

@@ -1,6 +1,5 @@
 -- `past_float` meets its contract.
 use Rattle.formats_skip.specs.Laws.Passes.{float_out, float_short, float_bytes}
-use borrow.Author.Rules.{rules}
 use Rattle.formats_skip.proofs.past_float.Goals as goal
 
 pub returns-then-s-at : goal.returns-then-s-at

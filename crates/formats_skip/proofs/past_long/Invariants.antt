@@ -1,8 +1,7 @@
 -- `past_long` meets its contract.
 use Prim.Native.Nat.{◌-◌}
 use lib.ListN.{length}
-use borrow.Author.Rules.{rules}
-use Rattle.formats_skip.specs.Laws.Number.{Scanned, scan_start, scan_on, scan_low, scan_out}
+use Rattle.formats_skip.specs.Laws.Number.{Scanned}
 use Rattle.formats_skip.proofs.past_long.Given as goal
 
 abbrev pub invariant-loop-p : goal.invariant-loop-p

@@ -1,6 +1,5 @@
 -- `past_number` meets its contract.
 use Rattle.formats_skip.specs.Laws.Passes.{near_passes}
-use borrow.Author.Rules.{rules}
 use Rattle.formats_skip.proofs.past_number.Goals as goal
 
 pub returns : goal.returns

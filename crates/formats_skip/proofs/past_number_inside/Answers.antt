@@ -1,7 +1,6 @@
 -- `past_number_inside` meets its contract.
 use mathlib.Core.Path.{refl}
 use Rattle.formats_skip.specs.Laws.Number.{near_first, near_next, near_end, high_first, high_next}
-use borrow.Author.Rules.{rules}
 use Rattle.formats_skip.proofs.past_number_inside.Goals as goal
 
 pub returns-then-s-at-lt128 : goal.returns-then-s-at-lt128

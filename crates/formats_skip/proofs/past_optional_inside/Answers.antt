@@ -1,6 +1,5 @@
 -- `past_optional_inside` meets its contract.
 use Rattle.formats_skip.specs.Laws.Passes.{near_some, near_none}
-use borrow.Author.Rules.{rules}
 use Rattle.formats_skip.proofs.past_optional_inside.Goals as goal
 
 pub returns-then-s-at-eq1 : goal.returns-then-s-at-eq1

@@ -1,6 +1,5 @@
 -- `past_optional_text` meets its contract.
 use Rattle.formats_skip.specs.Laws.Passes.{optional_out, optional_some, optional_none}
-use borrow.Author.Rules.{rules}
 use Rattle.formats_skip.proofs.past_optional_text.Goals as goal
 
 pub returns-then-s-at : goal.returns-then-s-at

@@ -1,6 +1,5 @@
 -- `past_text` meets its contract.
 use Rattle.formats_skip.specs.Laws.Passes.{read_text, text_out, short_over, short_text}
-use borrow.Author.Rules.{rules}
 use Rattle.formats_skip.proofs.past_text.Goals as goal
 
 pub returns-then-s-at : goal.returns-then-s-at

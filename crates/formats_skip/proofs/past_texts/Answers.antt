@@ -1,8 +1,5 @@
 -- `past_texts` meets its contract.
-use Rattle.formats.specs.Class.{any}
-use Rattle.formats.specs.Format.{text}
-use Rattle.formats_skip.specs.Laws.Passes.{Passing, list_start, list_on, list_end}
-use borrow.Author.Rules.{rules}
+use Rattle.formats_skip.specs.Laws.Passes.{list_start, list_on, list_end}
 use Rattle.formats_skip.proofs.past_texts.Goals as goal
 
 pub loop-left-init : goal.loop-left-init

@@ -1,8 +1,7 @@
 -- `past_texts` meets its contract.
 use Rattle.formats.specs.Class.{any}
 use Rattle.formats.specs.Format.{text}
-use Rattle.formats_skip.specs.Laws.Passes.{Passing, list_start, list_on, list_end}
-use borrow.Author.Rules.{rules}
+use Rattle.formats_skip.specs.Laws.Passes.{Passing}
 use Rattle.formats_skip.proofs.past_texts.Given as goal
 
 abbrev pub invariant-loop-left : goal.invariant-loop-left

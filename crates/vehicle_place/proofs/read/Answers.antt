@@ -1,6 +1,5 @@
 -- `read` meets its contract.
 use Rattle.vehicle_place.proofs.Laws
-use borrow.Author.Rules.{rules}
 use Rattle.vehicle_place.proofs.read.Goals as goal
 
 pub returns : goal.returns

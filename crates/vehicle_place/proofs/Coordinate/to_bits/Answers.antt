@@ -1,6 +1,5 @@
 -- `Coordinate::to_bits` meets its contract.
 use Rattle.vehicle_place.proofs.Laws
-use borrow.Author.Rules.{rules}
 use Rattle.vehicle_place.proofs.Coordinate.to_bits.Goals as goal
 
 pub returns-then-x : goal.returns-then-x

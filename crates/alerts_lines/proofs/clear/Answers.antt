@@ -1,0 +1,14 @@
+-- `alerts_lines::clear` meets its contract. The invariant: the lines up to k are unmarked.
+use Prim.Native.Nat.{◌-◌}
+use borrow.Author.Rules.{rules}
+use Rattle.alerts_lines.specs.Laws.Marking.{Clearing, clearing_start, clearing_more, clearing_end}
+use Rattle.alerts_lines.proofs.clear.Goals as goal
+
+pub loop-k-init : goal.loop-k-init
+loop-k-init c = search (clearing_start)
+
+pub loop-k-preserved : goal.loop-k-preserved
+loop-k-preserved c = search (clearing_more)
+
+pub returns : goal.returns
+returns c = search (clearing_end)

@@ -1,0 +1,20 @@
+-- `realtime_views::over_field` meets its contract. The invariant: what is left, over what is known now, makes what
+-- the whole makes. Assumes nothing.
+use borrow.Author.Rules.{rules}
+use Prim.Native.Nat.{◌-◌}
+use native.Mathlib.Omega.{arith}
+use mathlib.Core.Path.{◌≡◌, refl}
+use lib.ListN.{length}
+use Rattle.realtime_views.specs.Laws.Seeks.{seek_is}
+use Rattle.realtime_views.specs.Promises.Scalars.{scalars, own}
+use Rattle.realtime_views.proofs.Reader.{sought_ready}
+use Rattle.realtime_views.proofs.Finding.{Finding, found_start, found_all, found_far, found_next, found_less}
+use Rattle.realtime_views.proofs.Finding.{made_as}
+use Rattle.realtime_views.proofs.over_field.Given as goal
+
+abbrev pub invariant-loop-start : goal.invariant-loop-start
+invariant-loop-start l =
+    Finding scalars own (λ u. u ≡ l.inner) l.a l.s l.initial.at l.initial.d l.at l.d
+
+abbrev pub decreases-loop-start : goal.decreases-loop-start
+decreases-loop-start l = length l.s - l.at

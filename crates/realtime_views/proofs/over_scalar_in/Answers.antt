@@ -1,0 +1,45 @@
+-- `realtime_views::over_scalar_in` meets its contract. The invariant: what is left, over what is known now, makes what
+-- the whole makes. Assumes nothing.
+use borrow.Author.Rules.{rules}
+use Prim.Native.Nat.{◌-◌}
+use native.Mathlib.Omega.{arith}
+use mathlib.Core.Path.{◌≡◌}
+use mathlib.Core.Bool.{true}
+use lib.ListN.{length}
+use Rattle.realtime.specs.Schema.{feed}
+use Rattle.realtime_views.specs.Laws.Seeks.{seek_is}
+use Rattle.realtime_views.specs.Promises.Last.{taking}
+use Rattle.realtime_views.specs.Promises.Scalars.{scalar, scalar_at, is_scalar}
+use Rattle.realtime_views.proofs.Reader.{sought_ready}
+use Rattle.realtime_views.proofs.Finding.{Finding, found_start, found_all, found_far, found_next, found_less}
+use Rattle.realtime_views.proofs.over_scalar_in.Goals as goal
+
+pub loop-start-init : goal.loop-start-init
+loop-start-init c = found_start c.requires
+
+pub returns-in_default : goal.returns-in_default
+returns-in_default c =
+    let R = c.loop-start.invariant in
+    record {
+      of = found_all R (seek_is c.seek.ensures c.in_default.is);
+      within = found_far R;
+    }
+
+pub part-requires : goal.part-requires
+part-requires c =
+    let S = seek_is c.seek.ensures c.in-Sought.is in
+    omega (arith, S.lying)
+
+pub over_scalar-d-requires : goal.over_scalar-d-requires
+over_scalar-d-requires c =
+    sought_ready scalar c.part.result.now (seek_is c.seek.ensures c.in-Sought.is)
+    c.part.ensures c.loop-start.invariant.within
+
+pub loop-start-smaller : goal.loop-start-smaller
+loop-start-smaller c = found_less (seek_is c.seek.ensures c.in-Sought.is)
+
+pub loop-start-preserved : goal.loop-start-preserved
+loop-start-preserved c =
+    let O = c.over_scalar-d.ensures in
+    found_next c.loop-start.invariant c.part.result.now
+    (seek_is c.seek.ensures c.in-Sought.is) c.part.ensures O.of O.within

@@ -1,7 +1,0 @@
--- `realtime_views::pick` meets its contract, by the field. Assumes nothing.
-use borrow.Author.Tests.{eq-eqb, ne_eqb}
-use Rattle.realtime_views.proofs.pick.Statement.{statement}
-use Rattle.realtime_views.proofs.pick.Tie as tie
-
-pub pick_spec : {M : Type 1} → statement M
-pick_spec = tie.close (tie.spec (λ c. rw (eq-eqb _ _ c.if1.true)) (λ c. rw (ne_eqb _ _ c.if1.false)))
