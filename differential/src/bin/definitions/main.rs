@@ -1,6 +1,6 @@
 //! Writes crates of antt, one for each definition, in which each case is an equation, closed by `refl`,
 //! between the definition at closed inputs and the original's answer. The checker then computes it.
-//! They are a repository of their own, in DIRECTORY, whose file `needed` names the crates that they stand on.
+//! They are a repository of their own, in DIRECTORY; each one's file `stands_on` names the crates below it.
 //! usage: definitions DIRECTORY SEED SHARE (in the repository's folder; of the cases one in SHARE is written)
 mod alerts;
 mod branches;
@@ -80,7 +80,7 @@ fn main() {
         panel::DEFINITIONS,
         refusals::DEFINITIONS,
     ];
-    let (mut needed, mut written) = (BTreeSet::new(), Vec::new());
+    let mut listed = String::new();
     for definition in known.into_iter().flatten() {
         let crates = stands_on(definition.of);
         if crates.is_empty() {
@@ -88,12 +88,9 @@ fn main() {
         } else {
             let cases = cases(definition, &mut Random::new(seed), share);
             write_cases(&directory.join("crates").join(definition.name), definition, &crates, &cases);
-            needed.extend(crates);
-            written.push(definition.name);
+            listed += &format!("{}:\n", definition.name);
         }
     }
-    write(&directory.join("needed"), &needed.iter().map(|name| format!("{name}\n")).collect::<String>());
-    let listed: String = written.iter().map(|name| format!("{name}:\n")).collect();
     write(&directory.join("crates.txt"), &listed);
 }
 
@@ -138,7 +135,8 @@ fn write_cases(folder: &Path, definition: &Definition, crates: &BTreeSet<String>
     let counted =
         counted.iter().filter(|(count, _)| *count > 0).map(|(count, answer)| format!(", {count} {answer}"));
     write(&folder.join("count"), &format!("{} cases{}", cases.len(), counted.collect::<String>()));
-    write(&folder.join("of"), definition.of);
+    let stands_on: String = crates.iter().map(|name| format!("{name}\n")).collect();
+    write(&folder.join("stands_on"), &stands_on);
 }
 
 fn write(file: &Path, text: &str) {
