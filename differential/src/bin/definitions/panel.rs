@@ -40,7 +40,7 @@ given n m calls = given_on (gives (lengths n m) [] (fresh n)).out n m calls
 
 /// The bounds of the questions. Left out are inputs that the checker doesn't take: what question 3 refuses or
 /// lets pass at 1,048,576 bytes, and a single message or vehicle sheet with as many entries as question 7 lets
-/// pass. `panel/laws/EachQuestion` and `panel/laws/Seven` have those for every input.
+/// pass. `panel/Laws/EachQuestion` and `panel/Laws/Seven` have those for every input.
 fn questions() -> Vec<Equation> {
     let lists = bounds().into_iter().flat_map(|bound| [bound.within, bound.past]).flatten();
     let (computed, left): (Vec<_>, Vec<_>) = lists.partition(|calls| calls.last().is_some_and(taken));
