@@ -1,1 +1,2 @@
 // The alerts of a GTFS Realtime message.
+#![tactic(auto)]

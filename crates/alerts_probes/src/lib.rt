@@ -1,5 +1,7 @@
 // Calls of the tests on an alert for a C host: differential/port compares them with the original, bench/run measures
 // them beside it. They ask nothing of their caller.
+#![tactic(auto)]
+
 use alerts_apply::known::applies_known;
 use alerts_ids::products::Line;
 use formats::Span;

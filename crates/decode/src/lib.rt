@@ -1,4 +1,6 @@
 // The keys of an entity, written into their slots.
+#![tactic(auto)]
+
 pub mod sizes; // how large things may be
 
 ghost use Rattle.std.specs.Prelude.{◌≡◌, ◌+◌, ◌*◌, ◌≤◌, ◌<◌, [], ◌∷◌, ◌++◌, length, take, drop};

@@ -1,4 +1,6 @@
 // Quick passes over the records of trips, as formats_skip has them over leaves.
+#![tactic(auto)]
+
 ghost use Rattle.std.specs.Prelude.{◌+◌, ◌≤◌, length};
 ghost use Rattle.formats.specs.Format.{small, list, optional, ◌&◌};
 ghost use Rattle.decode.specs.Trip.{delay, instant, number32, stop_update, trip, trip_entry};

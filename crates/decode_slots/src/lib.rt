@@ -1,4 +1,6 @@
 // A sorted index in lent slices: keys, each with a place, found by halving.
+#![tactic(auto)]
+
 ghost use Rattle.std.specs.Prelude.{◌≡◌, ◌+◌, ◌*◌, ◌≤◌, ◌<◌, ◌&&◌, ltb, length, get_or, set};
 ghost use Rattle.slices.specs.Lists.{lex_of};
 ghost use Rattle.slices.specs.Promises.Inserted.{inserted};

@@ -1,4 +1,6 @@
 // Whether the keys of a vehicle sheet ascend: its form asks for that.
+#![tactic(auto)]
+
 ghost use Rattle.std.specs.Prelude.{◌≡◌, ◌≤◌, length};
 ghost use Rattle.std.proofs.Math.Seq.{slice};
 ghost use Rattle.slices.specs.Lists.{lex_of};

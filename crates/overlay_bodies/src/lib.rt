@@ -1,4 +1,6 @@
 // The body of a feed as an alert sheet or a vehicle sheet leaves it, written part by part.
+#![tactic(auto)]
+
 ghost use Rattle.std.specs.Prelude.{◌≡◌, List, ℕ, ℤ, pos, ◌-ℤ◌, length};
 ghost use Rattle.maps.specs.Map.{puts};
 ghost use Rattle.maps.specs.Order.{texts};

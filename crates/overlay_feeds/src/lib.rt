@@ -1,4 +1,6 @@
 // Where the parts of an overlay stand: its version, its feeds, one of them by its id, and a feed's parts.
+#![tactic(auto)]
+
 ghost use Rattle.overlay_feeds.specs.Promises.Head.{ReadsHead};
 ghost use Rattle.overlay_feeds.specs.Promises.Parts.{ReadsFront, ReadsBack, ReadsParts};
 ghost use Rattle.overlay_feeds.specs.Promises.Place.{Compares, FindsFeed};

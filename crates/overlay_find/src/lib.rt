@@ -1,4 +1,6 @@
 // Look-ups among the noted trips of a feed, by the places of what they find.
+#![tactic(auto)]
+
 ghost use Rattle.maps.specs.Map.{get};
 ghost use Rattle.maps.specs.Order.{texts};
 ghost use Rattle.formats_write.specs.Promises.Given.{given_number};

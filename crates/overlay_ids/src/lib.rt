@@ -1,4 +1,6 @@
 // Ids compared where they stand: a feed's prefix, a key's last '@', and `feed:id` without joining it.
+#![tactic(auto)]
+
 ghost use Rattle.std.specs.Prelude.{◌<◌, length};
 ghost use Rattle.overlay_ids.specs.Promises.Ids.{FeedEnd, LastAt, IsJoined, EndsColon, EndsJoined};
 ghost use Rattle.overlay_ids.specs.Promises.Ids.{RouteFits, StopFits};

@@ -1,4 +1,6 @@
 // The trips of a feed by checked reading: each key is one of its record, keys ascend, and the feed's count is right.
+#![tactic(auto)]
+
 ghost use Rattle.std.specs.Prelude.{◌≡◌, ◌≤◌, length};
 ghost use Rattle.formats.specs.Class.{printable};
 ghost use Rattle.formats.specs.Format.{list};

@@ -1,4 +1,6 @@
 // Whether a key is one of the trip record behind it. No key is built: its pieces are compared where they stand.
+#![tactic(auto)]
+
 ghost use Rattle.std.specs.Prelude.{[], ◌∷◌};
 ghost use Rattle.decode.specs.Key.{decimal_of};
 ghost use Rattle.overlay_keys.specs.Promises.Piece.{Inside, Piece};

@@ -1,5 +1,7 @@
 // A vehicle sheet's entries merged with those of a feed: both ascend by key, the sheet's entry stands over the old one,
 // and those told before a limit go. The merge is run twice, to count and to write, and needs no working buffer.
+#![tactic(auto)]
+
 ghost use Rattle.std.specs.Prelude.{◌≡◌, cond, ◌+◌, ◌≤◌, ◌<◌, length, pos, ◌-ℤ◌, T};
 ghost use Rattle.std.proofs.Math.Seq.{slice};
 ghost use Rattle.std.specs.Int.Signed.{non_neg};

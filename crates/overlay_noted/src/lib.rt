@@ -1,4 +1,6 @@
 // How the walk of question 2 notes what it passes, in lent numbers: a place in 32 bits, and a feed's four numbers.
+#![tactic(auto)]
+
 ghost use Rattle.std.specs.Prelude.{◌<◌};
 ghost use Rattle.overlay_noted.specs.Promises.Noting.{Put, PartsPut};
 

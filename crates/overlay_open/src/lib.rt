@@ -1,5 +1,7 @@
 // Question 2: whether a buffer is an overlay, and where its state ends. One walk over the state by checked reading,
 // which notes where feeds and trips stand, and one over the zeros behind it.
+#![tactic(auto)]
+
 ghost use Rattle.std.specs.Prelude.{◌≡◌, ◌≤◌, ◌<◌, length};
 ghost use Rattle.formats.specs.Class.{token};
 ghost use Rattle.formats.specs.Format.{list, optional};

@@ -1,4 +1,6 @@
 // Where an overlay's feeds and their trips stand, as question 2 noted it, so that a look-up passes over nothing.
+#![tactic(auto)]
+
 ghost use Rattle.std.specs.Prelude.{◌≡◌, ◌+◌, ◌*◌, ◌<◌, length, get_or};
 ghost use Rattle.decode.specs.Sizes.{most_trips};
 ghost use Rattle.overlay_noted.specs.Promises.Noted.{places_length, Noted, entry_at, count_at, vehicles_at, alerts_at};

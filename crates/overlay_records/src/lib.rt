@@ -1,4 +1,6 @@
 // The vehicles and the alerts of a feed by checked reading.
+#![tactic(auto)]
+
 ghost use Rattle.std.specs.Prelude.{◌≤◌, length};
 ghost use Rattle.formats.specs.Class.{printable};
 ghost use Rattle.formats.specs.Format.{float, list, ◌&◌};

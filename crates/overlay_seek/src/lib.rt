@@ -1,5 +1,7 @@
 // Look-ups in what stands in an overlay: their answer, and a text compared where it stands. The law of their loops is
 // in specs/Laws/Seek.
+#![tactic(auto)]
+
 ghost use Rattle.overlay_seek.specs.Promises.Answers.{IsText};
 
 // Where the value that is sought stands.

@@ -1,4 +1,6 @@
 // Quick passes over the parts of an overlay, as formats_skip has them over leaves.
+#![tactic(auto)]
+
 ghost use Rattle.formats.specs.Format.{list};
 ghost use Rattle.formats_skip.specs.Promises.Passes.{Passes};
 ghost use Rattle.overlay.specs.State.{vehicle, vehicle_entry, feed, feed_entry};

@@ -1,4 +1,6 @@
 // The record of a trip by checked reading: its updates, its parts, and the record whole.
+#![tactic(auto)]
+
 ghost use Rattle.std.specs.Prelude.{◌≤◌, length};
 ghost use Rattle.formats.specs.Format.{small, list, optional, ◌&◌};
 ghost use Rattle.decode.specs.Trip.{id, delay, instant, number32, stop_update, time, trip};

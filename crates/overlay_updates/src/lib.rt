@@ -1,5 +1,7 @@
 // A stop update of a trip whose record stands in an overlay: by its sequence, else by the card's stop id, which is
 // compared with `feed:id` without joining that.
+#![tactic(auto)]
+
 ghost use Rattle.decode.specs.Trip.{number32, stop_update};
 ghost use Rattle.formats_write.specs.Promises.Given.{given_number};
 ghost use Rattle.overlay_seek.specs.Promises.Answers.{Seeks};

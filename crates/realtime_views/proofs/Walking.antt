@@ -6,7 +6,7 @@ use mathlib.Core.Option.{Option, none, some}
 use native.Mathlib.Omega.{arith}
 use lib.ListN.{length, take, drop, length-take}
 use Rattle.basics.specs.Laws.Options.{none_some}
-use Rattle.realtime.specs.Tree.{Tree, end, tree, join, sub, rep}
+use Rattle.realtime.specs.Tree.{Tree, tree, join, sub, rep}
 use Rattle.realtime.specs.Schema.{field_rows, feed, feed_message, feed_entity, trip_update, stop_time_update}
 use Rattle.realtime_views.specs.Laws.Reading.{front_part, front_rest}
 use Rattle.realtime_views.specs.Laws.Seeks.{sub_first, sub_none, rep_join}

@@ -19,7 +19,7 @@ use Rattle.alerts.specs.Promises.Label.{Ends}
 use Rattle.alerts_text.specs.Promises.Blob.{road_of, Answered}
 use Rattle.alerts_text.specs.Promises.Marked.{Roomy}
 use Rattle.alerts_text.specs.Laws.Blob.{road_alert}
-use Rattle.alerts_apply.specs.Promises.Texts.{Shown, Given, Labelled, taken, Road}
+use Rattle.alerts_apply.specs.Promises.Texts.{Shown, Given, Labelled, Road}
 
 -- ---- an optional text
 

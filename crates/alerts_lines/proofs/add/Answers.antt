@@ -1,8 +1,5 @@
 -- `alerts_lines::add` meets its contract. The invariant: the lines up to k are added.
-use Prim.Native.Nat.{◌-◌}
-use Rattle.alerts_lines.specs.Promises.Marks.{on}
-use borrow.Author.Rules.{rules}
-use Rattle.alerts_lines.specs.Laws.Marking.{Marking, marking_start, marking_end, marking_added}
+use Rattle.alerts_lines.specs.Laws.Marking.{marking_start, marking_end, marking_added}
 use Rattle.alerts_lines.proofs.add.Goals as goal
 
 pub loop-k-init : goal.loop-k-init

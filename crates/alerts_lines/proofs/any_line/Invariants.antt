@@ -1,8 +1,7 @@
 -- `alerts_lines::any_line` meets its contract. The invariant: the lines from k on are still to be asked.
 use Prim.Native.Nat.{◌-◌}
 use Rattle.alerts_lines.specs.Promises.Marks.{picks}
-use borrow.Author.Rules.{rules}
-use Rattle.alerts_lines.specs.Laws.Choosing.{Unasked, unasked_start, unasked_end, asked_yes, asked_no}
+use Rattle.alerts_lines.specs.Laws.Choosing.{Unasked}
 use Rattle.alerts_lines.proofs.any_line.Given as goal
 
 abbrev pub invariant-loop-k : goal.invariant-loop-k

@@ -1,5 +1,4 @@
 -- `alerts_lines::byte_at` meets its contract.
-use borrow.Author.Rules.{rules}
 use Rattle.alerts_lines.specs.Laws.Marking.{byte_past}
 use Rattle.alerts_lines.proofs.byte_at.Goals as goal
 

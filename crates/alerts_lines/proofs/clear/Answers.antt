@@ -1,7 +1,5 @@
 -- `alerts_lines::clear` meets its contract. The invariant: the lines up to k are unmarked.
-use Prim.Native.Nat.{◌-◌}
-use borrow.Author.Rules.{rules}
-use Rattle.alerts_lines.specs.Laws.Marking.{Clearing, clearing_start, clearing_more, clearing_end}
+use Rattle.alerts_lines.specs.Laws.Marking.{clearing_start, clearing_more, clearing_end}
 use Rattle.alerts_lines.proofs.clear.Goals as goal
 
 pub loop-k-init : goal.loop-k-init

@@ -1,10 +1,6 @@
 -- `alerts_lines::line_is` meets its contract.
-use borrow.Author.Rules.{rules}
-use Rattle.alerts_lines.specs.Laws.Kinds.{part_ordered, part_within, sum_fits, line_same}
+use Rattle.alerts_lines.specs.Laws.Kinds.{part_ordered, part_within, line_same}
 use Rattle.alerts_lines.proofs.line_is.Goals as goal
-
-pub width-requires : goal.width-requires
-width-requires c = search (sum_fits)
 
 pub part_is-requires : goal.part_is-requires
 part_is-requires c = search (part_ordered, part_within)

@@ -1,5 +1,4 @@
 -- `alerts_lines::line_last` meets its contract.
-use borrow.Author.Rules.{rules}
 use Rattle.alerts_lines.specs.Laws.Rows.{last_short, last_other, last_name}
 use Rattle.alerts_lines.proofs.line_last.Goals as goal
 

@@ -1,5 +1,4 @@
 -- `alerts_lines::line_of` meets its contract.
-use borrow.Author.Rules.{rules}
 use Rattle.alerts_lines.specs.Laws.Rows.{no_name, one_named, no_short, no_long, no_line}
 use Rattle.alerts_lines.proofs.line_of.Goals as goal
 

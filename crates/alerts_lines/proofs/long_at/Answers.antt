@@ -1,5 +1,4 @@
 -- `alerts_lines::long_at` meets its contract.
-use borrow.Author.Rules.{rules}
 use Rattle.alerts_lines.specs.Laws.Marking.{long_past}
 use Rattle.alerts_lines.proofs.long_at.Goals as goal
 

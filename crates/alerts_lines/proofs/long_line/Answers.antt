@@ -1,5 +1,4 @@
 -- `alerts_lines::long_line` meets its contract.
-use borrow.Author.Rules.{rules}
 use Rattle.alerts_lines.specs.Laws.Kinds.{long_1, long_2, long_3, long_4, long_5, long_6}
 use Rattle.alerts_lines.proofs.long_line.Goals as goal
 

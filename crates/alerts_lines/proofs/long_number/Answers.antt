@@ -1,5 +1,4 @@
 -- `alerts_lines::long_number` meets its contract.
-use borrow.Author.Rules.{rules}
 use Rattle.alerts_lines.specs.Laws.Kinds.{ten_1, ten_2, ten_3}
 use Rattle.alerts_lines.proofs.long_number.Goals as goal
 

@@ -1,5 +1,4 @@
 -- `alerts_lines::mark_at` meets its contract.
-use borrow.Author.Rules.{rules}
 use Rattle.alerts_lines.specs.Laws.Marking.{nothing_stands, none_stood, all_stood}
 use Rattle.alerts_lines.proofs.mark_at.Goals as goal
 

@@ -1,5 +1,4 @@
 -- `alerts_lines::mark_class` meets its contract.
-use borrow.Author.Rules.{rules}
 use Rattle.alerts_lines.specs.Laws.Rows.{added}
 use Rattle.alerts_lines.proofs.mark_class.Goals as goal
 

@@ -1,5 +1,4 @@
 -- `alerts_lines::mark_family` meets its contract.
-use borrow.Author.Rules.{rules}
 use Rattle.alerts_lines.specs.Laws.Marking.{family_none, family_row, front_length}
 use Rattle.alerts_lines.proofs.mark_family.Goals as goal
 

@@ -1,8 +1,7 @@
 -- `alerts_lines::mark_last` meets its contract. The invariant: the numbers up to k are marked.
 use Prim.Native.Nat.{◌-◌}
 use Rattle.alerts_lines.specs.Promises.Lines.{last_of}
-use borrow.Author.Rules.{rules}
-use Rattle.alerts_lines.specs.Laws.Marking.{Marking, marking_end, numbers_start, numbers_more}
+use Rattle.alerts_lines.specs.Laws.Marking.{Marking}
 use Rattle.alerts_lines.proofs.mark_last.Given as goal
 
 abbrev pub invariant-loop-k : goal.invariant-loop-k

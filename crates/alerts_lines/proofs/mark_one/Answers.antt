@@ -1,5 +1,4 @@
 -- `alerts_lines::mark_one` meets its contract.
-use borrow.Author.Rules.{rules}
 use Rattle.alerts_lines.specs.Laws.Marking.{one_none, one_marked, one_absent, one_more}
 use Rattle.alerts_lines.proofs.mark_one.Goals as goal
 

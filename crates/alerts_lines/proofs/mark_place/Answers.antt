@@ -2,7 +2,6 @@
 use Rattle.alerts_patterns.specs.Laws.Searching.{room}
 use mathlib.Core.Path.{ap}
 use mathlib.Core.Bool.{not}
-use borrow.Author.Rules.{rules}
 use native.Mathlib.Omega.{arith}
 use Rattle.alerts_lines.specs.Laws.Marking.{place_none, place_here}
 use Rattle.alerts_lines.proofs.mark_place.Goals as goal

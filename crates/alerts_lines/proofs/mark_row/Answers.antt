@@ -1,8 +1,5 @@
 -- `alerts_lines::mark_row` meets its contract. The invariant: what stands before i is marked.
-use Prim.Native.Nat.{◌-◌}
-use lib.ListN.{length}
-use borrow.Author.Rules.{rules}
-use Rattle.alerts_lines.specs.Laws.Marking.{Scanned, scanned_end, scanned_first, scanned_next}
+use Rattle.alerts_lines.specs.Laws.Marking.{scanned_end, scanned_first, scanned_next}
 use Rattle.alerts_lines.proofs.mark_row.Goals as goal
 
 pub loop-i-init : goal.loop-i-init

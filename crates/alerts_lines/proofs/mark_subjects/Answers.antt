@@ -1,5 +1,4 @@
 -- `alerts_lines::mark_subjects` meets its contract.
-use borrow.Author.Rules.{rules}
 use Rattle.alerts_lines.specs.Laws.Rows.{subjects_marked}
 use Rattle.alerts_lines.proofs.mark_subjects.Goals as goal
 

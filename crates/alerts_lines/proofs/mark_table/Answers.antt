@@ -1,8 +1,5 @@
 -- `alerts_lines::mark_table` meets its contract. The invariant: the families up to `at` are marked.
-use Prim.Native.Nat.{◌-◌}
-use lib.ListN.{length}
-use borrow.Author.Rules.{rules}
-use Rattle.alerts_lines.specs.Laws.Marking.{Tabled, tabled_start, tabled_more, tabled_end}
+use Rattle.alerts_lines.specs.Laws.Marking.{tabled_start, tabled_more, tabled_end}
 use Rattle.alerts_lines.proofs.mark_table.Goals as goal
 
 pub loop-e-init : goal.loop-e-init

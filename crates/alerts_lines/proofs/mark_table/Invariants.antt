@@ -1,8 +1,7 @@
 -- `alerts_lines::mark_table` meets its contract. The invariant: the families up to `at` are marked.
 use Prim.Native.Nat.{◌-◌}
 use lib.ListN.{length}
-use borrow.Author.Rules.{rules}
-use Rattle.alerts_lines.specs.Laws.Marking.{Tabled, tabled_start, tabled_more, tabled_end}
+use Rattle.alerts_lines.specs.Laws.Marking.{Tabled}
 use Rattle.alerts_lines.proofs.mark_table.Given as goal
 
 abbrev pub invariant-loop-e : goal.invariant-loop-e

@@ -1,5 +1,4 @@
 -- `alerts_lines::picked` meets its contract.
-use borrow.Author.Rules.{rules}
 use Rattle.alerts_lines.specs.Laws.Choosing.{pick_unnamed, pick_named, pick_own, pick_another, pick_not}
 use Rattle.alerts_lines.specs.Laws.Choosing.{pick_subject}
 use Rattle.alerts_lines.proofs.picked.Goals as goal

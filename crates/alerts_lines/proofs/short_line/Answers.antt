@@ -1,5 +1,4 @@
 -- `alerts_lines::short_line` meets its contract.
-use borrow.Author.Rules.{rules}
 use Rattle.alerts_lines.specs.Laws.Kinds.{short_1, short_2, short_3, short_4, short_5, short_6, short_7, short_8}
 use Rattle.alerts_lines.specs.Laws.Kinds.{short_9, short_10}
 use Rattle.alerts_lines.proofs.short_line.Goals as goal

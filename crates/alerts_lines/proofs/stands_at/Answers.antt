@@ -1,7 +1,6 @@
 -- `alerts_lines::stands_at` meets its contract.
 use mathlib.Core.Path.{ap}
 use mathlib.Core.Bool.{not}
-use borrow.Author.Rules.{rules}
 use native.Mathlib.Omega.{arith}
 use Rattle.alerts_lines.specs.Laws.Marking.{stands_not, stands_then, stands_room}
 use Rattle.alerts_lines.proofs.stands_at.Goals as goal

@@ -30,10 +30,7 @@ pass-returns-then-kind-eq-LIST t c = search list_good
 pub pass-pass-requires : goal.pass-pass-requires
 pass-pass-requires t c = (
   omega arith,
-  tag_within
-      c.args.s.now
-      c.args.at _
-      c.tag-c.ensures (omega arith),
+  tag_within c.args.s.now c.args.at _ c.tag-c.ensures (omega arith),
 )
 
 pub pass-returns-then-c-eq0 : goal.pass-returns-then-c-eq0
@@ -42,8 +39,7 @@ pass-returns-then-c-eq0 t c = search choice_0
 pub pass-pass-requires-then-c-eq1 : goal.pass-pass-requires-then-c-eq1
 pass-pass-requires-then-c-eq1 t c = (
   omega arith,
-  tag_within
-      c.args.s.now c.args.at _ c.tag-c.ensures (omega arith),
+  tag_within c.args.s.now c.args.at _ c.tag-c.ensures (omega arith),
 )
 
 pub pass-returns-then-c-eq1 : goal.pass-returns-then-c-eq1

@@ -42,10 +42,7 @@ judge_value-returns-then-kind-eq-LIST t c = search list_good
 pub judge_value-judge_value-requires : goal.judge_value-judge_value-requires
 judge_value-judge_value-requires t c = (
   omega arith,
-  tag_within
-      c.args.s.now
-      c.args.at _
-      c.tag-c.ensures (omega arith),
+  tag_within c.args.s.now c.args.at _ c.tag-c.ensures (omega arith),
 )
 
 pub judge_value-returns-then-c-eq0 : goal.judge_value-returns-then-c-eq0

@@ -8,8 +8,7 @@ use Rattle.formats_text.specs.Promises.Due.{ranges}
 use Rattle.formats_text.proofs.utf8.Given as goal
 
 abbrev pub invariant-loop-i : goal.invariant-loop-i
-invariant-loop-i l =
-    (l.i ≤ length l.v) × (sequences (drop l.i l.v) (ranges l.more l.lo l.hi) ≡ sequences l.v [])
+invariant-loop-i l = (l.i ≤ length l.v) × (sequences (drop l.i l.v) (ranges l.more l.lo l.hi) ≡ sequences l.v [])
 
 abbrev pub decreases-loop-i : goal.decreases-loop-i
 decreases-loop-i l = length l.v - l.i

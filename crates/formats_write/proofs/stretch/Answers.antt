@@ -1,16 +1,9 @@
 -- `stretch` meets its contract.
 use Rattle.formats_write.proofs.Laws
-use native.Mathlib.Omega.{arith}
 use Rattle.formats_write.proofs.stretch.Goals as goal
 
 pub returns-in_default : goal.returns-in_default
 returns-in_default c = λ h k. search (Laws.was_full)
-
-pub returns-then-to-from : goal.returns-then-to-from
-returns-then-to-from c = λ h k. absurd (omega arith)
-
-pub returns-then-s-to : goal.returns-then-s-to
-returns-then-s-to c = λ h k. absurd (omega arith)
 
 pub returns-then-out-at : goal.returns-then-out-at
 returns-then-out-at c = λ h k. search (Laws.stretch_past)

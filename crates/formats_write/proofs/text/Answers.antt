@@ -1,10 +1,6 @@
 -- `text` meets its contract.
 use Rattle.formats_write.proofs.Laws
-use native.Mathlib.Omega.{arith}
 use Rattle.formats_write.proofs.text.Goals as goal
-
-pub returns-then-to-from : goal.returns-then-to-from
-returns-then-to-from c = λ h k. absurd (omega arith)
 
 pub returns : goal.returns
 returns c =

@@ -24,20 +24,20 @@ decreases-loop s at n b places out₀ p₀ left₀ k₀ out p left k = left
 loop_again : tie.Need-loop-preserved invariant-loop decreases-loop
 loop_again c = (
   search rules,
-  λ st S. step c.before.before.before.before.past-leg.result (c.before.before.before.before.before.before.loop.invariant.1 st S) c.before.before.before.before.before.loop-test.true (λ v q h. c.before.before.before.before.past-leg.ensures.to h)
+  λ st S. step (λ v. write leg (enrich_leg (shown st) v)) c.before.before.before.before.past-leg.result (c.before.before.before.before.before.before.loop.invariant.1 st S) c.before.before.before.before.before.loop-test.true (λ v q h. c.before.before.before.before.past-leg.ensures.to h)
       (λ v h j. c.before.before.leg.ensures.adds h j S),
 )
 
 returns : tie.Need-returns invariant-loop decreases-loop
 returns c =
-    record { adds = λ {st} S vs q e h j. stop (c.before.loop.invariant.1 st S) c.loop-test.false vs q e h j }
+    record { adds = λ {st} S vs q e h j. stop (λ v. write leg (enrich_leg (shown st) v)) (c.before.loop.invariant.1 st S) c.loop-test.false vs q e h j }
 
 pub each_leg_spec : {M : Type 1} → statement M
 each_leg_spec =
     tie.close (tie.spec
     invariant-loop
     decreases-loop
-    (λ c. (refl, λ st S. start))
+    (λ c. (refl, λ st S. start (λ v. write leg (enrich_leg (shown st) v))))
     (λ c κs. search rules)
     (λ c κs. search rules)
     (λ c. search rules)

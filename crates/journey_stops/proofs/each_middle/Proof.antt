@@ -23,20 +23,20 @@ decreases-loop s at n b row feed out₀ p₀ left₀ k₀ out p left k = left
 loop_again : tie.Need-loop-preserved invariant-loop decreases-loop
 loop_again c = (
   search rules,
-  λ o X. step c.before.before.before.before.past-middle.result (c.before.before.before.before.before.before.loop.invariant.1 o X) c.before.before.before.before.before.loop-test.true (λ v q h. c.before.before.before.before.past-middle.ensures.to h)
+  λ o X. step (λ v. write middle (stop_by o v)) c.before.before.before.before.past-middle.result (c.before.before.before.before.before.before.loop.invariant.1 o X) c.before.before.before.before.before.loop-test.true (λ v q h. c.before.before.before.before.past-middle.ensures.to h)
       (λ v h j. c.before.before.middle.ensures.adds o X h j),
 )
 
 returns : tie.Need-returns invariant-loop decreases-loop
 returns c =
-    record { adds = λ o X vs q e h j. stop (c.before.loop.invariant.1 o X) c.loop-test.false vs q e h j }
+    record { adds = λ o X vs q e h j. stop (λ v. write middle (stop_by o v)) (c.before.loop.invariant.1 o X) c.loop-test.false vs q e h j }
 
 pub each_middle_spec : {M : Type 1} → statement M
 each_middle_spec =
     tie.close (tie.spec
     invariant-loop
     decreases-loop
-    (λ c. (refl, λ o X. start))
+    (λ c. (refl, λ o X. start (λ v. write middle (stop_by o v))))
     (λ c κs. search rules)
     (λ c κs. search rules)
     (λ c. search rules)

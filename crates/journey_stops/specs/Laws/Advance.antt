@@ -30,7 +30,7 @@ module _ {A : Type 0} (P : A → Type 0) where
   last [] v x = x.0
   last (u ∷ us) v x = last us v x.1
 
-module _ {f : Format} {P : Value f → Type 0} {g : Value f → List ℕ} {s : List ℕ} {a n : ℕ} {l : List ℕ} {r : Put} where
+module _ {f : Format} {P : Value f → Type 0} (g : Value f → List ℕ) {s : List ℕ} {a n : ℕ} {l : List ℕ} {r : Put} where
   pub start : Advance f P g s a n a n l r l r
   start = begin (λ x. none)
 

@@ -5,23 +5,11 @@ use Rattle.overlay_message.proofs.change.Statement.{statement}
 use Rattle.overlay_message.proofs.change.Tie as tie
 
 -- the places that the needs go back to
-abbrev to_keys : tie.After-n → tie.After-keys
-to_keys c = c.before.before.before.before.before.before.before
-
 abbrev to_leave : tie.After-n → tie.After-leave
-to_leave c = (to_keys c).before
-
-abbrev to_front : tie.After-leave → tie.After-read-front
-to_front c = c.before.before.before.before
-
-abbrev to_slices : tie.After-read-front → tie.After-shared-slice-known
-to_slices c = c.before.before.before.before
+to_leave c = c.before.before.before.before.before.before.before.before
 
 abbrev to_start : tie.After-read-front → tie.Start
-to_start c = (to_slices c).before.before.before.before.before
-
-abbrev to_behind : tie.After-write-state → tie.After-behind
-to_behind c = c.before.before.before.before.before
+to_start c = c.before.before.before.before.before.before.before.before.before
 
 leave_requires : tie.Need-leave-requires
 leave_requires c κs =
@@ -33,7 +21,7 @@ write_state_requires : tie.Need-write-state-requires
 write_state_requires c κs =
     let at_n = c.before.before.before.before.before.before.before in
     let at_leave = to_leave at_n in
-    let at_front = to_front at_leave in
+    let at_front = at_leave.before.before.before.before in
     let pre = (to_start at_front).pre in (
       pre.1.0.1,
       writable pre.1.1.1 at_front.read-front.ensures at_leave.leave.ensures at_n.n.given.1,
@@ -42,30 +30,30 @@ write_state_requires c κs =
 returns : tie.Need-returns
 returns c =
     let at_leave = c.before.before.before.before.before.before.before.before in
-    let at_front = to_front at_leave in
+    let at_front = at_leave.before.before.before.before in
     many_trips (to_start at_front).pre.1.1.1 at_front.read-front.ensures at_leave.leave.ensures
     c.enum_told.given.1
 
 returns_2 : tie.Need-returns-2
 returns_2 c =
     let at_leave = c.before.before.before.before.before.before.before.before in
-    let at_front = to_front at_leave in
+    let at_front = at_leave.before.before.before.before in
     many_updates (to_start at_front).pre.1.1.1 at_front.read-front.ensures at_leave.leave.ensures
     c.enum-told2.given.1
 
 same_keys : tie.Need-same-length-8
 same_keys c =
-    let at_n = (to_behind c.before.before).before.before.before in
-    search (rules, (to_keys at_n).keys)
+    let at_n = c.before.before.before.before.before.before.before.before.before.before in
+    search (rules, at_n.before.before.before.before.before.before.before.keys)
 
 returns_3 : tie.Need-returns-3
 returns_3 c =
     let at_write_state = c.before.before in
-    let at_behind = to_behind at_write_state in
+    let at_behind = at_write_state.before.before.before.before.before in
     let at_read_back = at_behind.before in
     let at_n = at_read_back.before.before in
     let at_leave = to_leave at_n in
-    let at_front = to_front at_leave in
+    let at_front = at_leave.before.before.before.before in
     exchanged (to_start at_front).pre.1.1.1 at_front.read-front.ensures at_leave.leave.ensures
     at_n.n.given.1 at_read_back.read_back.ensures at_behind.behind.ensures
     at_write_state.write-state.ensures

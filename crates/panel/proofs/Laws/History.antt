@@ -104,7 +104,10 @@ head_says L old bk c h = go (eqb (number_of (ends L old c)) 0) refl
 from_here : (L : Lengths) (old : List ℕ) (bk : Book) → Holds old bk → (cs : List Call) → History L old bk cs
 unfolding run seen_all said_all
 from_here L old bk h [] = refl
-from_here L old bk h (c ∷ cs) = ap₂ ◌∷◌ (head_says L old bk c h) (from_here L _ _ (step L old bk c h) cs)
+from_here L old bk h (c ∷ cs) =
+    let o = gives L old c in
+    ap₂ ◌∷◌ (head_says L old bk c h)
+    (from_here L (overlay_after old c o) (fed bk c o.number) (step L old bk c h) cs)
 
 -- every buffer has a book, and one without a state has every book
 no_holds : (old : List ℕ) (bk : Book) → state_of old ≡ none → Holds old bk

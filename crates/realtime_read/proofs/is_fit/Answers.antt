@@ -1,6 +1,5 @@
 -- `realtime_read::is_fit` meets its contract, test by test. Assumes nothing.
 use borrow.Author.Tests.{eq-eqb, ne_eqb}
-use borrow.Author.Rules.{rules}
 use Rattle.realtime_read.proofs.is_fit.Goals as goal
 
 pub returns-then-message-eq-HEADER_TRANSLATION : goal.returns-then-message-eq-HEADER_TRANSLATION

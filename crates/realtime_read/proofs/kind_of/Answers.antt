@@ -1,13 +1,8 @@
 -- `realtime_read::kind_of` meets its contract: a field's five bits of the row are the code of what the schema lists.
-use Prim.Native.Nat.{◌*◌, ◌/◌, ◌%◌, ◌^◌}
-use mathlib.Core.Path.{◌≡◌, sym, ap}
-use mathlib.Core.Option.{Option}
+use mathlib.Core.Path.{sym, ap}
 use native.Mathlib.Omega.{arith}
-use borrow.Author.Rules.{rules}
-use Rattle.realtime.specs.Tree.{Kind}
-use Rattle.realtime.specs.Schema.{feed}
 use Rattle.realtime.proofs.Laws.Schema.{feed_beyond}
-use Rattle.realtime_read.specs.Promises.Schema.{holds, code}
+use Rattle.realtime_read.specs.Promises.Schema.{holds}
 use Rattle.realtime_read.proofs.Rows.{coded, none_of, number_of, text_of, message_of}
 use Rattle.realtime_read.proofs.kind_of.Goals as goal
 

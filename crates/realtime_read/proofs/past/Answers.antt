@@ -1,5 +1,4 @@
 -- `realtime_read::past` meets its contract: the whole is a part of itself. Assumes nothing.
-use borrow.Author.Rules.{rules}
 use mathlib.Core.Path.{ap, ◌∙◌}
 use lib.Seq.{take-length}
 use Rattle.wire.specs.Promises.Places.{skipped_at}

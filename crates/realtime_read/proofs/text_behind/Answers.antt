@@ -1,5 +1,4 @@
 -- `realtime_read::text_behind` meets its contract, by the wire type. Assumes nothing.
-use borrow.Author.Rules.{rules}
 use borrow.Author.Tests.{eq-eqb, ne_eqb}
 use Rattle.realtime_read.proofs.text_behind.Goals as goal
 

@@ -1,5 +1,4 @@
 -- `realtime_read::worse` meets its contract, case by case. Assumes nothing.
-use borrow.Author.Rules.{rules}
 use mathlib.Core.Path.{sym, ◌∙◌}
 use Rattle.realtime_read.proofs.Judging.{fine_first}
 use Rattle.realtime_read.proofs.worse.Goals as goal

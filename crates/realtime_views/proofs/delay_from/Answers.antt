@@ -1,5 +1,4 @@
 -- `realtime_views::delay_from` meets its contract, by whether it is given. Assumes nothing.
-use borrow.Author.Rules.{rules}
 use borrow.Author.Tests.{eq-eqb, ne_eqb}
 use mathlib.Core.Path.{ap}
 use Prim.Native.Nat.{◌%◌}

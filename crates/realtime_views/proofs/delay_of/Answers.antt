@@ -1,5 +1,4 @@
 -- `realtime_views::delay_of` meets its contract, by the kind of the scalar. Assumes nothing.
-use borrow.Author.Rules.{rules}
 use mathlib.Core.Path.{sym, ap, ◌∙◌}
 use Prim.Native.Nat.{◌%◌}
 use native.Mathlib.Omega.{arith}

@@ -1,5 +1,4 @@
 -- `realtime_views::header_of` meets its contract: the header is what is merged at field 1. Assumes nothing.
-use borrow.Author.Rules.{rules}
 use native.Mathlib.Omega.{arith}
 use mathlib.Core.Path.{sym, subst}
 use Rattle.realtime_views.specs.Promises.Reading.{Ready}

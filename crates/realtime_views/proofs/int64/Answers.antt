@@ -1,6 +1,5 @@
 -- `realtime_views::int64` meets its contract: below the half as it stands, above it by the bits that are lacking.
 -- Assumes nothing.
-use borrow.Author.Rules.{rules}
 use Prim.Native.Nat.{◌-◌}
 use native.Mathlib.Omega.{arith}
 use mir.Syntax.{w64}

@@ -1,5 +1,4 @@
 -- `realtime_views::is_deleted` meets its contract, in the bytes up to the entity's end. Assumes nothing.
-use borrow.Author.Rules.{rules}
 use mathlib.Core.Path.{refl}
 use Rattle.realtime_views.proofs.Typing.{starts_in, deleted_read}
 use Rattle.realtime_views.proofs.is_deleted.Goals as goal

@@ -1,5 +1,4 @@
 -- `realtime_views::is_value` meets its contract, by the kind of the scalar. Assumes nothing.
-use borrow.Author.Rules.{rules}
 use mathlib.Core.Path.{sym, ap}
 use Rattle.realtime_views.specs.Promises.Narrow.{is_value}
 use Rattle.realtime_views.proofs.is_value.Goals as goal

@@ -1,5 +1,4 @@
 -- `realtime_views::last_number` meets its contract: the number of the last scalar. Assumes nothing.
-use borrow.Author.Rules.{rules}
 use Rattle.realtime_views.proofs.Typing.{last_number}
 use Rattle.realtime_views.proofs.last_number.Goals as goal
 

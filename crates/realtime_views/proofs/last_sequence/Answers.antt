@@ -1,9 +1,6 @@
 -- `realtime_views::last_sequence` meets its contract: a reading of one field by the bytes of keys. Assumes nothing.
-use borrow.Author.Rules.{rules}
-use Prim.Native.Nat.{◌-◌}
-use lib.ListN.{length}
 use Rattle.realtime_views.proofs.Reader.{begins}
-use Rattle.realtime_views.proofs.Short.{Sequences, sequences_end, next_sequence, past_relationship, past_part}
+use Rattle.realtime_views.proofs.Short.{sequences_end, next_sequence, past_relationship, past_part}
 use Rattle.realtime_views.proofs.Short.{number_less, text_less}
 use Rattle.realtime_views.proofs.last_sequence.Goals as goal
 

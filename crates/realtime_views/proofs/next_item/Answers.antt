@@ -1,11 +1,8 @@
 -- `realtime_views::next_item` meets its contract. The invariant: what was left at the start is left here. The measure:
 -- the bytes behind both places, outside and inside. Assumes nothing.
-use borrow.Author.Rules.{rules}
-use Prim.Native.Nat.{◌+◌, ◌-◌}
 use native.Mathlib.Omega.{arith}
-use lib.ListN.{length}
 use Rattle.realtime_views.specs.Laws.Seeks.{seek_is}
-use Rattle.realtime_views.proofs.Walking.{Leads, leads, yields, all_done, opens_less, opens}
+use Rattle.realtime_views.proofs.Walking.{leads, yields, all_done, opens_less, opens}
 use Rattle.realtime_views.proofs.next_item.Goals as goal
 
 pub loop-start-init : goal.loop-start-init

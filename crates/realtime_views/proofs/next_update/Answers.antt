@@ -1,5 +1,4 @@
 -- `realtime_views::next_update` meets its contract: a walk over the listed fields that it names. Assumes nothing.
-use borrow.Author.Rules.{rules}
 use Rattle.realtime_views.proofs.Walking as walking
 use Rattle.realtime_views.proofs.next_update.Goals as goal
 

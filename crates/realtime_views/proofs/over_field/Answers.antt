@@ -1,14 +1,11 @@
 -- `realtime_views::over_field` meets its contract. The invariant: what is left, over what is known now, makes what
 -- the whole makes. Assumes nothing.
-use borrow.Author.Rules.{rules}
-use Prim.Native.Nat.{◌-◌}
 use native.Mathlib.Omega.{arith}
-use mathlib.Core.Path.{◌≡◌, refl}
-use lib.ListN.{length}
+use mathlib.Core.Path.{refl}
 use Rattle.realtime_views.specs.Laws.Seeks.{seek_is}
-use Rattle.realtime_views.specs.Promises.Scalars.{scalars, own}
+use Rattle.realtime_views.specs.Promises.Scalars.{scalars}
 use Rattle.realtime_views.proofs.Reader.{sought_ready}
-use Rattle.realtime_views.proofs.Finding.{Finding, found_start, found_all, found_far, found_next, found_less}
+use Rattle.realtime_views.proofs.Finding.{found_start, found_all, found_far, found_next, found_less}
 use Rattle.realtime_views.proofs.Finding.{made_as}
 use Rattle.realtime_views.proofs.over_field.Goals as goal
 

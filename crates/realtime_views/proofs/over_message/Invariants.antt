@@ -1,14 +1,10 @@
 -- `realtime_views::over_message` meets its contract. The invariant: what is left, over what is known now, makes what
 -- the whole makes. Assumes nothing.
-use borrow.Author.Rules.{rules}
 use Prim.Native.Nat.{◌-◌}
-use mathlib.Core.Path.{refl}
-use native.Mathlib.Omega.{arith}
 use lib.ListN.{length}
 use Rattle.realtime.specs.Schema.{feed}
-use Rattle.realtime_read.specs.Laws.Steps.{step_is}
 use Rattle.realtime_views.specs.Promises.Scalars.{scalars, own}
-use Rattle.realtime_views.proofs.Reader.{Reading, begins, says, stops, past_message, keep_number, keep_text}
+use Rattle.realtime_views.proofs.Reader.{Reading}
 use Rattle.realtime_views.proofs.over_message.Given as goal
 
 abbrev pub invariant-loop-d : goal.invariant-loop-d

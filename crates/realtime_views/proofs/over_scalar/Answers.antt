@@ -1,8 +1,5 @@
 -- `realtime_views::over_scalar` meets its contract: a reading of one field, for each type. Assumes nothing.
-use borrow.Author.Rules.{rules}
-use Prim.Native.Nat.{◌-◌}
-use lib.ListN.{length}
-use Rattle.realtime_views.proofs.Ones.{Ones, ones_start, ones_end, no_key, broken_text, own_text, other_text}
+use Rattle.realtime_views.proofs.Ones.{ones_start, ones_end, no_key, broken_text, own_text, other_text}
 use Rattle.realtime_views.proofs.Ones.{broken_number, own_number, other_number, broken_value, past_value}
 use Rattle.realtime_views.proofs.Wires.{number_less, text_less, other_less}
 use Rattle.realtime_views.proofs.over_scalar.Goals as goal

@@ -1,17 +1,10 @@
 -- `realtime_views::over_scalar_in` meets its contract. The invariant: what is left, over what is known now, makes what
 -- the whole makes. Assumes nothing.
-use borrow.Author.Rules.{rules}
-use Prim.Native.Nat.{◌-◌}
 use native.Mathlib.Omega.{arith}
-use mathlib.Core.Path.{◌≡◌}
-use mathlib.Core.Bool.{true}
-use lib.ListN.{length}
-use Rattle.realtime.specs.Schema.{feed}
 use Rattle.realtime_views.specs.Laws.Seeks.{seek_is}
-use Rattle.realtime_views.specs.Promises.Last.{taking}
-use Rattle.realtime_views.specs.Promises.Scalars.{scalar, scalar_at, is_scalar}
+use Rattle.realtime_views.specs.Promises.Scalars.{scalar}
 use Rattle.realtime_views.proofs.Reader.{sought_ready}
-use Rattle.realtime_views.proofs.Finding.{Finding, found_start, found_all, found_far, found_next, found_less}
+use Rattle.realtime_views.proofs.Finding.{found_start, found_all, found_far, found_next, found_less}
 use Rattle.realtime_views.proofs.over_scalar_in.Goals as goal
 
 pub loop-start-init : goal.loop-start-init

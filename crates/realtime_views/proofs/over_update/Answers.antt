@@ -1,8 +1,5 @@
 -- `realtime_views::over_update` meets its contract: two readings in one walk. Assumes nothing.
-use borrow.Author.Rules.{rules}
-use Prim.Native.Nat.{◌-◌}
-use lib.ListN.{length}
-use Rattle.realtime_views.proofs.Trips.{Updates, updates_start, updates_end, updates_no_key, updates_no_text}
+use Rattle.realtime_views.proofs.Trips.{updates_start, updates_end, updates_no_key, updates_no_text}
 use Rattle.realtime_views.proofs.Trips.{updates_ready, updates_trip, updates_text, updates_no_number}
 use Rattle.realtime_views.proofs.Trips.{updates_delay, updates_number, updates_no_other, updates_other}
 use Rattle.realtime_views.proofs.Wires.{number_less, text_less, text_inside, other_less}

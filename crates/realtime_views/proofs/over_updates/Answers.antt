@@ -1,8 +1,5 @@
 -- `realtime_views::over_updates` meets its contract: two readings in one walk. Assumes nothing.
-use borrow.Author.Rules.{rules}
-use Prim.Native.Nat.{◌-◌}
-use lib.ListN.{length}
-use Rattle.realtime_views.proofs.Trips.{Entities, entities_start, entities_end, entities_less, entities_inside}
+use Rattle.realtime_views.proofs.Trips.{entities_start, entities_end, entities_less, entities_inside}
 use Rattle.realtime_views.proofs.Trips.{entities_ready, entities_taken}
 use Rattle.realtime_views.proofs.over_updates.Goals as goal
 

@@ -1,9 +1,7 @@
 -- `realtime_views::over_updates` meets its contract: two readings in one walk. Assumes nothing.
-use borrow.Author.Rules.{rules}
 use Prim.Native.Nat.{◌-◌}
 use lib.ListN.{length}
-use Rattle.realtime_views.proofs.Trips.{Entities, entities_start, entities_end, entities_less, entities_inside}
-use Rattle.realtime_views.proofs.Trips.{entities_ready, entities_taken}
+use Rattle.realtime_views.proofs.Trips.{Entities}
 use Rattle.realtime_views.proofs.over_updates.Given as goal
 
 abbrev pub invariant-loop-start : goal.invariant-loop-start

@@ -1,5 +1,4 @@
 -- `realtime_views::scalar_at` meets its contract, in the bytes up to the message's end. Assumes nothing.
-use borrow.Author.Rules.{rules}
 use Rattle.realtime_views.proofs.Typing.{scalar_ready, scalar_read}
 use Rattle.realtime_views.proofs.scalar_at.Goals as goal
 

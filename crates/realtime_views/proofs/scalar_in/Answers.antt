@@ -1,5 +1,4 @@
 -- `realtime_views::scalar_in` meets its contract, in the bytes up to the message's end. Assumes nothing.
-use borrow.Author.Rules.{rules}
 use Rattle.realtime_views.proofs.Typing.{scalar_ready, scalar_read_in}
 use Rattle.realtime_views.proofs.scalar_in.Goals as goal
 

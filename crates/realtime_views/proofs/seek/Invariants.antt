@@ -1,11 +1,8 @@
 -- `realtime_views::seek` meets its contract. The invariant: the messages at the field that were there are there still.
 -- Assumes nothing.
-use borrow.Author.Rules.{rules}
 use Prim.Native.Nat.{◌-◌}
 use lib.ListN.{length}
-use Rattle.realtime_views.proofs.Seeking.{Seeking, seeks_from, seek_ends, seek_keyless, seek_broken, seek_past}
-use Rattle.realtime_views.proofs.Seeking.{seek_cut, seek_other, seek_found}
-use Rattle.realtime_views.proofs.Wires.{text_less, other_less}
+use Rattle.realtime_views.proofs.Seeking.{Seeking}
 use Rattle.realtime_views.proofs.seek.Given as goal
 
 abbrev pub invariant-loop-at : goal.invariant-loop-at

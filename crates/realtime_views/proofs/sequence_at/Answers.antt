@@ -1,5 +1,4 @@
 -- `realtime_views::sequence_at` meets its contract, in the bytes up to the update's end. Assumes nothing.
-use borrow.Author.Rules.{rules}
 use Rattle.realtime_views.proofs.Typing.{starts_in, sequence_read}
 use Rattle.realtime_views.proofs.sequence_at.Goals as goal
 

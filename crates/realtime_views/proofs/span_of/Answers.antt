@@ -1,5 +1,4 @@
 -- `realtime_views::span_of` meets its contract, by the kind of the scalar. Assumes nothing.
-use borrow.Author.Rules.{rules}
 use mathlib.Core.Path.{sym, ap}
 use Rattle.realtime_views.specs.Promises.Narrow.{to_span}
 use Rattle.realtime_views.proofs.span_of.Goals as goal

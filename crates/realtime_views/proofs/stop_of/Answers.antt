@@ -1,5 +1,4 @@
 -- `realtime_views::stop_of` meets its contract, in the bytes up to the update's end. Assumes nothing.
-use borrow.Author.Rules.{rules}
 use Rattle.realtime_views.proofs.Typing.{starts_in, stop_read}
 use Rattle.realtime_views.proofs.stop_of.Goals as goal
 

@@ -1,5 +1,4 @@
 -- `realtime_views::timestamp_of` meets its contract, by the kind of the scalar. Assumes nothing.
-use borrow.Author.Rules.{rules}
 use mathlib.Core.Path.{sym, ap}
 use Rattle.realtime_views.specs.Promises.Narrow.{to_timestamp}
 use Rattle.realtime_views.proofs.timestamp_of.Goals as goal

@@ -1,6 +1,5 @@
 -- `realtime_views::trip_of` meets its contract: the descriptor is what is merged at 3 and 1, the delay at 3. Assumes
 -- nothing.
-use borrow.Author.Rules.{rules}
 use Prim.Native.Nat.{◌+◌}
 use native.Mathlib.Omega.{arith}
 use lib.ListN.{length, length-take}

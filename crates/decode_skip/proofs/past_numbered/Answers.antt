@@ -1,0 +1,7 @@
+-- `past_numbered` meets its contract.
+use Rattle.formats_skip.specs.Laws.Passes.{number_then}
+use borrow.Author.Rules.{rules}
+use Rattle.decode_skip.proofs.past_numbered.Goals as goal
+
+pub returns : goal.returns
+returns c = search number_then

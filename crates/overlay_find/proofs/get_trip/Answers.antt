@@ -1,0 +1,20 @@
+-- `get_trip` meets its contract.
+use Rattle.overlay_find.specs.Laws.Looks.{whole_key, short_key, no_key}
+use borrow.Author.Rules.{rules}
+use lib.ListN.{length-take}
+use native.Mathlib.Omega.{arith}
+use Rattle.overlay_find.proofs.get_trip.Goals as goal
+
+pub slice_bounds-trip_at-end : goal.slice_bounds-trip_at-end
+slice_bounds-trip_at-end c =
+    simp length-take
+    (omega (arith, c.last_at.ensures.within _ c.in-At-last_at.is))
+
+pub returns-in-At : goal.returns-in-At
+returns-in-At c = search whole_key
+
+pub returns-in-At-last_at : goal.returns-in-At-last_at
+returns-in-At-last_at c = search short_key
+
+pub returns-in-Nowhere : goal.returns-in-Nowhere
+returns-in-Nowhere c = search no_key

@@ -1,0 +1,6 @@
+-- `overlay_keys::decimal` meets its contract.
+use Prim.Native.Nat.{ℕ, ◌<◌}
+use Rattle.overlay_keys.proofs.+decimal.Given as goal
+
+abbrev pub decreases-decimal : goal.decreases-decimal
+decreases-decimal l = l.k

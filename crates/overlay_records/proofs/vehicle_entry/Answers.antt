@@ -1,0 +1,13 @@
+-- `overlay_records::vehicle_entry` meets its contract.
+use Rattle.overlay_records.specs.Laws.Records.{vehicle_key, vehicle_none, vehicle_so}
+use borrow.Author.Rules.{rules}
+use Rattle.overlay_records.proofs.vehicle_entry.Goals as goal
+
+pub returns-in_default : goal.returns-in_default
+returns-in_default c = search vehicle_key
+
+pub returns-in-At-vehicle : goal.returns-in-At-vehicle
+returns-in-At-vehicle c = search (vehicle_so, vehicle_none)
+
+pub returns-in-Broken : goal.returns-in-Broken
+returns-in-Broken c = search (vehicle_so, vehicle_none)

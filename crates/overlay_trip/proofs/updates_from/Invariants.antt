@@ -1,0 +1,16 @@
+-- `overlay_trip::updates_from` meets its contract.
+use borrow.Author.Rules.{rules}
+use Prim.Native.Nat.{◌≤◌}
+use lib.ListN.{length}
+use Rattle.decode.specs.Trip.{stop_update}
+use Rattle.formats_check.specs.Laws.Checked.{check_in}
+use Rattle.formats_check.specs.Laws.Rising.{Rising, rising_start, rising_no, rising_low, rising_high, rising_rest}
+use Rattle.formats_check.specs.Laws.Rising.{rising_so, rising_end}
+use Rattle.overlay_trip.proofs.updates_from.Given as goal
+
+abbrev pub invariant-loop-left : goal.invariant-loop-left
+invariant-loop-left l =
+    (l.p ≤ length l.old) × Rising 4294967295 stop_update l.n l.old l.at l.low l.left l.p
+
+abbrev pub decreases-loop-left : goal.decreases-loop-left
+decreases-loop-left l = l.left

@@ -1,0 +1,20 @@
+-- `sequence_in` meets its contract.
+use borrow.Author.Rules.{rules}
+use Rattle.formats.specs.Format.{◌&◌}
+use Rattle.decode.specs.Trip.{number32, stop_update}
+use Rattle.overlay_seek.specs.Laws.Seek.{Seeking, seek_start, seek_miss}
+use Rattle.overlay_updates.specs.Promises.Updates.{numbered}
+use Rattle.overlay_updates.specs.Laws.Updates.{sequence_hit, sequence_on}
+use Rattle.overlay_updates.proofs.sequence_in.Goals as goal
+
+pub loop-left-init : goal.loop-left-init
+loop-left-init c = seek_start
+
+pub returns-then-k-n : goal.returns-then-k-n
+returns-then-k-n c = search sequence_hit
+
+pub loop-left-preserved : goal.loop-left-preserved
+loop-left-preserved c = search sequence_on
+
+pub returns : goal.returns
+returns c = search seek_miss
