@@ -160,7 +160,7 @@ static inline uint32_t mipsuqal_finish_card(const uint8_t *old_overlay, const ui
                          MIPSUQAL_KNOWN);
 }
 
-/* ---- for tests, in a library of its own: `rt staticlib replay_calls` ---- */
+/* ---- for tests, in a library of its own: `tools/staticlib replay_calls` ---- */
 
 /* A list of calls run from a fresh overlay on, on two overlays that take turns, and in `out` what each gave. Returns 0;
  * or 1, and zeros in `out`. No promise says what it leaves in the other five that it writes (docs/TEST-CALLS.md). */

@@ -1,11 +1,13 @@
 #!/usr/bin/env python3
 """Turns the texts of crates/*/must-fail/*.edit to the spelling of the files that they edit.
 
-usage: python3 tools/port_edits.py            at the top of the repository, after port_names.py: rewrites the edits that can be turned
+usage: python3 tools/port_edits.py            at the top of the repository, after port_names.py: rewrites the edits that
+                                              can be turned
        python3 tools/port_edits.py --list     only says which edits do not match
 
-The commit 008ce71d has both the edits and the files that they fit. Each line of a file there is laid beside the line that it is now,
-which gives the new spelling of its words. An edit is rewritten where each turned 'old:' text stands once in its file; any other stays
+The commit 008ce71d has both the edits and the files that they fit. Each line of a file there is laid beside the line
+that it is now, which gives the new spelling of its words. An edit is rewritten where each turned 'old:' text stands
+once in its file; any other stays
 as it is. No edit is removed, and a text keeps its meaning: 'old:' and 'new:' are turned by the same words.
 """
 
@@ -37,7 +39,8 @@ def aligned(old, new):
     """Pairs of line numbers, of lines that say the same."""
     a, b = old.split("\n"), new.split("\n")
     out = {}
-    for tag, i, j, k, n in difflib.SequenceMatcher(None, [plain(x) for x in a], [plain(x) for x in b], autojunk=False).get_opcodes():
+    same = difflib.SequenceMatcher(None, [plain(x) for x in a], [plain(x) for x in b], autojunk=False)
+    for tag, i, j, k, n in same.get_opcodes():
         if tag == "equal" or tag == "replace" and j - i == n - k:
             out.update(zip(range(i, j), range(k, n)))
     return a, b, out
@@ -122,7 +125,8 @@ def ways(text, mine, every):
 
 
 def imports(old, new, text, home):
-    """A pair that adds names to an import, for the import lines of today; None where the names are there already, False if it can't."""
+    """A pair that adds names to an import, for the import lines of today; None where the names are there already, False
+    if it can't."""
     a, b = (set(x.strip() for x in re.search(r"\{([^}]*)\}", t)[1].split(",") if x.strip()) for t in (old, new))
     if not a <= b or re.sub(r"\{.*", "", old) != re.sub(r"\{.*", "", new):
         return False
@@ -167,7 +171,8 @@ def fits(file, olds, news, texts):
 def main(argv):
     texts = port_names.disk()
     was = port_names.commit(ORIGINAL, (".antt", ".rt", ".edit"))
-    pairs = {p: aligned(t, texts[here(p)]) for p, t in was.items() if p.endswith((".antt", ".rt")) and here(p) in texts and argv != ["--list"]}
+    both = [p for p in was if p.endswith((".antt", ".rt")) and here(p) in texts and argv != ["--list"]]
+    pairs = {p: aligned(was[p], texts[here(p)]) for p in both}
     each, every = learn(pairs) if pairs else ({}, {})
     home = collections.defaultdict(set)  # the names that some file imports from a path
     for t in texts.values():
@@ -262,7 +267,8 @@ def main(argv):
 
 
 def by_line(a, b, source, old_text, pairs, mine, every, now):
-    """By the line that the old text stands in: the words in front of it and behind it say which part of today's line it is."""
+    """By the line that the old text stands in: the words in front of it and behind it say which part of today's line it
+    is."""
     lines = pairs[source][2]
     at = old_text.find(a)
     if at < 0:
@@ -276,7 +282,9 @@ def by_line(a, b, source, old_text, pairs, mine, every, now):
     if len(x) != len(y):
         return None
     inside = [k for k, m in enumerate(x) if m.start() >= start and m.end() <= start + len(a)]
-    if not inside or any(m.start() < start + len(a) and m.end() > start and not (m.start() >= start and m.end() <= start + len(a)) for m in x):
+    end = start + len(a)
+    cut = (m for m in x if m.start() < end and m.end() > start and not (m.start() >= start and m.end() <= end))
+    if not inside or any(cut):
         return None
     # the part that changes, in whole words with what is between them
     p = 0
@@ -286,7 +294,8 @@ def by_line(a, b, source, old_text, pairs, mine, every, now):
     while s < min(len(a), len(b)) - p and a[len(a) - 1 - s] == b[len(b) - 1 - s]:
         s += 1
     middle = [k for k, m in enumerate(x) if m.end() > start + p and m.start() < start + len(a) - s]
-    edge = lambda t, i: 0 < i < len(t) and not re.match(r"[\s(){}\[\];,.]", t[i - 1]) and not re.match(r"[\s(){}\[\];,.]", t[i])
+    apart = re.compile(r"[\s(){}\[\];,.]")
+    edge = lambda t, i: 0 < i < len(t) and not apart.match(t[i - 1]) and not apart.match(t[i])
     while p and (edge(a, p) or edge(b, p)):
         p -= 1
     while s and (edge(a, len(a) - s) or edge(b, len(b) - s)):

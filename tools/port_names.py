@@ -1,11 +1,13 @@
 #!/usr/bin/env python3
 """Brings the repository's own definitions and lemmas to today's spelling: snake case, and modules in upper camel case.
 
-usage: python3 tools/port_names.py            at the top of the repository: rewrites crates/ in place; a second run changes nothing
-       python3 tools/port_names.py --table    prints old name, tab, new name, of all that were ever turned; changes nothing
+usage: python3 tools/port_names.py            at the top of the repository: rewrites crates/ in place; a second run changes
+                                              nothing
+       python3 tools/port_names.py --table    prints old name, tab, new name, of all that were ever turned
 
-A name is turned where this repository declares it: each file's names are resolved by its `use` lines, to a file of crates/, to a
-library, or to what Rattle makes of a function (Tie, Reads, ..); only the first kind and what the file binds itself is turned.
+A name is turned where this repository declares it: each file's names are resolved by its `use` lines, to a file of
+crates/, to a library, or to what Rattle makes of a function (Tie, Reads, ..); only the first kind and what the file
+binds itself is turned.
 """
 
 import collections
@@ -97,9 +99,13 @@ SPECIAL = {
     ("crates/overlay_seek/specs/laws/First.antt", "is_same"): "is_same_means",
 }
 # A special name that is in snake case already is turned only in a tree in which its other half is still in camel case.
-HALF = {"bare_rows": "bareRows", "labels_at": "labelsAt", "seen_here": "seenHere", "no_body": "noBody", "is_same": "isSame"}
+HALF = {
+    "bare_rows": "bareRows", "labels_at": "labelsAt", "seen_here": "seenHere", "no_body": "noBody", "is_same": "isSame",
+}
 
-TOKEN = re.compile(r'(?P<com>--[^\n]*)|(?P<str>"(?:\\.|[^"\\\n])*")|(?P<ws>\s+)|(?P<del>[(){}\[\];,.])|(?P<id>[^\s(){}\[\];,."]+)|(?P<odd>.)', re.S)
+TOKEN = re.compile(
+    r'(?P<com>--[^\n]*)|(?P<str>"(?:\\.|[^"\\\n])*")|(?P<ws>\s+)|(?P<del>[(){}\[\];,.])|'
+    r'(?P<id>[^\s(){}\[\];,."]+)|(?P<odd>.)', re.S)
 USE = re.compile(r"^[ \t]*(?:pub )?use[ \t]+([^\s{]+?)(?:\.\{([^}]*)\}|[ \t]+as[ \t]+(\S+))?[ \t]*(?:--.*)?$", re.M)
 GHOST = re.compile(r"^[ \t]*(?:pub )?ghost use[ \t]+([^\s{;]+?)(?:\.\{([^}]*)\}|[ \t]+as[ \t]+([^\s;]+))?[ \t]*;", re.M)
 CLAUSE = re.compile(r"\b(?:requires|ensures|invariant|decreases|measure|ghost)\b[^{};()\n]*\{")
@@ -174,7 +180,8 @@ class Names:
 
     def turned(self, home, word):
         """The new spelling of a word that the file home declares, or the word."""
-        for key in ((home, word), (re.sub(r"/specs/(Laws|Promises)/", lambda m: f"/specs/{m[1].lower()}/", home), word)):
+        was = re.sub(r"/specs/(Laws|Promises)/", lambda m: f"/specs/{m[1].lower()}/", home)
+        for key in ((home, word), (was, word)):
             if key in SPECIAL:
                 if word in HALF and HALF[word] not in self.words.get(home, ()):
                     return word
@@ -276,7 +283,8 @@ class Names:
     def rt(self, p):
         t = self.texts[p]
         mask = re.sub(r'"(?:\\.|[^"\\])*"|//[^\n]*|\'(?:\\.|[^\'\\])\'', lambda m: re.sub(r"[^\n]", " ", m[0]), t)
-        parts = [(a, b, "use") for a, b in self.used[p][2]] + [(m.start(), m.end(), "com") for m in re.finditer(r"//[^\n]*", t) if mask[m.start()] == " "]
+        parts = [(a, b, "use") for a, b in self.used[p][2]]
+        parts += [(m.start(), m.end(), "com") for m in re.finditer(r"//[^\n]*", t) if mask[m.start()] == " "]
         parts += [(m.start(), m.end(), "attr") for m in re.finditer(r"#!?\[[^\]]*\]", mask)]
         for m in CLAUSE.finditer(mask):
             depth, i = 1, m.end()
@@ -294,7 +302,8 @@ class Names:
             elif kind == "com":
                 out.append(self.comment(p, t[a:b]))
             elif kind == "attr":
-                out.append(re.sub(r"[\w'\-]+", lambda m: self.bare(p, m[0]) if m[0] in self.used[p][0] else m[0], t[a:b]))
+                turned = lambda m: self.bare(p, m[0]) if m[0] in self.used[p][0] else m[0]
+                out.append(re.sub(r"[\w'\-]+", turned, t[a:b]))
             else:
                 out.append(self.terms(p, t, {}, a, b))
             i = b
@@ -347,7 +356,8 @@ def table():
     was = set()
     for p, t in commit(ORIGINAL).items():
         if p.endswith(".antt"):
-            was.update(w for it in re.findall(r"(?m)^\s*(?:(?:pub|abbrev|unfoldable) )*([^\s(){}:]+(?: [^\s(){}:]+)*) :", t) for w in it.split())
+            heads = re.findall(r"(?m)^\s*(?:(?:pub|abbrev|unfoldable) )*([^\s(){}:]+(?: [^\s(){}:]+)*) :", t)
+            was.update(w for it in heads for w in it.split())
     for w in was:
         if old(w) and w not in rows and snake(w) in now and not MADE.match(w):
             rows[w] = {snake(w)}

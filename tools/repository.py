@@ -1,6 +1,7 @@
 """What the repository's tools share: its files and crates, the imports and declarations of specs/ and src/, and how a
 tool says what it found. A tool looks at the repository that it stands in."""
 import collections
+import functools
 import hashlib
 import os
 import re
@@ -8,8 +9,8 @@ import sys
 
 ROOT = os.path.dirname(os.path.dirname(os.path.abspath(__file__)))
 WIDTH = 120
-KIT = ("check", "libc", "io", "os", "bytes")  # the kit's crates that crates.txt may list
-DEFINITION, PROMISE, LAW = "", "promises", "laws"  # folders of specs/, and the kinds of their files
+KIT = ("anyhow", "bytes", "check", "io", "libc", "os", "thiserror")  # the kit's crates that crates.txt may list
+DEFINITION, PROMISE, LAW = "", "Promises", "Laws"  # folders of specs/ (of proofs/, too, for laws), and kinds of files
 HEAD = {DEFINITION: "-- Believe: ", PROMISE: "-- Promise. ", LAW: "-- Law. "}
 
 # ---------------------------------------------------------------- files
@@ -38,7 +39,7 @@ def names_in(folder):
 def files(folder, *suffixes):
     """The files below a folder with one of these endings, in order, as paths of the repository."""
     for base, folders, found in os.walk(os.path.join(ROOT, folder)):
-        folders[:] = sorted(f for f in folders if f not in ("target", "__pycache__"))
+        folders[:] = sorted(f for f in folders if f not in ("target", "out", "__pycache__"))
         for name in sorted(found):
             if name.endswith(suffixes):
                 yield os.path.relpath(os.path.join(base, name), ROOT)
@@ -56,13 +57,14 @@ def digest(text):
 # ---------------------------------------------------------------- crates.txt
 
 
+@functools.lru_cache(maxsize=None)
 def crates():
-    """The crates in their order: name -> what it stands on."""
+    """The crates in their order: name -> what it stands on. A word after the name, `staticlib`, says of what kind."""
     found = collections.OrderedDict()
     for line in read("crates.txt").split("\n"):
         name, colon, below = line.partition("#")[0].partition(":")
         if colon:
-            found[name.strip()] = below.split()
+            found[name.split()[0]] = below.split()
     return found
 
 
@@ -90,8 +92,16 @@ def parse_use(statement):
     return (m.group(1), None, m.group(2)) if m else (statement, None, None)
 
 
-SPEC_PATH = re.compile(r"Rattle·(\w+?)(?:·specs)?\.specs\.(?:(laws|promises)\.)?([A-Z]\w*)$")
-TYPE_PATH = re.compile(r"Rattle·(\w+?)(?:·specs)?\.specs\.declared\.(\w+)")
+# Of the repository's crates and of the kit's libraries alike.
+SPEC_PATH = re.compile(r"Rattle\.(\w+)\.(?:specs\.(?:(Laws|Promises)\.)?|proofs\.(Laws)\.)([A-Z]\w*)$")
+TYPE_PATH = re.compile(r"Rattle\.(\w+)\.specs\.declared\.(?:\w+\.)*?([A-Z]\w*)")
+
+
+def spec_at(path):
+    """The file of definitions, promises or laws that an import leads to, as (crate, folder, name), or None."""
+    m = SPEC_PATH.match(path)
+    return (m.group(1), m.group(2) or m.group(3) or DEFINITION, m.group(4)) if m and m.group(1) in crates() else None
+
 
 # ---------------------------------------------------------------- declarations of specs/
 
@@ -122,11 +132,10 @@ class Item:
 
 
 class Spec:
-    """A file of specs/: its imports and its declarations."""
+    """A file of definitions, promises or laws: its imports and its declarations."""
 
-    def __init__(self, crate, folder, name):
-        self.crate, self.folder, self.name = crate, folder, name
-        self.path = "/".join(part for part in ("crates", crate, "specs", folder, name + ".antt") if part)
+    def __init__(self, crate, folder, name, path):
+        self.crate, self.folder, self.name, self.path = crate, folder, name, path
         self.place = "/".join(part for part in (crate, folder, name) if part)
         self.text = read(self.path)
         self.uses, self.items = [], []
@@ -185,13 +194,15 @@ class Spec:
 
 
 def specs():
-    """Every file of specs/: (crate, folder, name) -> Spec."""
+    """Every file of definitions, promises and laws: (crate, folder, name) -> Spec."""
     found = {}
     for crate in names_in("crates"):
         for folder in (DEFINITION, PROMISE, LAW):
-            for name in names_in(os.path.join("crates", crate, "specs", folder)):
-                if name.endswith(".antt") and name[0].isupper() and name != "Lib.antt":
-                    found[crate, folder, name[:-5]] = Spec(crate, folder, name[:-5])
+            for part in ("specs", "proofs") if folder == LAW else ("specs",):
+                at = os.path.normpath(os.path.join("crates", crate, part, folder))
+                for name in names_in(at):
+                    if name.endswith(".antt") and name[:-5] not in ("Lib", PROMISE, LAW):
+                        found[crate, folder, name[:-5]] = Spec(crate, folder, name[:-5], f"{at}/{name}")
     return found
 
 
@@ -221,6 +232,33 @@ def code_names(crate):
                         if v:
                             found[f"{inner}{m.group(3)}::{v.group(1)}"] = variant
     return found
+
+
+USE = re.compile(r"(?m)^\s*(?:pub )?use ([^;]+);")
+
+
+def imports(text):
+    """What the `use` lines of code bring in: a name here -> its path."""
+    return dict(pair for use in USE.findall(text) for pair in imported(use))
+
+
+def imported(use, before=""):
+    """The names and paths of one `use`: `a::{b, c as d}` brings in two."""
+    depth, parts, part = 0, [], ""
+    for sign in use + ",":
+        depth += (sign == "{") - (sign == "}")
+        if sign == "," and not depth:
+            parts, part = parts + [part.strip()], ""
+        else:
+            part += sign
+    for part in filter(None, parts):
+        head, brace, rest = part.partition("{")
+        if brace:
+            yield from imported(rest.rpartition("}")[0], before + head)
+        else:
+            path, _, name = (before + part).partition(" as ")
+            path = path.removesuffix("::self")
+            yield name.strip() or path.split("::")[-1], path
 
 
 # ---------------------------------------------------------------- what a tool says

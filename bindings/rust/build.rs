@@ -1,4 +1,4 @@
-//! Finds the proved static library: in the directory MIPSUQAL_LIBRARY; else where `rt staticlib panel_calls` leaves it
+//! Finds the proved static library: in the directory MIPSUQAL_LIBRARY; else where `tools/staticlib` leaves it
 //! in this repository; else where pkg-config says that tools/install put it.
 use std::env;
 use std::path::{Path, PathBuf};

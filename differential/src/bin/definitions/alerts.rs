@@ -25,13 +25,13 @@ pub const DEFINITIONS: &[Definition] = &[
     Definition {
         name: "candidates",
         of: "alerts",
-        preamble: "use Rattle·alerts.specs.Index.{alert-candidates-for-leg}\n",
+        preamble: "use Rattle.alerts.specs.Index.{alert_candidates_for_leg}\n",
         cases: AtRandom(300, candidates),
     },
     Definition {
         name: "label",
         of: "alerts",
-        preamble: "use Rattle·alerts.specs.Label.{label}\n",
+        preamble: "use Rattle.alerts.specs.Label.{label}\n",
         cases: AtRandom(150, label),
     },
 ];
@@ -40,10 +40,10 @@ pub const DEFINITIONS: &[Definition] = &[
 pub const OF_APPLIES: Definition = Definition {
     name: "",
     of: "alerts",
-    preamble: "use Rattle·alerts.specs.Applies.{
-  is-rail-like-mode, is-road-traffic-alert, product-code-token, idfm-product-to-short, route-refs-match, fold-alert-blob,
-  commercial-lines-in-text, is-secondary-line-context, is-primary-context, alert-text-compatible-with-leg,
-  alert-applies-to-leg-with-mode,
+    preamble: "use Rattle.alerts.specs.Applies.{
+  is_rail_like_mode, is_road_traffic_alert, product_code_token, idfm_product_to_short, route_refs_match, fold_alert_blob,
+  commercial_lines_in_text, is_secondary_line_context, is_primary_context, alert_text_compatible_with_leg,
+  alert_applies_to_leg_with_mode,
 }
 ",
     cases: Listed(Vec::new),
@@ -67,36 +67,36 @@ fn applies(random: &mut Random) -> Equation {
     let [trip, route, short, from, to, mode] = &ids;
     let answer = alert_applies_to_leg_with_mode(&host::alert(&alert), trip, route, short, from, to, mode);
     let ids = ids.map(|id| id.literal()).join(" ");
-    equation("alert-applies-to-leg-with-mode", &[alert.literal(), ids], truth(answer))
+    equation("alert_applies_to_leg_with_mode", &[alert.literal(), ids], truth(answer))
 }
 
 fn text_compatible(random: &mut Random) -> Equation {
     let (alert, short) = (alert(random), random.pick(SHORT_NAMES));
     let answer = parts::alert_text_compatible_with_leg(&host::alert(&alert), short);
-    equation("alert-text-compatible-with-leg", &[alert.literal(), short.literal()], truth(answer))
+    equation("alert_text_compatible_with_leg", &[alert.literal(), short.literal()], truth(answer))
 }
 
 fn road_traffic(random: &mut Random) -> Equation {
     let alert = alert(random);
     let answer = parts::is_road_traffic_alert(&host::alert(&alert));
-    equation("is-road-traffic-alert", &[alert.literal()], truth(answer))
+    equation("is_road_traffic_alert", &[alert.literal()], truth(answer))
 }
 
 fn rail_like_mode() -> Vec<Equation> {
     let case =
-        |mode: &&str| equation("is-rail-like-mode", &[mode.literal()], truth(parts::is_rail_like_mode(mode)));
+        |mode: &&str| equation("is_rail_like_mode", &[mode.literal()], truth(parts::is_rail_like_mode(mode)));
     MODES.iter().map(case).collect()
 }
 
 fn product_code(random: &mut Random) -> Equation {
     let before = random.pick(&["", "x:", "STIF:Line::", "9", "é"]);
     let raw = [before, random.pick(CODES), random.pick(&["", ":", "1", "12", "/y"])].concat();
-    equation("product-code-token", &[raw.literal()], option(&parts::product_code_token(&raw)))
+    equation("product_code_token", &[raw.literal()], option(&parts::product_code_token(&raw)))
 }
 
 fn product_to_short() -> Vec<Equation> {
     let case = |code: &&str| {
-        equation("idfm-product-to-short", &[code.literal()], option(&parts::idfm_product_to_short(code)))
+        equation("idfm_product_to_short", &[code.literal()], option(&parts::idfm_product_to_short(code)))
     };
     CODES.iter().map(case).collect()
 }
@@ -104,26 +104,26 @@ fn product_to_short() -> Vec<Equation> {
 fn route_refs_match(random: &mut Random) -> Equation {
     let (leg, informed) = (transit(random).route.string(), transit(random).route.string());
     let answer = parts::route_refs_match(&leg, &informed);
-    equation("route-refs-match", &[leg.literal(), informed.literal()], truth(answer))
+    equation("route_refs_match", &[leg.literal(), informed.literal()], truth(answer))
 }
 
 fn lines_in_text(random: &mut Random) -> Equation {
     let text = alert_text(random, 12);
     let answer = parts::commercial_lines_in_text(&parts::fold_alert_blob(&text));
-    let blob = format!("(fold-alert-blob {})", text.literal());
-    equation("commercial-lines-in-text", &[blob], list(&answer))
+    let blob = format!("(fold_alert_blob {})", text.literal());
+    equation("commercial_lines_in_text", &[blob], list(&answer))
 }
 
 fn secondary_context(random: &mut Random) -> Equation {
     let (blob, short) = (parts::fold_alert_blob(&alert_text(random, 16)), random.pick(SHORT_NAMES));
     let answer = parts::is_secondary_line_context(&blob, short);
-    equation("is-secondary-line-context", &[blob.literal(), short.literal()], truth(answer))
+    equation("is_secondary_line_context", &[blob.literal(), short.literal()], truth(answer))
 }
 
 fn primary_context(random: &mut Random) -> Equation {
     let (blob, short) = (parts::fold_alert_blob(&alert_text(random, 12)), random.pick(SHORT_NAMES));
     let answer = parts::is_primary_context(&blob, short);
-    equation("is-primary-context", &[blob.literal(), short.literal()], truth(answer))
+    equation("is_primary_context", &[blob.literal(), short.literal()], truth(answer))
 }
 
 fn candidates(random: &mut Random) -> Equation {
@@ -138,7 +138,7 @@ fn candidates(random: &mut Random) -> Equation {
     let found = state.alert_candidates_for_leg(&trip.string(), &route.string(), &from.string(), &to.string());
     let numbers: Vec<u64> = found.iter().map(|alert| alert.id.parse().unwrap()).collect();
     let ids = [trip, route, from, to].map(Literal::literal).join(" ");
-    equation("alert-candidates-for-leg", &[list(&alerts), ids], list(&numbers))
+    equation("alert_candidates_for_leg", &[list(&alerts), ids], list(&numbers))
 }
 
 fn label(random: &mut Random) -> Equation {

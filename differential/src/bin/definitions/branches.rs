@@ -132,7 +132,7 @@ fn branches() -> Vec<Equation> {
         let answer = alert_applies_to_leg_with_mode(&host::alert(&alert), trip, route, short, from, to, mode);
         assert_eq!(applies(&mut met, &alert, &leg), answer, "{alert:?} {trip} {route} {short} {from} {to}");
         let ids = [trip, route, short, from, to, mode].map(|id| id.literal()).join(" ");
-        cases.push(equation("alert-applies-to-leg-with-mode", &[alert.literal(), ids], truth(answer)));
+        cases.push(equation("alert_applies_to_leg_with_mode", &[alert.literal(), ids], truth(answer)));
     }
     let (left, sides) = met.left();
     println!("alert tests: sides taken {} of {sides}", sides - left.len());

@@ -10,7 +10,7 @@ use differential::samples::{alert, vehicle, NOON};
 pub const DEFINITIONS: &[Definition] = &[Definition {
     name: "overlay_bounds",
     of: "overlay",
-    preamble: "use Rattle·overlay.specs.Image.{stateOf}\n",
+    preamble: "use Rattle.overlay.specs.Image.{state_of}\n",
     cases: Listed(bounds),
 }];
 
@@ -34,7 +34,7 @@ impl Bounds {
         for (buffer, is_overlay) in [(within, true), (past, false)] {
             let held = held(buffer);
             assert_eq!(held.is_some(), is_overlay);
-            self.0.push(equation("stateOf", &[list(buffer)], option(&held)));
+            self.0.push(equation("state_of", &[list(buffer)], option(&held)));
         }
     }
 

@@ -13,10 +13,10 @@ pub const DEFINITIONS: &[Definition] = &[
         name: "judgement",
         of: "realtime",
         preamble: "\
-use Rattle·realtime.specs.Tree.{tree}
-use Rattle·realtime.specs.Schema.{feed}
-use Rattle·realtime.specs.Judge.{asked, rules}
-use Rattle·realtime.specs.declared.Verdict.{Verdict}
+use Rattle.realtime.specs.Tree.{tree}
+use Rattle.realtime.specs.Schema.{feed}
+use Rattle.realtime.specs.Judge.{asked, rules}
+use Rattle.realtime.specs.declared.Verdict.{Verdict}
 ",
         cases: AtRandom(300, judgement),
     },
@@ -24,13 +24,13 @@ use Rattle·realtime.specs.declared.Verdict.{Verdict}
         name: "leaves",
         of: "decode",
         preamble: "\
-use Rattle·basics.specs.Options.{Maybe, bindO}
-use Rattle·realtime.specs.Tree.{Tree, tree}
-use Rattle·realtime.specs.Schema.{feed}
-use Rattle·decode.specs.Leaves.{Trips, differential, timestampIn, leaves}
+use Rattle.basics.specs.Options.{Maybe, bind_o}
+use Rattle.realtime.specs.Tree.{Tree, tree}
+use Rattle.realtime.specs.Schema.{feed}
+use Rattle.decode.specs.Leaves.{Trips, differential, timestamp_in, leaves}
 
 abbrev after : List ℕ → Trips → Option (Bool × (Maybe ℤ × Trips))
-after m old = bindO (tree feed 0 m) (λ t. some (differential t, (timestampIn t, leaves (102 ∷ []) t old)))
+after m old = bind_o (tree feed 0 m) (λ t. some (differential t, (timestamp_in t, leaves (102 ∷ []) t old)))
 ",
         cases: AtRandom(300, leaves),
     },

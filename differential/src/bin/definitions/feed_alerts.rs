@@ -13,10 +13,10 @@ pub const DEFINITIONS: &[Definition] = &[
         name: "alert_judgement",
         of: "alerts_feed",
         preamble: "\
-use Rattle·realtime.specs.Tree.{tree}
-use Rattle·realtime.specs.Schema.{feed, alertMessage}
-use Rattle·realtime.specs.Judge.{asked, rulesBy}
-use Rattle·realtime.specs.declared.Verdict.{Verdict}
+use Rattle.realtime.specs.Tree.{tree}
+use Rattle.realtime.specs.Schema.{feed, alert_message}
+use Rattle.realtime.specs.Judge.{asked, rules_by}
+use Rattle.realtime.specs.declared.Verdict.{Verdict}
 ",
         cases: AtRandom(100, judgement),
     },
@@ -26,15 +26,15 @@ use Rattle·realtime.specs.declared.Verdict.{Verdict}
 
 /// The sheet of feed `f`.
 const SHEETS: &str = "\
-use Rattle·basics.specs.Options.{bindO}
-use Rattle·formats.specs.Format.{Value}
-use Rattle·realtime.specs.Tree.{tree}
-use Rattle·realtime.specs.Schema.{feed, alertMessage}
-use Rattle·alerts.specs.Alert.{alertSheet}
-use Rattle·alerts_feed.specs.Sheet.{sheetIn}
+use Rattle.basics.specs.Options.{bind_o}
+use Rattle.formats.specs.Format.{Value}
+use Rattle.realtime.specs.Tree.{tree}
+use Rattle.realtime.specs.Schema.{feed, alert_message}
+use Rattle.alerts.specs.Alert.{alert_sheet}
+use Rattle.alerts_feed.specs.Sheet.{sheet_in}
 
-abbrev sheetOf : List ℕ → Option (Value alertSheet)
-sheetOf m = bindO (tree feed alertMessage m) (λ t. some (sheetIn (102 ∷ []) t))
+abbrev sheet_of : List ℕ → Option (Value alert_sheet)
+sheet_of m = bind_o (tree feed alert_message m) (λ t. some (sheet_in (102 ∷ []) t))
 ";
 
 fn any_message(random: &mut Random) -> Vec<u8> {
@@ -54,8 +54,8 @@ fn judgement(random: &mut Random) -> Equation {
         Err(4) => "Broken",
         Err(_) => "Text",
     };
-    let left = format!("(tree feed alertMessage {})", list(&message));
-    equation("asked (rulesBy 62) alertMessage", &[left], format!("Verdict.{verdict}"))
+    let left = format!("(tree feed alert_message {})", list(&message));
+    equation("asked (rules_by 62) alert_message", &[left], format!("Verdict.{verdict}"))
 }
 
 fn sheet_of(message: &[u8]) -> Equation {
@@ -64,7 +64,7 @@ fn sheet_of(message: &[u8]) -> Equation {
         Err(4) => "none".into(),
         Err(_) => panic!("refused by a question that is not asked here"),
     };
-    equation("sheetOf", &[list(message)], right)
+    equation("sheet_of", &[list(message)], right)
 }
 
 fn at_random(random: &mut Random) -> Equation {

@@ -10,13 +10,13 @@ pub const DEFINITIONS: &[Definition] = &[
     Definition {
         name: "write_signed",
         of: "formats",
-        preamble: "use Rattle·formats.specs.Format.{Format, signed, write}\n",
+        preamble: "use Rattle.formats.specs.Format.{Format, signed, write}\n",
         cases: AtRandom(100, write_signed),
     },
     Definition {
         name: "read_number",
         of: "formats",
-        preamble: "use Rattle·formats.specs.Format.{Format, number, read}\n",
+        preamble: "use Rattle.formats.specs.Format.{Format, number, read}\n",
         cases: AtRandom(200, read_number),
     },
 ];

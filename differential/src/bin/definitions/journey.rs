@@ -25,14 +25,14 @@ const OF_CARDS: Definition = Definition {
     name: "",
     of: "journey",
     preamble: "\
-use Rattle·formats.specs.Format.{Value}
-use Rattle·overlay.specs.State.{State}
-use Rattle·overlay.specs.Records.{shown}
-use Rattle·journey.specs.Card.{card, cardOf, cardValue}
-use Rattle·journey.specs.Enrich.{enrich-with-realtime}
+use Rattle.formats.specs.Format.{Value}
+use Rattle.overlay.specs.State.{State}
+use Rattle.overlay.specs.Records.{shown}
+use Rattle.journey.specs.Card.{card, card_of, card_value}
+use Rattle.journey.specs.Enrich.{enrich_with_realtime}
 
 abbrev finished : State → Value card → Value card
-finished s v = cardValue (enrich-with-realtime (shown s) (cardOf v))
+finished s v = card_value (enrich_with_realtime (shown s) (card_of v))
 ",
     cases: Listed(Vec::new),
 };

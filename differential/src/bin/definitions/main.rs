@@ -1,5 +1,6 @@
 //! Writes crates of antt, one for each definition, in which each case is an equation, closed by `refl`,
 //! between the definition at closed inputs and the original's answer. The checker then computes it.
+//! They are a repository of their own, in DIRECTORY; each one's file `stands_on` names the crates below it.
 //! usage: definitions DIRECTORY SEED SHARE (in the repository's folder; of the cases one in SHARE is written)
 mod alerts;
 mod branches;
@@ -56,13 +57,9 @@ pub fn equation(definition: &str, inputs: &[String], right: String) -> Equation 
 }
 
 const COMMON: &str = "\
-use mathlib.Core.Path.{_≡_, refl}
-use mathlib.Core.Bool.{Bool, true, false}
-use mathlib.Core.List.{List, [], _∷_}
-use mathlib.Core.Logic.{_⊎_, inl, inr}
-use mathlib.Core.Option.{Option, none, some}
-use Prim.Native.Nat.{ℕ}
-use lib.IntN.{ℤ, pos, negsuc}
+use Rattle.std.specs.Prelude.{◌≡◌, refl, Bool, true, false, List, [], ◌∷◌, ◌⊎◌, ℕ, ℤ, pos, negsuc}
+use Rattle.std.proofs.Common.{inl, inr}
+use Rattle.std.proofs.Math.Option.{Option, none, some}
 ";
 
 fn main() {
@@ -83,19 +80,18 @@ fn main() {
         panel::DEFINITIONS,
         refusals::DEFINITIONS,
     ];
-    let mut needed = BTreeSet::new();
+    let mut listed = String::new();
     for definition in known.into_iter().flatten() {
         let crates = stands_on(definition.of);
         if crates.is_empty() {
             println!("{}: left out, there is no crate {}", definition.name, definition.of);
         } else {
             let cases = cases(definition, &mut Random::new(seed), share);
-            write_cases(&directory.join("cases").join(definition.name), definition, &crates, &cases);
-            needed.extend(crates);
+            write_cases(&directory.join("crates").join(definition.name), definition, &crates, &cases);
+            listed += &format!("{}:\n", definition.name);
         }
     }
-    let needed: String = needed.iter().map(|name| format!("{name}\n")).collect();
-    write(&directory.join("crates"), &needed);
+    write(&directory.join("crates.txt"), &listed);
 }
 
 /// One in `share` of the definition's cases, and no fewer than the least.
@@ -139,7 +135,8 @@ fn write_cases(folder: &Path, definition: &Definition, crates: &BTreeSet<String>
     let counted =
         counted.iter().filter(|(count, _)| *count > 0).map(|(count, answer)| format!(", {count} {answer}"));
     write(&folder.join("count"), &format!("{} cases{}", cases.len(), counted.collect::<String>()));
-    write(&folder.join("of"), definition.of);
+    let stands_on: String = crates.iter().map(|name| format!("{name}\n")).collect();
+    write(&folder.join("stands_on"), &stands_on);
 }
 
 fn write(file: &Path, text: &str) {

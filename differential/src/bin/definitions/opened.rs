@@ -6,8 +6,8 @@ use std::fs;
 /// The crate and all that it stands on, by crates.txt; none where it is not listed.
 pub fn stands_on(name: &str) -> BTreeSet<String> {
     let listed = fs::read_to_string("crates.txt").expect("crates.txt");
-    let Some((_, below)) = listed.lines().filter_map(|line| line.split_once(':')).find(|(of, _)| *of == name)
-    else {
+    let lines = listed.lines().filter_map(|line| line.split_once(':'));
+    let Some((_, below)) = lines.into_iter().find(|(of, _)| of.split(' ').next() == Some(name)) else {
         return BTreeSet::new();
     };
     let mut crates: BTreeSet<String> = below.split_whitespace().flat_map(stands_on).collect();
@@ -21,16 +21,21 @@ pub fn opened(crates: &BTreeSet<String>) -> (String, String) {
     let mut names = String::new();
     for name in crates {
         for module in modules(name) {
-            let alias = format!("{name}-{module}");
+            let alias = format!("{}{module}", in_camel_case(name));
             let marked = marked(name, &module);
             if !marked.is_empty() {
-                uses += &format!("use Rattle·{name}.specs.{module} as {alias}\n");
+                uses += &format!("use Rattle.{name}.specs.{module} as {alias}\n");
                 names.extend(marked.iter().map(|definition| format!(" {alias}.{definition}")));
             }
         }
     }
     let unfolding = if names.is_empty() { names } else { format!("unfolding{names}\n") };
     (uses, unfolding)
+}
+
+fn in_camel_case(name: &str) -> String {
+    let capital = |word: &str| word[..1].to_uppercase() + &word[1..];
+    name.split('_').map(capital).collect()
 }
 
 /// The modules that the crate's specs/ list, where it has any.

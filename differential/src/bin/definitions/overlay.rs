@@ -16,7 +16,7 @@ pub const DEFINITIONS: &[Definition] = &[
     Definition {
         name: "paris_date",
         of: "calendar",
-        preamble: "use Rattle·calendar.specs.Paris.{parisDigits}\n",
+        preamble: "use Rattle.calendar.specs.Paris.{paris_digits}\n",
         cases: Listed(paris_dates),
     },
     Definition { name: "resolve_trip", cases: AtRandom(300, resolve_trip), ..OF_LOOKUP },
@@ -25,7 +25,7 @@ pub const DEFINITIONS: &[Definition] = &[
     Definition {
         name: "state_of_buffer",
         of: "overlay",
-        preamble: "use Rattle·overlay.specs.Image.{stateOf}\n",
+        preamble: "use Rattle.overlay.specs.Image.{state_of}\n",
         cases: AtRandom(200, state_of_buffer),
     },
 ];
@@ -35,8 +35,8 @@ const OF_LOOKUP: Definition = Definition {
     name: "",
     of: "overlay",
     preamble: "\
-use Rattle·overlay.specs.Records.{shown}
-use Rattle·overlay.specs.Lookup.{resolve-trip-rt, find-stop-update, get-vehicle-for-trip}
+use Rattle.overlay.specs.Records.{shown}
+use Rattle.overlay.specs.Lookup.{resolve_trip_rt, find_stop_update, get_vehicle_for_trip}
 ",
     cases: Listed(Vec::new),
 };
@@ -67,7 +67,7 @@ fn paris_dates() -> Vec<Equation> {
         }
     }
     seconds.retain(|second| (FIRST..=LAST).contains(second));
-    let case = |second: &i64| equation("parisDigits", &[second.to_string()], date(*second).literal());
+    let case = |second: &i64| equation("paris_digits", &[second.to_string()], date(*second).literal());
     seconds.iter().map(case).collect()
 }
 
@@ -104,7 +104,7 @@ fn resolve_trip(random: &mut Random) -> Equation {
     });
     let date = date(leg.scheduled_departure);
     let inputs = [trip.literal(), route.literal(), leg.direction.literal(), date.literal()].join(" ");
-    equation("resolve-trip-rt", &[shown(&original), inputs], right)
+    equation("resolve_trip_rt", &[shown(&original), inputs], right)
 }
 
 fn find_stop_update(random: &mut Random) -> Equation {
@@ -122,7 +122,7 @@ fn find_stop_update(random: &mut Random) -> Equation {
     }
     let right = option(&answer.map(|update| layout::stop_update(feed, update)));
     let inputs = [feed.literal(), sequence.literal(), leg.from.literal(), layout::trip(feed, trip).literal()];
-    equation("find-stop-update", &inputs, right)
+    equation("find_stop_update", &inputs, right)
 }
 
 fn vehicle_for_trip(random: &mut Random) -> Equation {
@@ -137,12 +137,12 @@ fn vehicle_for_trip(random: &mut Random) -> Equation {
         let place = [trip.literal(), latitude.literal(), longitude.literal(), updated.literal()];
         format!("(some {})", pairs(&place))
     });
-    equation("get-vehicle-for-trip", &[shown(&original), trip.literal()], right)
+    equation("get_vehicle_for_trip", &[shown(&original), trip.literal()], right)
 }
 
 fn state_of_buffer(random: &mut Random) -> Equation {
     let whole = overlay(&state(random)).written();
     let mut buffer = if random.once_in(3) { whole } else { damaged(random, whole) };
     buffer.extend(vec![0; random.below(3)]);
-    equation("stateOf", &[list(&buffer)], option(&held(&buffer)))
+    equation("state_of", &[list(&buffer)], option(&held(&buffer)))
 }

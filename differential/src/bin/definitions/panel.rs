@@ -22,26 +22,25 @@ pub const OF_PANEL: Definition = Definition {
     name: "",
     of: "panel",
     preamble: "\
-use mathlib.Core.List.{map, _++_}
-use lib.ListN.{replicate}
-use Rattle·panel.specs.Questions.{Lengths, noWork}
-use Rattle·panel.specs.Calls.{Call, fresh, message, alertSheet, vehicleSheet, card, report, Gave, gives, run}
+use Rattle.std.specs.Prelude.{map, ◌++◌, replicate}
+use Rattle.panel.specs.Questions.{Lengths, no_work}
+use Rattle.panel.specs.Calls.{Call, fresh, message, alert_sheet, vehicle_sheet, card, report, Gave, gives, run}
 
 abbrev lengths : ℕ → ℕ → Lengths
-lengths n m = record { overlay = n; card = m; sheet = 0; work = noWork }
+lengths n m = record { overlay = n; card = m; sheet = 0; work = no_work }
 
-abbrev givenOn : List ℕ → ℕ → ℕ → List Call → List (ℕ × List ℕ)
-givenOn old n m calls = map (λ (g : Gave). (g .number, g .out)) (run (lengths n m) old calls)
+abbrev given_on : List ℕ → ℕ → ℕ → List Call → List (ℕ × List ℕ)
+given_on old n m calls = map (λ (g : Gave). (g.number, g.out)) (run (lengths n m) old calls)
 
 abbrev given : ℕ → ℕ → List Call → List (ℕ × List ℕ)
-given n m calls = givenOn (gives (lengths n m) [] (fresh n) .out) n m calls
+given n m calls = given_on (gives (lengths n m) [] (fresh n)).out n m calls
 ",
     cases: Listed(Vec::new),
 };
 
 /// The bounds of the questions. Left out are inputs that the checker doesn't take: what question 3 refuses or
 /// lets pass at 1,048,576 bytes, and a single message or vehicle sheet with as many entries as question 7 lets
-/// pass. `panel/laws/EachQuestion` and `panel/laws/Seven` have those for every input.
+/// pass. `panel/Laws/EachQuestion` and `panel/Laws/Seven` have those for every input.
 fn questions() -> Vec<Equation> {
     let lists = bounds().into_iter().flat_map(|bound| [bound.within, bound.past]).flatten();
     let (computed, left): (Vec<_>, Vec<_>) = lists.partition(|calls| calls.last().is_some_and(taken));
@@ -106,7 +105,7 @@ fn equal(calls: &[Call]) -> Equation {
     if computed == 0 {
         equation("given", &inputs, right)
     } else {
-        equation(&format!("givenOn {}", filled(overlay, &old)), &inputs, right)
+        equation(&format!("given_on {}", filled(overlay, &old)), &inputs, right)
     }
 }
 
@@ -159,9 +158,9 @@ pub fn term(call: &Call, length: usize, work: &[usize]) -> String {
     let term = match call {
         Call::Fresh => "fresh".into(),
         Call::Message { feed, message } => format!("message {} {}", list(feed), list(message)),
-        Call::AlertSheet { feed, sheet } => format!("alertSheet {} {}", list(feed), list(sheet)),
+        Call::AlertSheet { feed, sheet } => format!("alert_sheet {} {}", list(feed), list(sheet)),
         Call::VehicleSheet { feed, sheet, clock } => {
-            format!("vehicleSheet {} {} {}", list(feed), list(sheet), clock.literal())
+            format!("vehicle_sheet {} {} {}", list(feed), list(sheet), clock.literal())
         }
         Call::Card { card } => format!("card {}", list(card)),
         Call::Report { feed } => format!("report {}", list(feed)),

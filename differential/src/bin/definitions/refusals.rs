@@ -20,10 +20,9 @@ pub const DEFINITIONS: &[Definition] = &[
 const OF_REFUSALS: Definition = Definition {
     name: "",
     preamble: "\
-use mathlib.Core.List.{_++_}
-use lib.ListN.{replicate}
-use Rattle·panel.specs.Questions.{Lengths}
-use Rattle·panel.specs.Calls.{Call, fresh, message, alertSheet, vehicleSheet, card, report, Gave, gives}
+use Rattle.std.specs.Prelude.{◌++◌, replicate}
+use Rattle.panel.specs.Questions.{Lengths}
+use Rattle.panel.specs.Calls.{Call, fresh, message, alert_sheet, vehicle_sheet, card, report, Gave, gives}
 
 abbrev lengths : ℕ → ℕ → Lengths
 lengths n m = record {
@@ -32,14 +31,14 @@ lengths n m = record {
   sheet = 0;
   work = record {
     message = 4 ∷ 2 ∷ [];
-    alertSheet = 3 ∷ [];
-    vehicleSheet = 1 ∷ 5 ∷ [];
+    alert_sheet = 3 ∷ [];
+    vehicle_sheet = 1 ∷ 5 ∷ [];
     card = 2 ∷ 2 ∷ 6 ∷ [];
   };
 }
 
 abbrev everything : ℕ → ℕ → List ℕ → Call → ℕ × (List ℕ × List (List ℕ))
-everything n m old c = let g = gives (lengths n m) old c in (g .number, (g .out, g .work))
+everything n m old c = let g = gives (lengths n m) old c in (g.number, (g.out, g.work))
 ",
     ..OF_PANEL
 };

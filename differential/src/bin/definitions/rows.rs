@@ -12,10 +12,10 @@ use differential::tables::*;
 pub const DEFINITIONS: &[Definition] = &[
     Definition {
         name: "tables",
-        preamble: "use Rattle·alerts.specs.Applies.{
-  railModes, accents, letters, numerals, trams, letterRows, numberRows, bareRows, markers, needleRows, primaryRows,
+        preamble: "use Rattle.alerts.specs.Applies.{
+  rail_modes, accents, letters, numerals, trams, letter_rows, number_rows, bare_rows, markers, needle_rows, primary_rows,
 }
-use Rattle·alerts.specs.laws.LineCodes.{listed}
+use Rattle.alerts.proofs.Laws.LineCodes.{listed}
 ",
         cases: Listed(tables),
         ..OF_APPLIES
@@ -36,17 +36,17 @@ fn tables() -> Vec<Equation> {
     });
     let products = PRODUCTS.iter().map(|(code, line)| pairs(&[code.literal(), line.literal()]) + " ∷ ");
     vec![
-        same("railModes", list(MODES)),
+        same("rail_modes", list(MODES)),
         same("accents", format!("({}[])", accents.collect::<String>())),
         same("letters", list(LETTERS)),
         same("numerals", list(NUMERALS)),
         same("trams", list(TRAMS)),
-        same("letterRows", quoted(LETTER_ROWS)),
-        same("numberRows", quoted(NUMBER_ROWS)),
-        same("bareRows", quoted(BARE_ROWS)),
+        same("letter_rows", quoted(LETTER_ROWS)),
+        same("number_rows", quoted(NUMBER_ROWS)),
+        same("bare_rows", quoted(BARE_ROWS)),
         same("markers", list(MARKERS)),
-        same("needleRows", quoted(NEEDLE_ROWS)),
-        same("primaryRows", quoted(PRIMARY_ROWS)),
+        same("needle_rows", quoted(NEEDLE_ROWS)),
+        same("primary_rows", quoted(PRIMARY_ROWS)),
         same("listed", format!("({}[])", products.collect::<String>())),
     ]
 }
@@ -128,7 +128,7 @@ fn words(rows: &mut Rows) {
         hits: &|text| MODES.iter().filter(|mode| is(text, mode)).map(|mode| mode.to_string()).collect(),
         case: &|text| {
             let yes = parts::is_rail_like_mode(text);
-            (equation("is-rail-like-mode", &[text.literal()], truth(yes)), yes)
+            (equation("is_rail_like_mode", &[text.literal()], truth(yes)), yes)
         },
     };
     MODES.iter().for_each(|mode| rows.row(&modes, mode, &[], mode));
@@ -141,7 +141,7 @@ fn words(rows: &mut Rows) {
             let right = option(&line);
             let known = PRODUCTS.iter().find(|(code, _)| is(text, code)).map(|(_, line)| line.to_string());
             assert_eq!(line, known);
-            (equation("idfm-product-to-short", &[text.literal()], right), line.is_some())
+            (equation("idfm_product_to_short", &[text.literal()], right), line.is_some())
         },
     };
     PRODUCTS.iter().for_each(|(code, _)| rows.row(&products, code, &[], code));
@@ -149,7 +149,7 @@ fn words(rows: &mut Rows) {
         hits: &folded,
         case: &|text| {
             let plain = parts::fold_alert_blob(text);
-            (equation("fold-alert-blob", &[text.literal()], plain.literal()), plain.is_ascii())
+            (equation("fold_alert_blob", &[text.literal()], plain.literal()), plain.is_ascii())
         },
     };
     for letter in ACCENTS.iter().flat_map(|(_, letters)| letters.chars()) {
@@ -164,7 +164,7 @@ fn line_names(rows: &mut Rows) {
             hits: &|text| line_rows(text, name),
             case: &|text| {
                 let named = parts::commercial_lines_in_text(text);
-                let case = equation("commercial-lines-in-text", &[text.literal()], list(&named));
+                let case = equation("commercial_lines_in_text", &[text.literal()], list(&named));
                 (case, named.iter().any(|line| line == name))
             },
         };
@@ -192,7 +192,7 @@ fn advice(rows: &mut Rows) {
         hits: &|text| secondary(text, "5"),
         case: &|text| {
             let yes = parts::is_secondary_line_context(text, "5");
-            (equation("is-secondary-line-context", &[text.literal(), "5".literal()], truth(yes)), yes)
+            (equation("is_secondary_line_context", &[text.literal(), "5".literal()], truth(yes)), yes)
         },
     };
     let always = |marker: &str, place: String| -> Vec<String> {
@@ -228,7 +228,7 @@ fn subjects(rows: &mut Rows) {
             hits: &|text| primary(text, name),
             case: &|text| {
                 let yes = parts::is_primary_context(text, name);
-                (equation("is-primary-context", &[text.literal(), name.literal()], truth(yes)), yes)
+                (equation("is_primary_context", &[text.literal(), name.literal()], truth(yes)), yes)
             },
         };
         for row in PRIMARY_ROWS.iter().map(|row| around(row, name)) {
@@ -248,7 +248,7 @@ fn road_traffic(rows: &mut Rows) {
         case: &|text| {
             let alert = Alert { header: Some(text.into()), ..Alert::default() };
             let yes = parts::is_road_traffic_alert(&host::alert(&alert));
-            (equation("is-road-traffic-alert", &[alert.literal()], truth(yes)), yes)
+            (equation("is_road_traffic_alert", &[alert.literal()], truth(yes)), yes)
         },
     };
     rows.row(&table, ROAD[0], &[], ROAD[0]);
