@@ -47,7 +47,8 @@ pub goes_on : (s : List ℕ) (n left i : ℕ) → Passed s n left i → i < leng
     → Passed s n left (i + 1)
 goes_on s n left i p h e = one_more s n left left i p h (on_byte left (get_or s i 0) (drop (suc i) s) e)
 
-pub begins : (s : List ℕ) (n left i : ℕ) → Passed s n left i → i < length s → continues (get_or s i 0) ≡ false → 0 < left
+pub begins : (s : List ℕ) (n left i : ℕ) → Passed s n left i → i < length s → continues (get_or s i 0) ≡ false
+    → 0 < left
     → Passed s n (left - 1) (i + 1)
 begins s n left i p h e k = one_more s n left (left - 1) i p h (first_byte left (get_or s i 0) (drop (suc i) s) e k)
 

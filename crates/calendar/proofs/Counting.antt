@@ -133,5 +133,6 @@ module _ {y : ℕ} {days : List ℕ} {d₀ m d : ℕ} (M : Months y days d₀ m 
       let e : m ≡ length days = omega (arith, M.within) in
       sym (M.same ∙ rw (drop_of_length-le days h) (ap (λ k. record { year = y; month = k + 1; day = d }) e))
 
-pub month_days_same : (y d k : ℕ) → k ≡ leap_day y → month_from y (month_days k) 1 d ≡ month_from y (month_days (leap_day y)) 1 d
+pub month_days_same : (y d k : ℕ) → k ≡ leap_day y
+    → month_from y (month_days k) 1 d ≡ month_from y (month_days (leap_day y)) 1 d
 month_days_same y d k e = ap (λ j. month_from y (month_days j) 1 d) e

@@ -23,7 +23,8 @@ one_o_clock n = n * 86400 + 3600
 -- whether the clocks of Paris are two hours ahead
 unfoldable pub is_summer : ℕ → Bool
 is_summer s =
-    leb (one_o_clock (last_sunday (march_end (s / 86400)))) s && ltb s (one_o_clock (last_sunday (october_end (s / 86400))))
+    leb (one_o_clock (last_sunday (march_end (s / 86400)))) s && ltb s
+    (one_o_clock (last_sunday (october_end (s / 86400))))
 
 abbrev pub offset_at : ℕ → ℕ
 offset_at s = cond (is_summer s) 7200 3600

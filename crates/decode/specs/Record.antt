@@ -19,7 +19,8 @@ update_in s =
 
 -- the updates of an entity, a later one at a sequence over an earlier one
 unfoldable pub updates_in : Tree → List (ℕ × StopUpdate)
-updates_in e = puts numbers (map {B = ℕ × StopUpdate} (λ s. ((stop_update s).sequence, update_in s)) (rep 2 (sub 3 e))) []
+updates_in e = puts numbers (map {B = ℕ × StopUpdate} (λ s. ((stop_update s).sequence, update_in s)) (rep 2 (sub 3 e)))
+    []
 
 -- THE RECORD of an entity
 unfoldable pub trip_in : Tree → Trip

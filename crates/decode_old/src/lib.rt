@@ -1,5 +1,7 @@
 // The old trips of a feed join the index before a message's entities: where the message says what has changed, and not
 // all there is.
+#![tactic(auto)]
+
 ghost use Rattle.std.specs.Prelude.{◌≡◌, ◌+◌, ◌≤◌};
 ghost use Rattle.decode_slots.specs.Promises.Index.{Open, Lent};
 ghost use Rattle.decode.specs.Sizes.{beyond, most_old};

@@ -108,7 +108,8 @@ module _ (keys marks order : List ℕ) (n : ℕ) (S : SoundIndex keys marks orde
       (omega (arith, length-take-le n order (omega (arith, S.ordered, S.counted)))) in
       omega arith
 
-  pub index_at : (i : ℕ) → i < n → get_or (index keys marks order n) i nowhere ≡ slot_entry keys marks (get_or order i 0)
+  pub index_at : (i : ℕ) → i < n
+      → get_or (index keys marks order n) i nowhere ≡ slot_entry keys marks (get_or order i 0)
   index_at i h =
       slotted_at keys marks (take n order) i
       (omega (arith, length-take-le n order (omega (arith, S.ordered, S.counted))))

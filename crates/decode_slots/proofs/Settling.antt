@@ -171,7 +171,8 @@ module _ (keys marks order : List ℕ) (n len from to : ℕ) (S : SoundIndex key
 
   -- another place for the slot at rank r
   over_at : (r : ℕ) (k : List ℕ) (i : ℕ) → r < n → k ≡ slot_key keys marks (get_or order r 0) → i < n
-      → slot_entry keys (remarked marks (get_or order r 0) from to) (get_or order i 0) ≡ get_or (set map r (k, (from, to))) i
+      → slot_entry keys (remarked marks (get_or order r 0) from to) (get_or order i 0)
+      ≡ get_or (set map r (k, (from, to))) i
       nowhere
   over_at r k i h e g = go (eqb i r) refl
     where
@@ -320,7 +321,8 @@ module _ (keys marks order : List ℕ) (n len from to : ℕ) (S : SoundIndex key
         (sym f ∙ t) in
         (rw e at (ltb-true r n h.0), rw e at h.1)
 
-    missed : b ≡ false → rank < n → is_same (lex_of (key_in keys n len) (slot_key keys marks (get_or order rank 0))) ≡ false
+    missed : b ≡ false → rank < n
+        → is_same (lex_of (key_in keys n len) (slot_key keys marks (get_or order rank 0))) ≡ false
     missed t l = rw (← e) (rw (lt-ltb r n (omega arith)) at (sym f ∙ t))
 
     pub settles_over : (slot : ℕ) (marks' : List ℕ) → b ≡ true → slot ≡ get_or order r 0

@@ -91,7 +91,8 @@ module _ (s : List ℕ) (at b : ℕ) (h : at < length s) (e : b ≡ get_or s at 
   module _ (k : ℕ) (z : k ≡ 0 → ⊥) (u : b < 256) (o : Numeral)
       (r : o ≡ numbered s (little_r (k - 1) (drop (at + 1) s))) where
     next : little_r k (drop at s) ≡ bind (little_r (k - 1) (drop (at + 1) s)) (λ h t. some (b + 256 * h, t))
-    next = let i : k ≡ suc (k - 1) = omega arith in ap (λ k. little_r k (drop at s)) i ∙ rw (opened, lt-ltb b 256 u) refl
+    next = let i : k ≡ suc (k - 1) = omega arith in ap (λ k. little_r k (drop at s)) i
+        ∙ rw (opened, lt-ltb b 256 u) refl
 
     pub little_bad : o ≡ Bad → Bad ≡ numbered s (little_r k (drop at s))
     little_bad f = rw (next, bad_none s (little_r (k - 1) (drop (at + 1) s)) o r f) refl

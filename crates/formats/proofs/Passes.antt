@@ -157,7 +157,8 @@ module _ (depth : ℕ) (t : List ℕ) (n : ℕ) (s : List ℕ) (at : ℕ) where
     leaf_any (suc (suc (suc (suc (suc (suc (suc zero))))))) a b h = refl
     leaf_any (suc (suc (suc (suc (suc (suc (suc (suc k)))))))) a b h = absurd (omega arith)
 
-    pub pass_leaf : (r : Skip) → r ≡ skip_to (leaf_format kind a 0) s at → kind < 8 → r ≡ skip_to (format_at depth t n) s at
+    pub pass_leaf : (r : Skip) → r ≡ skip_to (leaf_format kind a 0) s at → kind < 8
+        → r ≡ skip_to (format_at depth t n) s at
     pass_leaf r e h = rw (node_leaf depth t n z kind a b ek ea eb h) (e ∙ leaf_any kind a b h)
 
     -- a list

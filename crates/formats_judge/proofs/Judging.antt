@@ -114,7 +114,8 @@ module _ (f : Format) (s : List ℕ) (n at g : ℕ) (r : Judge) (e : r ≡ judge
         ∙ ap (judged_after g) m ∙ i
 
 -- the count of a list, and then its values
-list_go : (l : ℕ) (f : Format) (s t : List ℕ) (n : ℕ) (o : Option (List (Value f) × List ℕ)) → many_r (element f) n t ≡ o
+list_go : (l : ℕ) (f : Format) (s t : List ℕ) (n : ℕ) (o : Option (List (Value f) × List ℕ))
+    → many_r (element f) n t ≡ o
     → judged_after (answer 7 (leb n l)) (judged (verdicts f) s o) ≡ judged (verdict (list l f)) s o
 list_go l f s t n none e = refl
 list_go l f s t n (some y) e =
@@ -143,7 +144,8 @@ module _ (depth : ℕ) (t : List ℕ) (n : ℕ) (s : List ℕ) (at : ℕ) where
             nothing (verdict (format_at depth t n)) s (too_many depth t n s at z kind a b ek ea eb k o r m p e l)
 
         pub list_good : (x : ℕ) → x ≡ answer 7 (leb m a) → (y : Judge)
-            → y ≡ judged_after x (judge_many (format_at (depth - 1) t b) m s p) → y ≡ judge_to (format_at depth t n) s at
+            → y ≡ judged_after x (judge_many (format_at (depth - 1) t b) m s p)
+            → y ≡ judge_to (format_at depth t n) s at
         list_good x c y f =
             let g = format_at (depth - 1) t b in
             rw (node_list depth t n z kind a b ek ea eb k, (count s at m p o r e).reads)

@@ -40,7 +40,8 @@ module _ (p : ℕ → Bool) where
   span_eight v i = rw (add-zero i)
 
   pub span_four : (v : List ℕ) (i : ℕ)
-      → (((p (get_or v i 0) && p (get_or v (i + 1) 0)) && p (get_or v (i + 2) 0)) && p (get_or v (i + 3) 0)) ≡ span p 4 v i
+      → (((p (get_or v i 0) && p (get_or v (i + 1) 0)) && p (get_or v (i + 2) 0)) && p (get_or v (i + 3) 0))
+      ≡ span p 4 v i
   span_four v i = rw (add-zero i)
 
   span_join : (m n : ℕ) (v : List ℕ) (i : ℕ) → span p (m + n) v i ≡ (span p m v i && span p n v (i + m))

@@ -1,4 +1,6 @@
 // Where the parts of a card and of its legs stand: quick passes, as formats_skip has them over leaves.
+#![tactic(auto)]
+
 ghost use Rattle.std.specs.Prelude.{◌<◌, length};
 ghost use Rattle.formats.specs.Format.{list};
 ghost use Rattle.formats_read.specs.Promises.Fields.{part};

@@ -1,4 +1,6 @@
 // Times of an event: what a trip's record and a stop's update make of a scheduled time. Times are 64 bits, delays 32.
+#![tactic(auto)]
+
 ghost use Rattle.std.specs.Prelude.{◌≡◌, false, ◌<◌};
 ghost use Rattle.std.proofs.Common.{inl};
 ghost use Rattle.std.specs.Int.Signed.{mag};

@@ -45,6 +45,7 @@ unfoldable pub after_vehicles : List ℕ → Vehicles → ℤ → State → Stat
 after_vehicles f entries clock s =
     let F = feed_at f s in
     put_feed f
-    (feed_with (timestamp_of F) (length (trips_of F)) (trips_of F) (without_stale clock (puts texts entries (vehicles_of F)))
+    (feed_with (timestamp_of F) (length (trips_of F)) (trips_of F)
+    (without_stale clock (puts texts entries (vehicles_of F)))
     (alerts_of F))
     ((version_of s + 1) % 2 ^ 64) s

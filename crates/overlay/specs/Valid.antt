@@ -20,7 +20,8 @@ count_valid f F = eqb (count_of F) (leaves.count_without_at f (trips_of F)) || e
 
 unfoldable pub feed_valid : List ℕ × Feed → Bool
 feed_valid (f, F) =
-    ascending texts (trips_of F) && (all (trip_valid f) (trips_of F) && (ascending texts (vehicles_of F) && count_valid f F))
+    ascending texts (trips_of F) &&
+    (all (trip_valid f) (trips_of F) && (ascending texts (vehicles_of F) && count_valid f F))
 
 -- questions 5, 6 and 7 of a value
 unfoldable pub within : (f : Format) → Value f → Bool

@@ -1,4 +1,6 @@
 // The record of a leg, the vehicle of a trip and the alerts of its feed, in a whole overlay whose places are noted.
+#![tactic(auto)]
+
 ghost use Rattle.calendar.specs.Paris.{paris_digits};
 ghost use Rattle.formats_write.specs.Promises.Given.{given_number};
 ghost use Rattle.overlay.specs.Lookup.{get_trip, find_trip_by_descriptor};

@@ -108,7 +108,8 @@ module _ (ρ : Rules) (t f : ℕ) where
       → asked ρ t (bind_o p (λ m. map (msg f u m) o)) ≡ asked_first (asked ρ u p) (asked ρ t o)
   asked_message u none o = refl
   asked_message u (some n) none = sym (first_broken (asked ρ u (some n)))
-  asked_message u (some n) (some m) = two (texts_fine ρ u n) (texts_fine ρ t m) (numbers_fine ρ u n) (numbers_fine ρ t m)
+  asked_message u (some n) (some m) = two (texts_fine ρ u n) (texts_fine ρ t m) (numbers_fine ρ u n)
+      (numbers_fine ρ t m)
 
 -- the loop stands at `at`, and `worst` is the judgement so far
 pub record Judged (ρ : Rules) (σ : Schema) (t : ℕ) (s : List ℕ) (at : ℕ) (worst : Verdict) : Type 0 where

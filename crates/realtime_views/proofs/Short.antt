@@ -157,7 +157,8 @@ module _ {s : List ℕ} {from at n : ℕ} (R : Sequences s from at n) where
 
     module _ {o : GotText} {i l : ℕ} {c : Cursor} (r : o ≡ text_at s (at + 1)) (g : o ≡ GotText.Read i l c) where
       pub past_part : {b : Bool} → b ≡ is_part (get_or s at 0) → b ≡ true → Sequences s from c.at n
-      past_part e t = go (eqb (get_or s at 0) 18) refl (eqb (get_or s at 0) 26) refl (eqb (get_or s at 0) 34) refl (sym e ∙ t)
+      past_part e t = go (eqb (get_or s at 0) 18) refl (eqb (get_or s at 0) 26) refl (eqb (get_or s at 0) 34) refl
+          (sym e ∙ t)
         where
           go : (x : Bool) → eqb (get_or s at 0) 18 ≡ x → (y : Bool) → eqb (get_or s at 0) 26 ≡ y
               → (z : Bool) → eqb (get_or s at 0) 34 ≡ z → (x || (y || z)) ≡ true → Sequences s from c.at n

@@ -79,7 +79,8 @@ relationship_number : (f : ℕ) → feed stop_time_update f ≡ some a_text → 
 unfolding feed field_rows
 relationship_number f p e = clash stop_time_update 5 f refl p (sym e)
 
-typed : (f u k v : ℕ) → feed stop_time_update f ≡ some (a_message u) → feed stop_time_update k ≡ some (a_message v) → f ≡ k
+typed : (f u k v : ℕ) → feed stop_time_update f ≡ some (a_message u) → feed stop_time_update k ≡ some (a_message v)
+    → f ≡ k
     → u ≡ v
 typed f u k v p q e = let r : some (a_message u) ≡ some (a_message v) = sym p ∙ ap (feed stop_time_update) e ∙ q in cc
 

@@ -251,5 +251,6 @@ pub deleted_read : (s : List ℕ) {x : List ℕ} (i l : ℕ) {n : ℕ} {r : Bool
     → LastNumber 2 x i n → r ≡ bool n → DeletedRead feed s i l r
 unfolding feed field_rows
 deleted_read s i l h e Q g = record {
-  of = λ m q. g ∙ ap bool (zero_of feed_entity 2 s i l h e m q (Q feed_entity refl)) ∙ mark_given (number_in (last 2 m));
+  of = λ m q. g ∙ ap bool (zero_of feed_entity 2 s i l h e m q (Q feed_entity refl))
+      ∙ mark_given (number_in (last 2 m));
 }

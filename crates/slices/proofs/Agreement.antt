@@ -36,7 +36,8 @@ pub alike_eight : (a b : List ℕ) (i : ℕ)
 alike_eight a b i = rw (add-zero i)
 
 module _ {a b : List ℕ} where
-  pub common_more : {i : ℕ} → Common a b i → i < length a → i < length b → get_or a i 0 ≡ get_or b i 0 → Common a b (i + 1)
+  pub common_more : {i : ℕ} → Common a b i → i < length a → i < length b → get_or a i 0 ≡ get_or b i 0
+      → Common a b (i + 1)
   unfolding common_of
   common_more {i} C p q e =
       let more : common_of (drop i a) (drop i b) ≡ suc (common_of (drop (i + 1) a) (drop (i + 1) b)) =
@@ -126,7 +127,8 @@ common_next [] b p q e = absurd (omega arith)
 common_next (x ∷ a) [] p q e = absurd (omega arith)
 common_next (x ∷ a) (y ∷ b) p q e = go (common_next a b) (eqb x y) refl p q e
   where
-    go : (common_of a b < length a → common_of a b < length b → get_or a (common_of a b) 0 ≡ get_or b (common_of a b) 0 → ⊥)
+    go : (common_of a b < length a → common_of a b < length b → get_or a (common_of a b) 0 ≡ get_or b (common_of a b) 0
+        → ⊥)
         → (t : Bool) → eqb x y ≡ t → cond t (suc (common_of a b)) 0 < suc (length a)
         → cond t (suc (common_of a b)) 0 < suc (length b)
         → get_or (x ∷ a) (cond t (suc (common_of a b)) 0) 0 ≡ get_or (y ∷ b) (cond t (suc (common_of a b)) 0) 0 → ⊥

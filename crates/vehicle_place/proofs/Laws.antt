@@ -48,7 +48,8 @@ unfolding to_bits
 nan_bits_are = refl
 
 pub nan_out : {c : Coordinate} {x : Float} → c ≡ Number x → ne x x ≡ true → 9221120237041090560 ≡ bits_of c
-nan_out {c} {x} e h = sym (ap bits_of e ∙ ap (to_bits binary64) (differs_from_itself x (subst T (sym h) tt)) ∙ nan_bits_are)
+nan_out {c} {x} e h = sym
+    (ap bits_of e ∙ ap (to_bits binary64) (differs_from_itself x (subst T (sym h) tt)) ∙ nan_bits_are)
 
 pub a_number : (x : Float) → ne x x ≡ false → T (not (is_nan x))
 unfolding is_nan

@@ -56,7 +56,8 @@ member_push j k k' i m = ap (member j) (get_push k k' i m) ∙ go (same k k')
   where
     go : (t : Bool) → member j (cond t (numbers_at k m ++ (i ∷ [])) (numbers_at k m)) ≡ member j (numbers_at k m) || t
         && eqb j i
-    go true = any_append (eqb j) (numbers_at k m) (i ∷ []) ∙ ap (λ x. member j (numbers_at k m) || x) (or_false (eqb j i))
+    go true = any_append (eqb j) (numbers_at k m) (i ∷ [])
+        ∙ ap (λ x. member j (numbers_at k m) || x) (or_false (eqb j i))
     go false = sym (or_false (member j (numbers_at k m)))
 
 member_push_all : (j : ℕ) (k : List ℕ) (ks : List (List ℕ)) (i : ℕ) (m : Map)
@@ -107,7 +108,8 @@ numbers_or j p q i (a ∷ l) = go (p a) (q a) (numbers_or j p q (suc i) l)
         (cond (t || u) (i ∷ numbers_where (λ a. p a || q a) (suc i) l) (numbers_where (λ a. p a || q a) (suc i) l))
         ≡ member j (cond t (i ∷ numbers_where p (suc i) l) (numbers_where p (suc i) l))
         || member j (cond u (i ∷ numbers_where q (suc i) l) (numbers_where q (suc i) l))
-    go true true ih = rw ih (once (eqb j i) (member j (numbers_where p (suc i) l)) (member j (numbers_where q (suc i) l)))
+    go true true ih = rw ih
+        (once (eqb j i) (member j (numbers_where p (suc i) l)) (member j (numbers_where q (suc i) l)))
       where
         once : (e x y : Bool) → e || (x || y) ≡ e || x || (e || y)
         once true x y = refl

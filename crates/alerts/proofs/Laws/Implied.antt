@@ -120,7 +120,8 @@ no_space b e = go (eqb b 32) refl
     go true g = rw (eqb-true b 32 g) at e
     go false g = refl
 
-first_token_first : (l : List (List ℕ)) → all (all (λ b. not (not (alphanumeric b)))) l ≡ true → first_code l ≡ first_token l
+first_token_first : (l : List (List ℕ)) → all (all (λ b. not (not (alphanumeric b)))) l ≡ true
+    → first_code l ≡ first_token l
 first_token_first [] e = refl
 first_token_first (p ∷ l) e =
     let g = and_true e in
@@ -141,7 +142,8 @@ tails_reduced (b ∷ x) y = refl
 
 refs_reduced : (q r : List ℕ) → route_refs_match q r ≡ refs q r
 refs_reduced q r =
-    let other = decided (token q) (token r) (leb 3 (length (segment q)) && same_ignoring_case (segment q) (segment r)) in
+    let other = decided (token q) (token r) (leb 3 (length (segment q)) && same_ignoring_case (segment q) (segment r))
+    in
     rw (token_reduced q, token_reduced r, tails_reduced (segment q) (segment r))
     (pick_and (is_empty q || is_empty r) (cond (same q r) true other)
     ∙ ap (λ x. not (is_empty q || is_empty r) && x) (pick_or (same q r) other))
@@ -297,7 +299,8 @@ line_contained blob u =
 secondary_reduced : (blob u : List ℕ) → contains u blob ≡ true → is_secondary_line_context blob u ≡ secondary blob u
 secondary_reduced blob u e = rw (advised_reduced blob u, marked_reduced blob, e) (go (any_marker advice_markers blob))
   where
-    go : (t : Bool) → advised advice_markers blob u || t && true && (has_text blob "RER " || has_text blob "TRAVAUX SUR")
+    go : (t : Bool)
+        → advised advice_markers blob u || t && true && (has_text blob "RER " || has_text blob "TRAVAUX SUR")
         ≡ advised advice_markers blob u || t && (has_text blob "RER " || has_text blob "TRAVAUX SUR")
     go true = refl
     go false = refl
@@ -361,7 +364,8 @@ fits_reduced : (a : Alert) (short : List ℕ) → alert_text_compatible_with_leg
 fits_reduced a short =
     rw (text_reduced (leg_blob a) (upper (trim short))
     (blob_nonempty (or_empty_text (header a)) (or_empty_text (description a))))
-    (pick_or (is_empty (trim short)) (text_ok (leg_blob a) (commercial_lines_in_text (leg_blob a)) (upper (trim short))))
+    (pick_or (is_empty (trim short))
+    (text_ok (leg_blob a) (commercial_lines_in_text (leg_blob a)) (upper (trim short))))
 
 pub applies_reduced : (a : Alert) (trip route short from to mode : List ℕ)
     → alert_applies_to_leg_with_mode a trip route short from to mode ≡ applies a trip route short from to mode

@@ -59,7 +59,8 @@ code_of : (n : ℕ) (c : List ℕ) → code_number c ≡ n → 0 < n → Code n 
 code_of n [] e h = absurd (omega (arith, e))
 code_of n (b ∷ s) e h = go (eqb b 67 && eqb (length s) 5 && all digit s) refl e
   where
-    go : (t : Bool) → eqb b 67 && eqb (length s) 5 && all digit s ≡ t → cond t (decimal_value 0 s) 0 ≡ n → Code n (b ∷ s)
+    go : (t : Bool) → eqb b 67 && eqb (length s) 5 && all digit s ≡ t → cond t (decimal_value 0 s) 0 ≡ n
+        → Code n (b ∷ s)
     go false q e = absurd (omega (arith, e))
     go true q e =
         let x = both_true (eqb b 67 && eqb (length s) 5) (all digit s) q in
@@ -146,7 +147,8 @@ run_name c (row ∷ k) m z r h l =
         ap some (name ∙ ap (λ j. line_name (j - 1370)) (sym q))
     go here name false e ih = ih (omega (arith, h, eqb-false n m (sym here ∙ e)))
 
-worked_out : (c : List ℕ) → name_of c listed ≡ cond (in_run c) (some (line_name (code_number c - 1370))) (name_of c products)
+worked_out : (c : List ℕ)
+    → name_of c listed ≡ cond (in_run c) (some (line_name (code_number c - 1370))) (name_of c products)
 worked_out c = name_side in_run c listed ∙ go (in_run c) refl
   where
     go : (t : Bool) → in_run c ≡ t

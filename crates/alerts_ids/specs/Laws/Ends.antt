@@ -235,7 +235,8 @@ module _ (t x : List ℕ) where
   colon_short h = sym (ends_short (0x3a ∷ x) t (omega arith))
 
   pub colon_end : length x < length t
-      → ends (text ":" ++ x) t ≡ eqb 0x3a (get_or t (length t - length x - 1) 0) && same x (drop (length t - length x) t)
+      → ends (text ":" ++ x) t
+      ≡ eqb 0x3a (get_or t (length t - length x - 1) 0) && same x (drop (length t - length x) t)
   colon_end h =
       let k = length t - length x - 1 in
       let n : suc k ≡ length t - length x = omega arith in

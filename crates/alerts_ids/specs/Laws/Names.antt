@@ -111,7 +111,8 @@ module _ (short x g : List ℕ) where
 
 -- ---- modes
 
-pub rail_word : (w m : List ℕ) (t : Bool) → any (same (upper w)) rail_modes ≡ true → t ≡ same_ignoring_case m w → t ≡ true
+pub rail_word : (w m : List ℕ) (t : Bool) → any (same (upper w)) rail_modes ≡ true → t ≡ same_ignoring_case m w
+    → t ≡ true
     → true ≡ is_rail_like_mode m
 rail_word w m t h e f = sym (ap (λ x. any (same x) rail_modes) (same_true (upper m) (upper w) (sym e ∙ f)) ∙ h)
 

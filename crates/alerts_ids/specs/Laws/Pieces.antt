@@ -63,7 +63,8 @@ pub uncut_start : (x : List ℕ) (e : ℕ) → e ≤ length x → Uncut x e e
 uncut_start x e h = record { forward = omega arith; within = h; plain = rw (no_part x e) refl }
 
 -- a part that begins one byte earlier
-part_cons : (x : List ℕ) (a e : ℕ) → 0 < a → a ≤ e → e ≤ length x → part_of x (a - 1) e ≡ get_or x (a - 1) 0 ∷ part_of x a e
+part_cons : (x : List ℕ) (a e : ℕ) → 0 < a → a ≤ e → e ≤ length x
+    → part_of x (a - 1) e ≡ get_or x (a - 1) 0 ∷ part_of x a e
 part_cons x a e z h k =
     let n : suc (a - 1) ≡ a = omega arith in
     let m : e - (a - 1) ≡ suc (e - a) = omega arith in
@@ -199,7 +200,8 @@ any_taken false (b ∷ p) h e = refl
 -- ---- a product code
 
 code_parts : (p : List ℕ) → 0 < length p
-    → is_code p ≡ leb 4 (length p - 1) && leb (length p - 1) 7 && eqb (upper_byte (get_or p 0 0)) 67 && all digit (drop 1 p)
+    → is_code p
+    ≡ leb 4 (length p - 1) && leb (length p - 1) 7 && eqb (upper_byte (get_or p 0 0)) 67 && all digit (drop 1 p)
 code_parts [] h = absurd (omega arith)
 code_parts (b ∷ p) h =
     let n : length p ≡ suc (length p) - 1 = omega arith in
@@ -320,7 +322,8 @@ uncoded_start x = record { within = omega arith; whole = refl }
 
 module _ (x : List ℕ) (a e : ℕ) (t : Bool) where
   one_run : Uncoded x a → FirstPiece x a e
-      → product_code_token x ≡ cond (is_code (part_of x a e)) (some (upper (part_of x a e))) (first_code (pieces_after x e))
+      → product_code_token x
+      ≡ cond (is_code (part_of x a e)) (some (upper (part_of x a e))) (first_code (pieces_after x e))
   one_run u f =
       u.whole ∙ ap first_code f.pieces
       ∙ ap (λ p. cond (is_code p) (some (upper p)) (first_code (pieces_after x e))) (trim_plain (part_of x a e) f.plain)
@@ -331,7 +334,8 @@ module _ (x : List ℕ) (a e : ℕ) (t : Bool) where
     inside = (f.forward, f.within);
   }
 
-  pub no_code : Uncoded x a → FirstPiece x a e → t ≡ is_code (part_of x a e) → t ≡ false → length x ≤ e → Coded x Nothing
+  pub no_code : Uncoded x a → FirstPiece x a e → t ≡ is_code (part_of x a e) → t ≡ false → length x ≤ e
+      → Coded x Nothing
   no_code u f et g h = record {
     is = one_run u f ∙ rw (sym et ∙ g, le-ltb e (length x) h) refl;
     inside = tt;

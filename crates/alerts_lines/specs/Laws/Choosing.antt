@@ -116,7 +116,8 @@ any_agree : (f g : ℕ → Bool) → ((k : ℕ) → k < 32 → f k ≡ g k) → 
 any_agree f g e zero k h = refl
 any_agree f g e (suc n) k h = rw (e k (omega arith), any_agree f g e n (suc k) (omega arith)) refl
 
-as_lines : (q : List ℕ → Bool) (f : ℕ → Bool) (r : Bool) → ((k : ℕ) → k < 32 → f k ≡ q (line_at k)) → r ≡ any_from 0 32 f
+as_lines : (q : List ℕ → Bool) (f : ℕ → Bool) (r : Bool) → ((k : ℕ) → k < 32 → f k ≡ q (line_at k))
+    → r ≡ any_from 0 32 f
     → r ≡ any q all_lines
 as_lines q f r e x = x ∙ any_agree f (λ k. q (line_at k)) e 32 0 (omega arith) ∙ any_lines q
 

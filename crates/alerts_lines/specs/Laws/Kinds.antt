@@ -268,7 +268,8 @@ pub line_once : (k j : ℕ) → k < 32 → j < 32 → line_at k ≡ line_at j �
 unfolding once_rule once_at
 line_once k j h g e =
     ⊎_elim (eqb-true k j) (λ x. absurd (false_absurd x))
-    (or_true (eqb k j) (not (same (line_at k) (line_at j))) (at_below 32 (once_rule k) j (at_below 32 once_at k onces h) g))
+    (or_true (eqb k j) (not (same (line_at k) (line_at j)))
+    (at_below 32 (once_rule k) j (at_below 32 once_at k onces h) g))
   where
     false_absurd : not (same (line_at k) (line_at j)) ≡ true → ⊥
     false_absurd x = false_true (sym (ap not (ap (λ l. same l (line_at j)) e ∙ same_refl (line_at j))) ∙ x)

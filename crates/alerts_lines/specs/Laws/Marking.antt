@@ -238,7 +238,8 @@ module _ (s afters : List ℕ) (j : ℕ) where
           absurd (let w =
           short_line k (get_or (line_at k) 0 0) (get_or (line_at k) 1 0) (get_or (line_at k) 2 0) (get_or s j 0)
           (get_or s (j + 1) 0) (kind k g) (first_stood k g x) (byte k x 1) in
-          let v : 32 ≡ short_of (get_or s j 0) (get_or s (j + 1) 0) = sym h ∙ ea ∙ ap (λ x. short_of (get_or s j 0) x) e in
+          let v : 32 ≡ short_of (get_or s j 0) (get_or s (j + 1) 0) = sym h ∙ ea
+          ∙ ap (λ x. short_of (get_or s j 0) x) e in
           omega (arith, w, v))
 
   pub all_stood : (c a l : ℕ) (m₀ m₁ m₂ : List ℕ) → c ≡ get_or s (j + 1) 0 → a ≡ short_of (get_or s j 0) c

@@ -78,7 +78,8 @@ module _ (s : List ℕ) (k : ℕ) where
       go false false true d = refl
       go false false false d = or_false (d || false)
 
-  subject_rows_table : k < 32 → table_of (text "RER #;RER#;METRO #;INCIDENT LIGNE #;LIGNE # :| -| INTERRUPT| TRAFIC") s k
+  subject_rows_table : k < 32
+      → table_of (text "RER #;RER#;METRO #;INCIDENT LIGNE #;LIGNE # :| -| INTERRUPT| TRAFIC") s k
       || row_at s (text "LIGNE ") [] 0 k ≡ subject_of s k
   subject_rows_table h =
       go (contains (around "RER " (line_at k) "") s) (contains (around "RER" (line_at k) "") s)
@@ -156,7 +157,8 @@ added first f from past clear l old new w B C F M =
         F.each k (omega arith) (B.each k g h) ∙ ap (λ x. x || f k) (C.each k g h)
 
 -- what names begin with: all, letters, numbers, trams
-front_of : (first : List ℕ) (k : ℕ) → get_or first 0 0 ≤ get_or (line_at k) 0 0 → get_or (line_at k) 0 0 ≤ get_or first 1 255
+front_of : (first : List ℕ) (k : ℕ) → get_or first 0 0 ≤ get_or (line_at k) 0 0
+    → get_or (line_at k) 0 0 ≤ get_or first 1 255
     → Front first k
 front_of first k a b = record { low = a; high = b }
 
@@ -176,7 +178,8 @@ between_of : (lo hi from past : ℕ) → past ≤ 32
     → ((k x y z : ℕ) → from ≤ k → k < past → Kind k x y z → (lo ≤ x) × (x ≤ hi)) → Begin (lo ∷ hi ∷ []) from past
 between_of lo hi from past w f = record {
   each = λ k h g.
-      let b = f k (get_or (line_at k) 0 0) (get_or (line_at k) 1 0) (get_or (line_at k) 2 0) h g (kind k (omega arith)) in
+      let b = f k (get_or (line_at k) 0 0) (get_or (line_at k) 1 0) (get_or (line_at k) 2 0) h g (kind k (omega arith))
+      in
       front_of (lo ∷ hi ∷ []) k b.0 b.1;
 }
 
@@ -235,7 +238,8 @@ module _ (s m₀ m₁ : List ℕ) (H : MarkedIn (table_of (text "METRO #;METRO#;
   number_heads h =
       turned_in (number_of s)
       (λ k. sym (number_is k ∙ ap (λ x. names number_rows s (line_at k) || bare_of s k && x) (not-true u h)
-      ∙ ap (λ x. names number_rows s (line_at k) || x) (and_no (bare_of s k)) ∙ or_false (names number_rows s (line_at k))))
+      ∙ ap (λ x. names number_rows s (line_at k) || x) (and_no (bare_of s k))
+      ∙ or_false (names number_rows s (line_at k))))
       heads
 
   pub number_all : (m₂ : List ℕ) → not u ≡ false → MarkedIn (bare_of s) 5 19 m₁ m₂ → MarkedIn (number_of s) 5 19 m₀ m₂
@@ -357,7 +361,8 @@ pub subjects_marked : (s m₀ m₁ m₂ : List ℕ)
     → MarkedBy [] (table_of (text "RER #;RER#;METRO #;INCIDENT LIGNE #;LIGNE # :| -| INTERRUPT| TRAFIC") s) m₀ m₁
     → Marked (row_at s (text "LIGNE ") [] 0) m₁ m₂ → Marked (subject_of s) m₀ m₂
 subjects_marked s m₀ m₁ m₂ A B =
-    turned (subject_of s) (λ k h. subject_rows_table s k h) (joins (record { each = λ k h. A.each k h (front_any k h) }) B)
+    turned (subject_of s) (λ k h. subject_rows_table s k h)
+    (joins (record { each = λ k h. A.each k h (front_any k h) }) B)
 
 -- which line a name is
 none_named : (name : List ℕ) → ((k : ℕ) → k < 32 → line_at k ≡ name → ⊥) → IsLine name 32

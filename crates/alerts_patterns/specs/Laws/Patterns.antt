@@ -36,7 +36,8 @@ pub filled_none : (name p : List ℕ) → length p ≤ up_to 0x23 p → name_fil
 filled_none name [] h = refl
 filled_none name (b ∷ p) h = go (eqb b 0x23) h (filled_none name p)
   where
-    go : (t : Bool) → suc (length p) ≤ cond t 0 (suc (up_to 0x23 p)) → (length p ≤ up_to 0x23 p → name_filled name p ≡ p)
+    go : (t : Bool) → suc (length p) ≤ cond t 0 (suc (up_to 0x23 p))
+        → (length p ≤ up_to 0x23 p → name_filled name p ≡ p)
         → cond t (name ++ p) (b ∷ name_filled name p) ≡ b ∷ p
     go true h ih = absurd (omega arith)
     go false h ih = ap (λ l. b ∷ l) (ih (omega arith))

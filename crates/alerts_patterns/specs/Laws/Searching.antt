@@ -29,7 +29,8 @@ pub stands_differs : (p s : List ℕ) (i j k : ℕ) → Stands p s i j k → j <
 stands_differs p s i j k a h g d =
     sym (a.whole ∙ rw (drop-cons p j 0, drop-cons s k 0, ne_eqb (get_or p j 0) (get_or s k 0) (λ e. d (sym e))) refl)
 
-pub stands_more : (p s : List ℕ) (i j k : ℕ) → Stands p s i j k → j < length p → k < length s → get_or s k 0 ≡ get_or p j 0
+pub stands_more : (p s : List ℕ) (i j k : ℕ) → Stands p s i j k → j < length p → k < length s
+    → get_or s k 0 ≡ get_or p j 0
     → Stands p s i (j + 1) (k + 1)
 stands_more p s i j k a h g e = record {
   within = omega arith;

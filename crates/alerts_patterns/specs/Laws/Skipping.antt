@@ -131,7 +131,8 @@ module _ (a d lo hi : ℕ) (s : List ℕ) (i e : ℕ) where
   to_start h g = record { seeks = seeks_none a d lo hi s i (omega arith); up = h }
 
   pub to_more : (k w : ℕ) → SeeksTo a d lo hi s i e k → k < e → e + d ≤ length s
-      → eqb w 0 ≡ eqb (get_or s k 0) a && between lo hi (get_or s (k + d) 0) → (w ≡ 0 → ⊥) → SeeksTo a d lo hi s i e (k + 1)
+      → eqb w 0 ≡ eqb (get_or s k 0) a && between lo hi (get_or s (k + d) 0) → (w ≡ 0 → ⊥)
+      → SeeksTo a d lo hi s i e (k + 1)
   to_more k w S l g ew n =
       record { seeks = seeks_more a d lo hi s i k S.seeks w (omega arith) ew n; up = omega arith }
 

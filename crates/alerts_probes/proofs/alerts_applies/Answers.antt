@@ -1,6 +1,5 @@
 -- `alerts_probes::alerts_applies` meets its contract.
 use Rattle.alerts_probes.specs.Laws.Alert.{answer_room, answer_long, answer_none, answer_yes, answer_no}
-use borrow.Author.Rules.{rules}
 use Rattle.alerts_probes.proofs.alerts_applies.Goals as goal
 
 pub returns-then-text-lt2626 : goal.returns-then-text-lt2626

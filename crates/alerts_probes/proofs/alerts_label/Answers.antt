@@ -1,6 +1,5 @@
 -- `alerts_probes::alerts_label` meets its contract.
 use Rattle.alerts_probes.specs.Laws.Alert.{label_none, label_some}
-use borrow.Author.Rules.{rules}
 use Rattle.alerts_probes.proofs.alerts_label.Goals as goal
 
 pub returns-then-not-stands : goal.returns-then-not-stands

@@ -1,6 +1,5 @@
 -- `alerts_probes::alerts_line` meets its contract.
 use Rattle.alerts_probes.specs.Laws.Line.{line_no_room, line_none, line_some}
-use borrow.Author.Rules.{rules}
 use Rattle.alerts_probes.proofs.alerts_line.Goals as goal
 
 pub returns-then-out-lt3 : goal.returns-then-out-lt3

@@ -1,7 +1,6 @@
 -- `alerts_probes::alerts_text_fits` meets its contract.
 use mathlib.Core.Path.{ap}
 use mathlib.Core.Bool.{not}
-use borrow.Author.Rules.{rules}
 use Rattle.alerts_probes.specs.Laws.Probes.{probe_spaced, probe_full, probe_fits, room_true}
 use Rattle.alerts_probes.proofs.alerts_text_fits.Goals as goal
 

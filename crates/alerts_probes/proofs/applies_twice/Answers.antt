@@ -1,6 +1,5 @@
 -- `alerts_probes::applies_twice` meets its contract.
 use Rattle.alerts_probes.specs.Laws.Alert.{twice}
-use borrow.Author.Rules.{rules}
 use Rattle.alerts_probes.proofs.applies_twice.Goals as goal
 
 pub returns : goal.returns

@@ -1,5 +1,4 @@
 -- `alerts_probes::roomy` meets its contract.
-use borrow.Author.Rules.{rules}
 use Rattle.alerts_probes.specs.Laws.Probes.{room_header, room_description, room_short, room_all}
 use Rattle.alerts_probes.proofs.roomy.Goals as goal
 

@@ -1,6 +1,5 @@
 -- `alerts_probes::stands` meets its contract.
 use Rattle.alerts_probes.specs.Laws.Alert.{stands_broken, stands_at}
-use borrow.Author.Rules.{rules}
 use Rattle.alerts_probes.proofs.stands.Goals as goal
 
 pub returns-in_default : goal.returns-in_default

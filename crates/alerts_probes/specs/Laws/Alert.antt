@@ -1,5 +1,5 @@
 -- Law. Each answer of the probes of a whole alert is the promised one.
-use Rattle.std.specs.Prelude.{◌≡◌, refl, List, [], Bool, true, false, cond, not, ℕ, ◌-◌, ◌≤◌, ◌<◌, leb, eqb, length, replicate}
+use Rattle.std.specs.Prelude.{◌≡◌, refl, List, [], Bool, true, false, cond, not, ℕ, ◌≤◌, ◌<◌, leb, eqb, length, replicate}
 use Rattle.std.proofs.Common.{sym, ap, ◌∙◌, inl, inr, arith, le-leb, leb-true, eqb-true}
 use Rattle.std.proofs.Math.Option.{Option, none, some}
 use Rattle.std.proofs.Math.Seq.{slice}

@@ -74,7 +74,8 @@ replaced : after
     (0x12 ∷ 0x1b ∷ 0x1a ∷ 0x19 ∷ 0x0a ∷ 0x03 ∷ 0x0a ∷ 0x01 ∷ 0x31 ∷ 0x12 ∷ 0x0a ∷ 0x08 ∷ 0x81 ∷ 0x80 ∷ 0x80 ∷ 0x80
     ∷ 0x10 ∷ 0x12 ∷ 0x02 ∷ 0x08 ∷ 0x09 ∷ 0x12 ∷ 0x06 ∷ 0x08 ∷ 0x01 ∷ 0x12 ∷ 0x02 ∷ 0x08 ∷ 0x05 ∷ [])
     ≡ one (inl tt) 0 ((1, update_with [] (inr (pos 5)) (inl tt) (inl tt) (inl tt) 0) ∷ [])
-unfolding lex_of leaves entries entries_in trip_in updates_in update_in tree nest feed field_rows fields many field value
+unfolding lex_of leaves entries entries_in trip_in updates_in update_in tree nest feed field_rows fields many field
+    value
     payload length_delimited bytes key varint digits
 replaced = refl
 

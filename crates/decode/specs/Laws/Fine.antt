@@ -92,7 +92,8 @@ Given P none = Unit {0}
 Given P (some a) = P a
 
 module _ (σ : Schema) (ρ : Rules) where
-  judged_fine : (t : ℕ) (m : Tree) → Typed σ t m → texts_fine ρ t m ≡ true → numbers_fine ρ t m ≡ true → FineTree σ ρ t m
+  judged_fine : (t : ℕ) (m : Tree) → Typed σ t m → texts_fine ρ t m ≡ true → numbers_fine ρ t m ≡ true
+      → FineTree σ ρ t m
   judged_fine t end k a b = tt
   judged_fine t (num f n r) k a b = let q = both_true (ρ.number t f n) (numbers_fine ρ t r) b in
       (q.0, judged_fine t r k a q.1)

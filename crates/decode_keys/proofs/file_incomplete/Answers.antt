@@ -4,10 +4,11 @@ use Rattle.decode_keys.proofs.Filing.{still, filed}
 use Rattle.decode_keys.proofs.file_incomplete.Goals as goal
 
 pub write_incomplete-len-requires : goal.write_incomplete-len-requires
-write_incomplete-len-requires c = (
-  record { counted = c.requires.fact.few; keyed = c.requires.fact.sound.keyed },
-  c.requires.1,
-)
+write_incomplete-len-requires c = record {
+  room = record { counted = c.requires.fact.few; keyed = c.requires.fact.sound.keyed };
+  feed_len_bound = c.requires.feed_len_bound;
+  short = c.requires.short;
+}
 
 pub settle-requires-clause-sound_index : goal.settle-requires-clause-sound_index
 settle-requires-clause-sound_index c =

@@ -41,7 +41,11 @@ enter-requires c =
     let w = rank_within a.keys.now a.marks.now a.order.now a.n S
     (key_in a.keys.now a.n a.len) in
     record {
-      n_le_most_trips = (omega (arith, c.requires.n_le_most_trips), omega (arith, c.rank-r.ensures), omega (arith, c.requires.n_le_most_trips));
+      n_le_most_trips = (
+        omega (arith, c.requires.n_le_most_trips),
+        omega (arith, c.rank-r.ensures),
+        omega (arith, c.requires.n_le_most_trips),
+      );
       marks_len = (S.marked, S.ordered);
     }
 

@@ -5,9 +5,6 @@ use Rattle.decode_updates.proofs.Crowding.{Seeking, seeking, seeks_none, slot_be
 use Rattle.decode_updates.proofs.Crowding.{seeks_found, seeks_on}
 use Rattle.decode_updates.proofs.any_crowded.Goals as goal
 
-below : (c : tie.After-word invariant-loop decreases-loop) → c.word.result < 2049
-below c = slot_below c.before.before.loop.invariant c.before.loop-test.true c.word.ensures
-
 pub loop-i-init : goal.loop-i-init
 loop-i-init c = seeking (omega (arith, c.requires.marks_len.1, c.requires.n_le_most_trips.0)) c.requires.all
 
@@ -15,22 +12,22 @@ pub word-slot-requires : goal.word-slot-requires
 word-slot-requires c = omega (arith, c.loop-i.invariant.room)
 
 pub overflow_mul-slot : goal.overflow_mul-slot
-overflow_mul-slot c = omega (arith, below c)
+overflow_mul-slot c = omega (arith, slot_below c.loop-i.invariant c.loop-i-test.true c.word-slot.ensures)
 
 pub overflow_add-slot : goal.overflow_add-slot
-overflow_add-slot c = omega (arith, below c)
+overflow_add-slot c = omega (arith, slot_below c.loop-i.invariant c.loop-i-test.true c.word-slot.ensures)
 
 pub word-a-requires : goal.word-a-requires
-word-a-requires c = omega (arith, below c, c.requires.marks_len.0)
+word-a-requires c = omega (arith, slot_below c.loop-i.invariant c.loop-i-test.true c.word-slot.ensures, c.requires.marks_len.0)
 
 pub overflow_mul-slot-in-loop-i : goal.overflow_mul-slot-in-loop-i
-overflow_mul-slot-in-loop-i c = omega (arith, below c)
+overflow_mul-slot-in-loop-i c = omega (arith, slot_below c.loop-i.invariant c.loop-i-test.true c.word-slot.ensures)
 
 pub overflow_add-slot-in-loop-i : goal.overflow_add-slot-in-loop-i
-overflow_add-slot-in-loop-i c = omega (arith, below c)
+overflow_add-slot-in-loop-i c = omega (arith, slot_below c.loop-i.invariant c.loop-i-test.true c.word-slot.ensures)
 
 pub word-e-requires : goal.word-e-requires
-word-e-requires c = omega (arith, below c, c.requires.marks_len.0)
+word-e-requires c = omega (arith, slot_below c.loop-i.invariant c.loop-i-test.true c.word-slot.ensures, c.requires.marks_len.0)
 
 pub place_crowded-requires-clause-message_len_bound : goal.place_crowded-requires-clause-message_len_bound
 place_crowded-requires-clause-message_len_bound c = c.requires.n_le_most_trips.1

@@ -6,10 +6,6 @@ use Rattle.decode_slots.specs.Promises.Places.{Readable}
 use borrow.Author.Rules.{rules}
 use Rattle.decode_updates.proofs.place_crowded.Goals as goal
 
-stood : (c : tie.Joined2) → let a = (to_start c).args in Readable feed_entity a.message.now (a.from, a.to)
-stood c = let start = to_start c in
-    place_reads start.args.message.now start.args.from start.args.to start.pre.1.1 (search rules)
-
 pub returns-then-from-ge-BEYOND : goal.returns-then-from-ge-BEYOND
 returns-then-from-ge-BEYOND c = search place_old
 
@@ -17,11 +13,12 @@ pub returns-then-to-other_to : goal.returns-then-to-other_to
 returns-then-to-other_to c = search place_known
 
 pub overflow_sub-to : goal.overflow_sub-to
-overflow_sub-to c = (stood c).forward
+overflow_sub-to c =
+    (place_reads c.args.message.now c.args.from c.args.to c.requires.readable_new (search rules)).forward
 
 pub is_crowded-requires : goal.is_crowded-requires
 is_crowded-requires c =
-    let R = stood c in
+    let R = place_reads c.args.message.now c.args.from c.args.to c.requires.readable_new (search rules) in
     (omega (arith, R.forward, R.inside), search rules)
 
 pub returns : goal.returns

@@ -72,17 +72,17 @@ shape_of-updates-then-n-gt-MOST_UPDATES c = omega (arith, c.note-n.ensures.lined
 
 pub returns-then-n-gt-MOST_UPDATES : goal.returns-then-n-gt-MOST_UPDATES
 returns-then-n-gt-MOST_UPDATES c =
-    lists_many (lists_on c.loop-at.inv.0 c.part.ensures c.next_update.ensures
+    lists_many (lists_on c.loop-at.invariant.0 c.part.ensures c.next_update.ensures
     c.in-At.is c.sequence_at-sequence.ensures c.note-n.ensures) c.if-n-gt-MOST_UPDATES.true
 
 pub loop-at-smaller : goal.loop-at-smaller
 loop-at-smaller c =
-    less c.loop-at.inv.0.walked c.part.ensures c.next_update.ensures
+    less c.loop-at.invariant.0.walked c.part.ensures c.next_update.ensures
     c.in-At.is
 
 pub loop-at-preserved : goal.loop-at-preserved
 loop-at-preserved c = (
-  lists_on c.loop-at.inv.0 c.part.ensures c.next_update.ensures
+  lists_on c.loop-at.invariant.0 c.part.ensures c.next_update.ensures
       c.in-At.is c.sequence_at-sequence.ensures c.note-n.ensures,
   c.if-n-gt-MOST_UPDATES.false,
 )

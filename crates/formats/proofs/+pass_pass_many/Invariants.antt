@@ -13,7 +13,9 @@ decreases-pass_many l = 2 * l.depth + 1
 
 abbrev pub invariant-pass_many-loop-left : goal.invariant-pass_many-loop-left
 invariant-pass_many-loop-left l =
-    (l.p ≤ length l.s) × (skip_many (format_at l.depth l.t l.node) l.left l.s l.p ≡ skip_many (format_at l.depth l.t l.node) l.n l.s l.at)
+    (l.p ≤ length l.s)
+    × (skip_many (format_at l.depth l.t l.node) l.left l.s l.p
+    ≡ skip_many (format_at l.depth l.t l.node) l.n l.s l.at)
 
 abbrev pub decreases-pass_many-loop-left : goal.decreases-pass_many-loop-left
 decreases-pass_many-loop-left l = l.left

@@ -54,7 +54,8 @@ node_format (suc (suc (suc (suc (suc (suc (suc (suc (suc (suc (suc k))))))))))) 
 
 abbrev pub format_at : ℕ → List ℕ → ℕ → Format
 format_at zero t n = never
-format_at (suc d) t n = node_format (get_or t (4 * n + 0) 0) (get_or t (4 * n + 1) 0) (get_or t (4 * n + 2) 0) (format_at d t)
+format_at (suc d) t n = node_format (get_or t (4 * n + 0) 0) (get_or t (4 * n + 1) 0) (get_or t (4 * n + 2) 0)
+    (format_at d t)
 
 -- a format that has no parts, of the kinds below 8
 abbrev pub leaf_format : ℕ → ℕ → ℕ → Format

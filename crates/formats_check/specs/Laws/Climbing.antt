@@ -372,7 +372,8 @@ module _ (l : ℕ) (c : Class) {g : Format} (t : Test (text l c & g)) (w : Weigh
           → Tested (list m (text l c & g)) climb_test s at x
       climbs_so k W = record { is = list_so m climbs_good refl e h runs_so W.is }
         where
-          runs_so : (v : List (List ℕ × Value g)) → length v ≡ n → climbs_good v ≡ runs (climb l c t w (d n)) (none, 0) v
+          runs_so : (v : List (List ℕ × Value g)) → length v ≡ n
+              → climbs_good v ≡ runs (climb l c t w (d n)) (none, 0) v
           runs_so v i =
               ap (λ x. leb x m && ((all (holds t) v && ascending texts v) && d x (weight w v))) i
               ∙ rw (le-leb n m k) (climbs_all l c t w (d n) v)

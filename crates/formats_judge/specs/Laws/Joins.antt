@@ -92,7 +92,8 @@ module _ (g : ℕ → Bool) where
   yes_seven : g 5 ≡ true → g 6 ≡ true → g 7 ≡ true → (p : ℕ) → 5 ≤ p → p ≤ 7 → g p ≡ true
   yes_seven a b c p l h = ⊎_elim (λ e. subst (λ p. g p ≡ true) (sym e) c) (λ m. yes_six a b p l m) (eq-or-lt_of_le h)
 
-  says : (x y z : Bool) → g 5 ≡ x → g 6 ≡ y → g 7 ≡ z → (q : ℕ) → 5 ≤ q → q ≤ 7 → (first_failing x y z ≡ q) ↔ FirstNo g q
+  says : (x y z : Bool) → g 5 ≡ x → g 6 ≡ y → g 7 ≡ z → (q : ℕ) → 5 ≤ q → q ≤ 7
+      → (first_failing x y z ≡ q) ↔ FirstNo g q
   says false y z a b c q l h =
       let F : FirstNo g 5 = (a, λ p m k. absurd (omega arith)) in
       (λ e. subst (FirstNo g) e F, only 5 q (omega arith) l F)

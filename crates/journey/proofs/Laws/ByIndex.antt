@@ -41,7 +41,8 @@ module _ (B : Feeds) where
 
   -- a leg's labels
   one_leg : (x : List ℕ) (t : Transit)
-      → any (same x) (map label (filter (passes t) (candidates_of B t))) ≡ any (same x) (map label (alerts_of_transit B t))
+      → any (same x) (map label (filter (passes t) (candidates_of B t)))
+      ≡ any (same x) (map label (alerts_of_transit B t))
   unfolding alerts_of_transit applies
   one_leg x t =
       let l = alerts_in (B (feed_of t.trip)) in

@@ -45,7 +45,8 @@ listed : (l : ℕ) (f : Format) → judges 7 f ≡ false → (v : List (Value f)
 listed l f h v n = record { yes = both (le-leb (length v) l n) (all_true (ok 7 f) (unjudged 7 f h) v) }
 
 module _ (B : Feeds) where
-  transit_seven : (t : Value transit) → Seven transit t → Seven transit (transit_value (enrich_transit B (transit_of t)))
+  transit_seven : (t : Value transit) → Seven transit t
+      → Seven transit (transit_value (enrich_transit B (transit_of t)))
   unfolding enrich_transit
   transit_seven t w =
       let ms = (transit_of t).middles in
@@ -55,7 +56,8 @@ module _ (B : Feeds) where
       (rest (rest
       (rest (rest (rest (rest (rest (rest (rest (rest (rest (rest (rest (rest (rest (rest w))))))))))))))))))) in
       let n = few 64 middle ms stops.yes in
-      let g : Value middle → Value middle = λ m. middle_value (enrich_middle (trip_rt B (transit_of t)) (middle_of m)) in
+      let g : Value middle
+      → Value middle = λ m. middle_value (enrich_middle (trip_rt B (transit_of t)) (middle_of m)) in
       behind refl
       (behind refl
       (behind refl (behind refl (behind refl (behind refl (behind refl (behind refl (behind refl (behind refl

@@ -153,7 +153,8 @@ placed_judged g none old h x k = k
 placed_judged {F} g (some v) old h x k = present F (g v) (h v x)
 
 module _ (r : Option FeedTrip) (x : Given FoundJudged r) where
-  middle_judged : (m : Value middle) → Judged56 middle m → Judged56 middle (middle_value (enrich_middle r (middle_of m)))
+  middle_judged : (m : Value middle) → Judged56 middle m
+      → Judged56 middle (middle_value (enrich_middle r (middle_of m)))
   unfolding enrich_middle
   middle_judged m j =
       let a = left (right j) in
@@ -261,7 +262,8 @@ transits_judged [] h = tt
 transits_judged (inl p ∷ l) h = transits_judged l h.1
 transits_judged (inr t ∷ l) h = (realtime t h.0, transits_judged l h.1)
   where
-    realtime : (t : Value transit) → Judged56 leg (inr t) → Judged56 (optional card_time) (transit_of t).realtime_arrival
+    realtime : (t : Value transit) → Judged56 leg (inr t)
+        → Judged56 (optional card_time) (transit_of t).realtime_arrival
     realtime t j =
         let k : Judged56 transit t = record { formed = j.formed; five = j.five; six = j.six } in
         left (right (right (right (right (right (right (right (right (right (right (right (right k))))))))))))

@@ -141,7 +141,8 @@ module _ (f stop : List ℕ) (t : Trip) (j : Judged56 trip t) where
   update_gives (inl x) = by_stop
   update_gives (inr n) =
       or_gives _ _
-      (get_gives numbers_order {P = Judged56 (number32 & stop_update)} (λ e x. right x) n (updates_of t) updates) by_stop
+      (get_gives numbers_order {P = Judged56 (number32 & stop_update)} (λ e x. right x) n (updates_of t) updates)
+      by_stop
 
 pub vehicle_gives : (B : Feeds) → FeedsJudged B → (t : List ℕ) → Gives (Judged56 vehicle) (get_vehicle_for_trip B t)
 unfolding get_vehicle_for_trip vehicle_for_trip

@@ -81,7 +81,8 @@ module _ (B : Feeds) (P : List ℕ → Type 0)
   legs_each : (ts : List Transit) → All P (concat_map (λ t. map label (alerts_of_transit B t)) ts)
   legs_each [] = tt
   legs_each (t ∷ ts) =
-      each_append P (map label (alerts_of_transit B t)) _ (each_mapped label P (alerts_of_transit B t) (alerts_each t)) (legs_each ts)
+      each_append P (map label (alerts_of_transit B t)) _ (each_mapped label P (alerts_of_transit B t) (alerts_each t))
+      (legs_each ts)
 
   labels_each : (ts : List Transit) → All (λ e. P e.0) (set (labels_of B ts))
   unfolding labels_of

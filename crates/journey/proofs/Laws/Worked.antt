@@ -160,7 +160,8 @@ apart t =
 -- the delay of a trip f:9 that only its descriptor finds
 abbrev pub by_date : ℕ → Maybe ℤ
 by_date at =
-    (enrich.enrich_transit (on (late 60) 0 []) (leg_of "f:9" at (told_of absent absent absent absent 0))).departure_delay
+    (enrich.enrich_transit (on (late 60) 0 [])
+    (leg_of "f:9" at (told_of absent absent absent absent 0))).departure_delay
 
 -- alerts: of the leg's trip; of another date of it, a candidate; one that would apply and is no candidate
 abbrev pub alert : List (List ℕ) → List (List ℕ) → Alert

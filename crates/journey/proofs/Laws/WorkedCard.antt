@@ -198,7 +198,8 @@ unfolding table lex_of is_summer leap_day year_from month_from
     lookup.resolve_trip_rt lookup.stop_matches lookup.stop_update_by_stop_id lookup.find_stop_update
     lookup.vehicle_for_trip lookup.get_vehicle_for_trip
     times.apply_time enrich.trip_rt enrich.cancels enrich.departs enrich.arrives enrich.live enrich.late enrich.applies
-    enrich.alerts_of_transit enrich.disrupted enrich.enrich_middle enrich.enrich_transit enrich.status_of enrich.labels_of
+    enrich.alerts_of_transit enrich.disrupted enrich.enrich_middle enrich.enrich_transit enrich.status_of
+    enrich.labels_of
     enrich.headers_of enrich.enrich_with_realtime
 worked =
     refl also refl also refl also refl also refl also refl also refl also refl also refl

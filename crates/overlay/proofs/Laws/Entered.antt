@@ -136,7 +136,8 @@ update_judged s x =
 abbrev update_entries : List Tree → List (ℕ × StopUpdate)
 update_entries l = map {B = ℕ × StopUpdate} (λ s. ((view.stop_update s).sequence, update_in s)) l
 
-each_update : (l : List Tree) → All (FineIn stop_time_update) l → All (Judged56 (number32 & stop_update)) (update_entries l)
+each_update : (l : List Tree) → All (FineIn stop_time_update) l
+    → All (Judged56 (number32 & stop_update)) (update_entries l)
 each_update [] h = tt
 each_update (s ∷ l) h =
     (joined _ (uint32_judged (or_zero (number_in (last 1 s)))) (update_judged s h.0), each_update l h.1)
@@ -235,7 +236,8 @@ module _ (f : List ℕ) (name : ok 5 (text 16 token) f ≡ true) where
   each_entity (e ∷ l) h =
       all_join (TripKept f) (entries_in f e) (entries f l) (entity_kept e h.0) (each_entity l h.1)
 
-  pub entries_kept : (m : List ℕ) (t : Tree) → tree feed feed_message m ≡ some t → texts_fine rules feed_message t ≡ true
+  pub entries_kept : (m : List ℕ) (t : Tree) → tree feed feed_message m ≡ some t
+      → texts_fine rules feed_message t ≡ true
       → numbers_fine rules feed_message t ≡ true → All (TripKept f) (entries f (rep 2 t))
   unfolding feed field_rows
   entries_kept m t e a b =

@@ -124,7 +124,8 @@ pub base_ok : (f : List ℕ) (b : ℕ) (raw : List ℕ) (t : Trip) → Printed 6
 unfolding key_ok
 base_ok f b raw t p = or_left (raw_ok (b ∷ raw)) _ (raw_ok_holds b raw p)
 
-pub dated_ok_holds : (f : List ℕ) (b : ℕ) (raw : List ℕ) (t : Trip) → Printed 64 (b ∷ raw) → not (is_empty (date_of t)) ≡ true
+pub dated_ok_holds : (f : List ℕ) (b : ℕ) (raw : List ℕ) (t : Trip) → Printed 64 (b ∷ raw)
+    → not (is_empty (date_of t)) ≡ true
     → key_ok f (dated_key (b ∷ raw) (date_of t)) t ≡ true
 unfolding key_ok
 dated_ok_holds f b raw t p d =
@@ -133,7 +134,8 @@ dated_ok_holds f b raw t p d =
     omega (arith, length-append (b ∷ raw) (64 ∷ date_of t)) in
     let k : take (length x - suc (length (date_of t))) x ≡ b ∷ raw =
     ap (λ i. take i x) n ∙ take_at (b ∷ raw) (64 ∷ date_of t) (length (b ∷ raw)) refl in
-    or_right (raw_ok x) _ (or_left (dated_ok (date_of t) x) _ (rw k (both d (both (raw_ok_holds b raw p) (same_refl x)))))
+    or_right (raw_ok x) _
+    (or_left (dated_ok (date_of t) x) _ (rw k (both d (both (raw_ok_holds b raw p) (same_refl x)))))
 
 pub incomplete_ok : (f : List ℕ) (t : Trip) → key_ok f (incomplete_key f t) t ≡ true
 unfolding key_ok
@@ -250,7 +252,8 @@ either false b e = inr e
 pub key_given : (f x : List ℕ) (t : Trip) → ok 5 trip t ≡ true → key_ok f x t ≡ true → Given f x t
 unfolding key_ok
 key_given f x t h k =
-    ⊎_elim (base_given f x t) (λ r. ⊎_elim dated incomplete (either (dated_ok (date_of t) x) _ r)) (either (raw_ok x) _ k)
+    ⊎_elim (base_given f x t) (λ r. ⊎_elim dated incomplete (either (dated_ok (date_of t) x) _ r))
+    (either (raw_ok x) _ k)
   where
     five : Five trip t
     five = record { is = h }

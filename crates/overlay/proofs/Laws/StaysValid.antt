@@ -86,7 +86,8 @@ count_below f (e ∷ m) = go (leaves.has_byte 64 (f ++ 58 ∷ e.0)) (count_below
 
 count_few : (f : List ℕ) (F : Feed) → count_valid f F ≡ true → length (trips_of F) ≤ 2048 → count_of F ≤ 2048
 count_few f F c h =
-    ⊎_elim (λ e. omega (arith, eqb-true (count_of F) (leaves.count_without_at f (trips_of F)) e, count_below f (trips_of F)))
+    ⊎_elim (λ e. omega
+    (arith, eqb-true (count_of F) (leaves.count_without_at f (trips_of F)) e, count_below f (trips_of F)))
     (λ e. omega (arith, eqb-true (count_of F) (length (trips_of F)) e))
     (either (eqb (count_of F) (leaves.count_without_at f (trips_of F))) (eqb (count_of F) (length (trips_of F))) c)
 

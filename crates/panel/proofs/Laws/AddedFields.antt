@@ -72,7 +72,8 @@ calls m a =
     ∷ feed_alerts (text "f") a 64 ∷ message (text "f") m 64 [] ∷ []
 
 few_numbers : numbers_given (run small (fresh_overlay small) (calls few few_alerts)) ≡ 0 ∷ 4 ∷ 0 ∷ 0 ∷ 0 ∷ []
-unfolding run fresh_asks message_asks tree_asks report_asks feed_alerts_asks alert_tree_asks sheet.sheet_in sheet.alert_in
+unfolding run fresh_asks message_asks tree_asks report_asks feed_alerts_asks alert_tree_asks sheet.sheet_in
+    sheet.alert_in
     image.state_of image.filled image.room valid.valid valid.within valid.feed_valid shown
     change.after_message change.feed_at change.put_feed reports.report
     leaves.leaves leaves.entries leaves.count_without_at key.entries_in key.incomplete_key key.key_ok

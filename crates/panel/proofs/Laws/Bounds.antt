@@ -234,7 +234,8 @@ table =
     ∷ []
 
 pub bounds : Holds table
-unfolding table run fresh_asks message_asks tree_asks alert_sheet_asks alerts_ask vehicle_sheet_asks vehicles_ask card_asks
+unfolding table run fresh_asks message_asks tree_asks alert_sheet_asks alerts_ask vehicle_sheet_asks vehicles_ask
+    card_asks
     arriving_asks finished report_asks feed_alerts_asks alert_tree_asks sheets.sheet_in sheets.alert_in whole
     image.state_of image.filled image.room valid.valid valid.within valid.feed_valid shown
     change.after_message change.after_alerts change.after_vehicles change.without_stale change.feed_at change.put_feed

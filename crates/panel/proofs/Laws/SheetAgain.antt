@@ -79,7 +79,8 @@ sheet_again L top old f m out t is e =
     let z : u ≡ t = cc in
     let y = both_true (feed_ok f) (texts_fine (rules_by (63 - length f)) alert_message u) five in
     let j = sheet_judged f y.0 m u read y.1 in
-    let w = alert_sheet_round_trips.written_reads_back (sheet_in f u) (fits_of alert_form refl (sheet_in f u) j seven) in
+    let w = alert_sheet_round_trips.written_reads_back (sheet_in f u) (fits_of alert_form refl (sheet_in f u) j seven)
+    in
     let short = leb-true (length (sheet_by f u)) L.sheet eight in
     subst (SheetAgain L f (filled out (sheet_by f u))) (ap (sheet_in f) z)
     (filled_again L f out (sheet_in f u) long (omega (arith, short)) w y.0 j.five))

@@ -95,7 +95,8 @@ module _ (L : Lengths) where
 -- ---- the state of the last row
 
 keys_valid : valid.valid (keyed 2048) ≡ true
-unfolding trips_from valid.valid valid.within valid.feed_valid keys.key_ok keys.incomplete_key leaves.count_without_at lex_of
+unfolding trips_from valid.valid valid.within valid.feed_valid keys.key_ok keys.incomplete_key leaves.count_without_at
+    lex_of
 keys_valid = refl
 
 pub rides : Rides

@@ -75,7 +75,8 @@ value_shorter d k s (LEN x) r n l e =
     (sym (value_2 d k.number s)
     ∙ ap (λ w. value d (record { number = k.number; wire = w }) s) (value_wire (LEN x) r d k s e) ∙ e)
   where
-    go : (o : Read (List ℕ)) → length_delimited s ≡ o → and_then o (λ x r. read (LEN x) r) ≡ read (LEN x) r → length x < n
+    go : (o : Read (List ℕ)) → length_delimited s ≡ o → and_then o (λ x r. read (LEN x) r) ≡ read (LEN x) r
+        → length x < n
     go broken e₁ e₂ = never e₂
     go (read y m) e₁ e₂ = let p : y ≡ x = cc in omega (arith, ap length p, text_room s y m e₁)
 

@@ -53,7 +53,8 @@ pub loop-at-smaller-in-Read-number_behind : goal.loop-at-smaller-in-Read-number_
 loop-at-smaller-in-Read-number_behind t c =
     omega (
       arith,
-      (some_number (key_here {σ = feed} {t = c.args.message} c.loop-at-test.true c.in-Read.ensures) (is_number _ c.in-Number.ensures)
+      (some_number (key_here {σ = feed} {t = c.args.message} c.loop-at-test.true c.in-Read.ensures)
+          (is_number _ c.in-Number.ensures)
           c.in-Read-number_behind.ensures).forward,
     )
 
@@ -68,7 +69,8 @@ pub part-requires : goal.part-requires
 part-requires t c =
     omega (
       arith,
-      (some_text (key_here {σ = feed} {t = c.args.message} c.loop-at-test.true c.in-Read.ensures) (is_text _ c.in-Text.ensures)
+      (some_text (key_here {σ = feed} {t = c.args.message} c.loop-at-test.true c.in-Read.ensures)
+          (is_text _ c.in-Text.ensures)
           c.in-Read-text_behind.ensures).forward,
     )
 
@@ -76,7 +78,8 @@ pub loop-at-smaller-in-Read-text_behind : goal.loop-at-smaller-in-Read-text_behi
 loop-at-smaller-in-Read-text_behind t c =
     omega (
       arith,
-      (some_text (key_here {σ = feed} {t = c.args.message} c.loop-at-test.true c.in-Read.ensures) (is_text _ c.in-Text.ensures)
+      (some_text (key_here {σ = feed} {t = c.args.message} c.loop-at-test.true c.in-Read.ensures)
+          (is_text _ c.in-Text.ensures)
           c.in-Read-text_behind.ensures).forward,
     )
 
@@ -91,7 +94,8 @@ pub part-requires-in-Read-text_behind-2 : goal.part-requires-in-Read-text_behind
 part-requires-in-Read-text_behind-2 t c =
     omega (
       arith,
-      (some_message (key_here {σ = feed} {t = c.args.message} c.loop-at-test.true c.in-Read.ensures) (is_message _ _ c.in-Message.ensures)
+      (some_message (key_here {σ = feed} {t = c.args.message} c.loop-at-test.true c.in-Read.ensures)
+          (is_message _ _ c.in-Message.ensures)
           c.in-Read-text_behind-2.ensures).forward,
     )
 
@@ -100,7 +104,9 @@ judge-requires t c = (
   omega (
     arith,
     c.decreases,
-    part_less _ c.part-in-Read-text_behind-2.ensures (some_message (key_here {σ = feed} {t = c.args.message} c.loop-at-test.true c.in-Read.ensures) (is_message _ _ c.in-Message.ensures)
+    part_less _ c.part-in-Read-text_behind-2.ensures
+        (some_message (key_here {σ = feed} {t = c.args.message} c.loop-at-test.true c.in-Read.ensures)
+        (is_message _ _ c.in-Message.ensures)
         c.in-Read-text_behind-2.ensures).forward,
   ),
   tt,
@@ -110,7 +116,8 @@ pub loop-at-smaller : goal.loop-at-smaller
 loop-at-smaller t c =
     omega (
       arith,
-      (some_message (key_here {σ = feed} {t = c.args.message} c.loop-at-test.true c.in-Read.ensures) (is_message _ _ c.in-Message.ensures)
+      (some_message (key_here {σ = feed} {t = c.args.message} c.loop-at-test.true c.in-Read.ensures)
+          (is_message _ _ c.in-Message.ensures)
           c.in-Read-text_behind-2.ensures).forward,
     )
 

@@ -8,7 +8,8 @@ returns-then-message-eq-HEADER_TRANSLATION c =
 
 pub returns-then-message-eq-DESCRIPTION_TRANSLATION : goal.returns-then-message-eq-DESCRIPTION_TRANSLATION
 returns-then-message-eq-DESCRIPTION_TRANSLATION c =
-    simp (ne_eqb _ _ c.if-message-eq-HEADER_TRANSLATION.false, eq-eqb _ _ c.if-message-eq-DESCRIPTION_TRANSLATION.true) c.in_class-then-message-eq-DESCRIPTION_TRANSLATION.ensures
+    simp (ne_eqb _ _ c.if-message-eq-HEADER_TRANSLATION.false, eq-eqb _ _ c.if-message-eq-DESCRIPTION_TRANSLATION.true)
+    c.in_class-then-message-eq-DESCRIPTION_TRANSLATION.ensures
 
 pub returns : goal.returns
 returns c =

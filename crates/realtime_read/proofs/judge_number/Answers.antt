@@ -11,10 +11,16 @@ returns-then-field-ne-TIME c =
 
 pub returns-then-value-le-LATEST : goal.returns-then-value-le-LATEST
 returns-then-value-le-LATEST c =
-    simp
-    (eq-eqb _ _ c.if-message-ne-STOP_TIME_EVENT.false, eq-eqb _ _ c.if-field-ne-TIME.false, le-leb _ _ c.if-value-le-LATEST.true)
+    simp (
+      eq-eqb _ _ c.if-message-ne-STOP_TIME_EVENT.false,
+      eq-eqb _ _ c.if-field-ne-TIME.false,
+      le-leb _ _ c.if-value-le-LATEST.true,
+    )
 
 pub returns-else-value-le-LATEST : goal.returns-else-value-le-LATEST
 returns-else-value-le-LATEST c =
-    simp
-    (eq-eqb _ _ c.if-message-ne-STOP_TIME_EVENT.false, eq-eqb _ _ c.if-field-ne-TIME.false, lt-leb _ _ c.if-value-le-LATEST.false)
+    simp (
+      eq-eqb _ _ c.if-message-ne-STOP_TIME_EVENT.false,
+      eq-eqb _ _ c.if-field-ne-TIME.false,
+      lt-leb _ _ c.if-value-le-LATEST.false,
+    )

@@ -16,13 +16,16 @@ pub overflow_shr-k : goal.overflow_shr-k
 overflow_shr-k c = omega (arith, c.if-field-ge-FIELDS.false)
 
 pub returns-then-k-eq-UNLISTED : goal.returns-then-k-eq-UNLISTED
-returns-then-k-eq-UNLISTED c = none_of _ (coded c.args.message c.args.field c.row_of.ensures c.if-field-ge-FIELDS.false) c.if-k-eq-UNLISTED.true
+returns-then-k-eq-UNLISTED c = none_of _ (coded c.args.message c.args.field c.row_of.ensures c.if-field-ge-FIELDS.false)
+    c.if-k-eq-UNLISTED.true
 
 pub returns-then-k-eq-NUMBER : goal.returns-then-k-eq-NUMBER
-returns-then-k-eq-NUMBER c = number_of _ (coded c.args.message c.args.field c.row_of.ensures c.if-field-ge-FIELDS.false) c.if-k-eq-NUMBER.true
+returns-then-k-eq-NUMBER c = number_of _ (coded c.args.message c.args.field c.row_of.ensures c.if-field-ge-FIELDS.false)
+    c.if-k-eq-NUMBER.true
 
 pub returns-then-k-eq-TEXT : goal.returns-then-k-eq-TEXT
-returns-then-k-eq-TEXT c = text_of _ (coded c.args.message c.args.field c.row_of.ensures c.if-field-ge-FIELDS.false) c.if-k-eq-TEXT.true
+returns-then-k-eq-TEXT c = text_of _ (coded c.args.message c.args.field c.row_of.ensures c.if-field-ge-FIELDS.false)
+    c.if-k-eq-TEXT.true
 
 pub overflow_sub-result : goal.overflow_sub-result
 overflow_sub-result c = omega (arith, c.if-k-eq-UNLISTED.false, c.if-k-eq-NUMBER.false, c.if-k-eq-TEXT.false)

@@ -36,7 +36,8 @@ loop-field-smaller-then-field-eq-SCHEDULE_RELATIONSHIP c =
     (step_is c.next.ensures
     c.in-Number.is) in omega (arith, S.forward)
 
-pub loop-field-preserved-then-field-eq-SCHEDULE_RELATIONSHIP : goal.loop-field-preserved-then-field-eq-SCHEDULE_RELATIONSHIP
+pub loop-field-preserved-then-field-eq-SCHEDULE_RELATIONSHIP :
+    goal.loop-field-preserved-then-field-eq-SCHEDULE_RELATIONSHIP
 loop-field-preserved-then-field-eq-SCHEDULE_RELATIONSHIP c =
     stops_relationship c.loop-field.invariant
     (step_is c.next.ensures
@@ -48,7 +49,8 @@ loop-field-smaller-else-field-eq-SCHEDULE_RELATIONSHIP c =
     (step_is c.next.ensures
     c.in-Number.is) in omega (arith, S.forward)
 
-pub loop-field-preserved-else-field-eq-SCHEDULE_RELATIONSHIP : goal.loop-field-preserved-else-field-eq-SCHEDULE_RELATIONSHIP
+pub loop-field-preserved-else-field-eq-SCHEDULE_RELATIONSHIP :
+    goal.loop-field-preserved-else-field-eq-SCHEDULE_RELATIONSHIP
 loop-field-preserved-else-field-eq-SCHEDULE_RELATIONSHIP c =
     stops_number c.loop-field.invariant
     (step_is c.next.ensures

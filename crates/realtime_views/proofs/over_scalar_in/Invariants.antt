@@ -12,7 +12,8 @@ use Rattle.realtime_views.proofs.over_scalar_in.Given as goal
 
 abbrev pub invariant-loop-start : goal.invariant-loop-start
 invariant-loop-start l =
-    Finding scalar (taking (scalar_at l.k)) (λ u. is_scalar (feed u l.k) ≡ true) l.a l.s l.initial.at l.initial.d l.at l.d
+    Finding scalar (taking (scalar_at l.k)) (λ u. is_scalar (feed u l.k) ≡ true) l.a l.s l.initial.at l.initial.d l.at
+    l.d
 
 abbrev pub decreases-loop-start : goal.decreases-loop-start
 decreases-loop-start l = length l.s - l.at

@@ -10,7 +10,8 @@ use Rattle.slices.proofs.insert.Given as goal
 
 abbrev pub invariant-loop-i : goal.invariant-loop-i
 invariant-loop-i l =
-    (l.at ≤ l.i) × (l.i ≤ l.end) × (length l.a ≡ length l.initial.a) × (l.a ≡ inserted l.initial.a l.i l.end (get_or l.initial.a l.i 0))
+    (l.at ≤ l.i) × (l.i ≤ l.end) × (length l.a ≡ length l.initial.a)
+    × (l.a ≡ inserted l.initial.a l.i l.end (get_or l.initial.a l.i 0))
 
 abbrev pub decreases-loop-i : goal.decreases-loop-i
 decreases-loop-i l = l.i - l.at

@@ -173,7 +173,8 @@ module _ {B : Type 0} (f : B → Field → B) where
   unfolding listed_fields
   made_listed listed h b s = go (fields s)
     where
-      one : (b : B) (x : Field) (l : List Field) → ((b : B) → fold_fields f b l ≡ fold_fields f b (filter_listed listed l))
+      one : (b : B) (x : Field) (l : List Field)
+          → ((b : B) → fold_fields f b l ≡ fold_fields f b (filter_listed listed l))
           → (t : Bool) → listed x.number ≡ t
           → fold_fields f (f b x) l ≡ fold_fields f b (pick_where t x (filter_listed listed l))
       one b x l ih true e = ih (f b x)

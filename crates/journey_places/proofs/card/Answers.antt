@@ -1,0 +1,7 @@
+-- `card` meets its contract.
+use Rattle.journey_places.specs.Laws.Places.{card_at}
+use borrow.Author.Rules.{rules}
+use Rattle.journey_places.proofs.card.Goals as goal
+
+pub returns : goal.returns
+returns c = search (card_at)

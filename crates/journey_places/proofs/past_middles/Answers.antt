@@ -1,0 +1,14 @@
+-- `past_middles` meets its contract.
+use Rattle.formats_skip.specs.Laws.Passes.{Passing, list_start, list_on, list_end}
+use Rattle.journey.specs.Card.{middle}
+use borrow.Author.Rules.{rules}
+use Rattle.journey_places.proofs.past_middles.Goals as goal
+
+pub loop-left-init : goal.loop-left-init
+loop-left-init c = list_start
+
+pub loop-left-preserved : goal.loop-left-preserved
+loop-left-preserved c = search list_on
+
+pub returns : goal.returns
+returns c = search list_end

@@ -1,0 +1,20 @@
+-- `trip_in_feed` meets its contract.
+use Rattle.overlay_resolve.specs.Laws.Resolve.{record_found, record_missing, feed_missing}
+use Rattle.overlay_places.specs.Laws.Ranks.{noted_room, found_low, rank_noted}
+use borrow.Author.Rules.{rules}
+use Rattle.overlay_resolve.proofs.trip_in_feed.Goals as goal
+
+pub get_trip-requires : goal.get_trip-requires
+get_trip-requires c = search rank_noted
+
+pub entry_place-requires : goal.entry_place-requires
+entry_place-requires c = (search noted_room, search found_low)
+
+pub returns-in-At-get_trip : goal.returns-in-At-get_trip
+returns-in-At-get_trip c = search record_found
+
+pub returns-in-Missing-get_trip : goal.returns-in-Missing-get_trip
+returns-in-Missing-get_trip c = search record_missing
+
+pub returns-in-Missing : goal.returns-in-Missing
+returns-in-Missing c = search feed_missing
