@@ -1,4 +1,6 @@
 // A script of calls, read where it stands: what each asks for.
+#![tactic(auto)]
+
 use formats::{Skip, Span};
 
 mod table;

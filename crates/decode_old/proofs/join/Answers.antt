@@ -33,7 +33,7 @@ loop-left-preserved c =
       search rules,
       search rules,
       search rules,
-      onward c.loop-left.inv.3 _ c.loop-left-test.taken
+      onward c.loop-left.invariant.3 _ c.loop-left-test.true
           P.ends (filled_more P),
     )
 

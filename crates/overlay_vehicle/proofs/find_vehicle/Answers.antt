@@ -1,9 +1,6 @@
 -- `find_vehicle` meets its contract.
-use borrow.Author.Rules.{rules}
-use Rattle.overlay.specs.State.{vehicle_entry}
-use Rattle.overlay_seek.specs.Laws.Seek.{Seeking, seek_start}
-use Rattle.overlay_vehicle.specs.Promises.Vehicle.{riding}
-use Rattle.overlay_vehicle.specs.Laws.Vehicle.{Keying, keying_start, keying_on, riding_on}
+use Rattle.overlay_seek.specs.Laws.Seek.{seek_start}
+use Rattle.overlay_vehicle.specs.Laws.Vehicle.{keying_start, keying_on, riding_on}
 use Rattle.overlay_vehicle.specs.Laws.Vehicle.{trip_found, trip_missing}
 use Rattle.overlay_vehicle.proofs.find_vehicle.Goals as goal
 

@@ -1,5 +1,4 @@
 -- `makes_trip` meets its contract.
-use borrow.Author.Rules.{rules}
 use Rattle.overlay_vehicle.specs.Laws.Vehicle.{trip_out, trip_absent, trip_given}
 use Rattle.overlay_vehicle.proofs.makes_trip.Goals as goal
 

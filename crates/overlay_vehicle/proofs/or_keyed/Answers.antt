@@ -1,5 +1,4 @@
 -- `or_keyed` meets its contract.
-use borrow.Author.Rules.{rules}
 use Rattle.overlay_vehicle.specs.Laws.Vehicle.{seen_before, seen_here, seen_not}
 use Rattle.overlay_vehicle.proofs.or_keyed.Goals as goal
 

@@ -1,5 +1,4 @@
 -- `read_vehicle` meets its contract.
-use borrow.Author.Rules.{rules}
 use Rattle.overlay_vehicle.specs.Laws.Vehicle.{place_read}
 use Rattle.overlay_vehicle.proofs.read_vehicle.Goals as goal
 

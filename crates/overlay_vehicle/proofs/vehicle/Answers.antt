@@ -1,5 +1,4 @@
 -- `vehicle` meets its contract.
-use borrow.Author.Rules.{rules}
 use Rattle.overlay_vehicle.specs.Laws.Vehicle.{sees_none, sees_one}
 use Rattle.overlay_vehicle.proofs.vehicle.Goals as goal
 
