@@ -1,8 +1,8 @@
 // What the programs read into: buffers of fixed length, zeros at first, and a reader's bytes at the start of one.
 #![tactic(auto)]
 
-ghost use Rattle.std.specs.Prelude.{◌≡◌, length};
-ghost use Rattle.std.specs.Io.{ReadsAtMost};
+ghost use Rattle.std.specs.Prelude.{◌≡◌, length, IfOk};
+ghost use Rattle.program_io.specs.Counts.{IsPrefixLen};
 
 use std::io;
 use std::io::Read;
@@ -23,7 +23,7 @@ pub fn large_buffer() -> [u8; 65536]
 
 // Reads until `buf` is full or the input ends, and answers how many bytes stand at the start of `buf`.
 pub fn read_full<R: Read>(reader: &mut R, buf: &mut [u8]) -> io::Result<usize>
-    ensures { ReadsAtMost result buf.new }
+    ensures { IfOk result (λ n. IsPrefixLen n buf.new) }
 {
     let mut done = 0;
     while done < buf.len() {
