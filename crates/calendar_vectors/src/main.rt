@@ -7,7 +7,7 @@
 
 ghost use Rattle.std.specs.Prelude.{◌+◌, ◌≤◌, length};
 
-use libc::{STDIN_FILENO, STDOUT_FILENO};
+use std::io;
 
 // The value of a decimal digit.
 fn digit(c: u8) -> u64 {
@@ -42,32 +42,31 @@ fn is_date(s: &[u8], at: usize, d: [u8; 8]) -> bool
 }
 
 // 1 where the line from `at` on agrees, else 0, and the line is named.
-fn run_line(s: &[u8], at: usize) -> u64
+fn run_line(rt: &impl Print, s: &[u8], at: usize) -> io::Result<u64>
     requires { at + 20 ≤ length s.now }
 {
     let d = calendar::paris_digits(seconds(s, at));
     if is_date(s, at + 11, d) {
-        return 1;
+        return Ok(1);
     }
-    io::write_all(STDOUT_FILENO, b"differs: ");
-    io::write_all(STDOUT_FILENO, &s[at..at + 20]);
-    0
+    rt.write_all(b"differs: ")?;
+    rt.write_all(&s[at..at + 20])?;
+    Ok(0)
 }
 
-fn run(s: &[u8]) -> u64 {
+fn run(rt: &impl Print, s: &[u8]) -> io::Result<u64> {
     let mut at = 0;
     let mut agree: u64 = 0;
     while 20 <= s.len() - at {
-        agree = std::num::wrapping_add_u64(agree, run_line(s, at));
+        agree = agree.wrapping_add(run_line(rt, s, at)?);
         at += 20;
     }
-    agree
+    Ok(agree)
 }
 
-fn main() {
-    let mut input = io::large_buffer();
-    let n = io::read_full(STDIN_FILENO, &mut input);
-    let agree = run(&input[..n]);
-    io::print_decimal(STDOUT_FILENO, agree);
-    io::write_all(STDOUT_FILENO, b" dates agree\n");
+fn main(rt: HostRuntime) -> io::Result<()> {
+    let mut input = program_io::large_buffer();
+    let n = program_io::read_full(&mut rt.reader(), &mut input)?;
+    let agree = run(&rt, &input[..n])?;
+    println!(rt; "{agree} dates agree")
 }

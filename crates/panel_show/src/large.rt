@@ -1,5 +1,6 @@
 // A text in large: letters of five rows and five columns.
 use crate::parts::say;
+use std::io;
 
 // The letters that the statuses have, a row after the other; any other letter is blank.
 fn shape(letter: u8) -> u32 {
@@ -37,56 +38,57 @@ fn bits(letter: u8, row: u8) -> u32 {
     }
 }
 
-fn blank() {
-    say(b" ");
+fn blank(rt: &impl Print) -> io::Result<()> {
+    say(rt, b" ")
 }
 
-fn blanks(n: u64) {
+fn blanks(rt: &impl Print, n: u64) -> io::Result<()> {
     let mut left = n;
     while 0 < left {
-        blank();
+        blank(rt)?;
         left -= 1;
     }
+    Ok(())
 }
 
 // One column of a row. Blanks wait for a mark behind them, so that no line ends in one; answers how many wait.
-fn column(marked: bool, waiting: u64) -> u64 {
+fn column(rt: &impl Print, marked: bool, waiting: u64) -> io::Result<u64> {
     if marked {
-        blanks(waiting);
-        say(b"#");
-        return 0;
+        blanks(rt, waiting)?;
+        say(rt, b"#")?;
+        return Ok(0);
     }
-    waiting % 80 + 1
+    Ok(waiting % 80 + 1)
 }
 
 // A letter's row behind a blank.
-fn letter_row(bits: u32, waiting: u64) -> u64 {
+fn letter_row(rt: &impl Print, bits: u32, waiting: u64) -> io::Result<u64> {
     let mut b = bits;
     let mut w = waiting;
     let mut left: u8 = 6;
     while 0 < left {
-        w = column(b / 32 % 2 == 1, w);
+        w = column(rt, b / 32 % 2 == 1, w)?;
         b = b % 32 * 2;
         left -= 1;
     }
-    w
+    Ok(w)
 }
 
 // A row of the whole text, with an indent of two.
-fn row(text: &[u8], n: u8) {
+fn row(rt: &impl Print, text: &[u8], n: u8) -> io::Result<()> {
     let mut waiting: u64 = 1;
     let mut i: usize = 0;
     while i < text.len() {
-        waiting = letter_row(bits(text[i], n), waiting);
+        waiting = letter_row(rt, bits(text[i], n), waiting)?;
         i += 1;
     }
-    say(b"\n");
+    say(rt, b"\n")
 }
 
-pub fn say_large(text: &[u8]) {
-    row(text, 0);
-    row(text, 1);
-    row(text, 2);
-    row(text, 3);
-    row(text, 4);
+pub fn say_large(rt: &impl Print, text: &[u8]) -> io::Result<()> {
+    row(rt, text, 0)?;
+    row(rt, text, 1)?;
+    row(rt, text, 2)?;
+    row(rt, text, 3)?;
+    row(rt, text, 4)
 }

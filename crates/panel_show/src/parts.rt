@@ -1,91 +1,91 @@
 // What states and cards are made of: numbers, texts, times of day, and what may be absent.
 use formats::Span;
 use formats_read::Numbered;
-use libc::STDOUT_FILENO;
+use std::io;
 
-pub fn say(text: &[u8]) {
-    io::write_all(STDOUT_FILENO, text);
+pub fn say(rt: &impl Print, text: &[u8]) -> io::Result<()> {
+    rt.write_all(text)
 }
 
-pub fn say_number(n: u64) {
-    io::print_decimal(STDOUT_FILENO, n);
+pub fn say_number(rt: &impl Print, n: u64) -> io::Result<()> {
+    rt.print(n)
 }
 
 // A signed number, by how it is written.
-pub fn say_signed(code: u64) {
+pub fn say_signed(rt: &impl Print, code: u64) -> io::Result<()> {
     if code % 2 == 0 {
-        say_number(code / 2);
+        say_number(rt, code / 2)
     } else {
-        say(b"-");
-        say_number(code / 2 + 1);
+        say(rt, b"-")?;
+        say_number(rt, code / 2 + 1)
     }
 }
 
 // Two digits.
-fn say_two(n: u64) {
+fn say_two(rt: &impl Print, n: u64) -> io::Result<()> {
     if n < 10 {
-        say(b"0");
+        say(rt, b"0")?;
     }
-    say_number(n);
+    say_number(rt, n)
 }
 
 // A time of day in Paris, by how the seconds since 1970 are written. A time before 1970 stays a number.
-pub fn say_clock(code: u64) {
+pub fn say_clock(rt: &impl Print, code: u64) -> io::Result<()> {
     if code % 2 == 0 {
         let t = code / 2;
         let ahead = calendar::offset(t) % 86400;
         let day = (t % 86400 + ahead) % 86400;
-        say_two(day / 3600);
-        say(b":");
-        say_two(day / 60 % 60);
-        say(b":");
-        say_two(day % 60);
+        say_two(rt, day / 3600)?;
+        say(rt, b":")?;
+        say_two(rt, day / 60 % 60)?;
+        say(rt, b":")?;
+        say_two(rt, day % 60)
     } else {
-        say_signed(code);
+        say_signed(rt, code)
     }
 }
 
 // How long something takes: in minutes where they are whole.
-fn say_seconds(n: u64) {
+fn say_seconds(rt: &impl Print, n: u64) -> io::Result<()> {
     if n % 60 == 0 {
-        say_number(n / 60);
-        say(b" min");
+        say_number(rt, n / 60)?;
+        say(rt, b" min")
     } else {
-        say_number(n);
-        say(b" s");
+        say_number(rt, n)?;
+        say(rt, b" s")
     }
 }
 
 // A delay, by how its seconds are written.
-pub fn say_delay(code: u64) {
+pub fn say_delay(rt: &impl Print, code: u64) -> io::Result<()> {
     if code == 0 {
-        say(b"on time");
+        say(rt, b"on time")
     } else if code % 2 == 0 {
-        say_seconds(code / 2);
-        say(b" late");
+        say_seconds(rt, code / 2)?;
+        say(rt, b" late")
     } else {
-        say_seconds(code / 2 + 1);
-        say(b" early");
+        say_seconds(rt, code / 2 + 1)?;
+        say(rt, b" early")
     }
 }
 
 // The bytes of a text.
-pub fn text(s: &[u8], at: usize) -> usize {
+pub fn text(rt: &impl Print, s: &[u8], at: usize) -> io::Result<usize> {
     let t: Span = formats_read::text(s, at);
     let from = t.from;
     let to = t.to;
-    say(&s[from..to]);
-    to
+    say(rt, &s[from..to])?;
+    Ok(to)
 }
 
 // A text behind its name, where it is not empty.
-pub fn named(s: &[u8], at: usize, name: &[u8]) -> usize {
+pub fn named(rt: &impl Print, s: &[u8], at: usize, name: &[u8]) -> io::Result<usize> {
     let t: Span = formats_read::text(s, at);
     if t.from < t.to {
-        say(name);
-        return text(s, at);
+        say(rt, name)?;
+        return text(rt, s, at);
     }
-    t.to
+    Ok(t.to)
 }
 
 // Whether a flag is set, or an optional value is there.
@@ -102,19 +102,19 @@ pub fn past(s: &[u8], at: usize) -> usize {
 }
 
 // A signed number behind its name.
-pub fn signed(s: &[u8], at: usize, name: &[u8]) -> usize {
+pub fn signed(rt: &impl Print, s: &[u8], at: usize, name: &[u8]) -> io::Result<usize> {
     let n: Numbered = formats_read::number(s, at);
-    say(name);
-    say_signed(n.value);
-    n.next
+    say(rt, name)?;
+    say_signed(rt, n.value)?;
+    Ok(n.next)
 }
 
 // A time of day behind its name.
-pub fn clock(s: &[u8], at: usize, name: &[u8]) -> usize {
+pub fn clock(rt: &impl Print, s: &[u8], at: usize, name: &[u8]) -> io::Result<usize> {
     let n: Numbered = formats_read::number(s, at);
-    say(name);
-    say_clock(n.value);
-    n.next
+    say(rt, name)?;
+    say_clock(rt, n.value)?;
+    Ok(n.next)
 }
 
 // The place past a number that may be absent.
@@ -127,54 +127,55 @@ pub fn past_optional(s: &[u8], at: usize) -> usize {
 }
 
 // The same where it is there.
-pub fn optional_signed(s: &[u8], at: usize, name: &[u8]) -> usize {
+pub fn optional_signed(rt: &impl Print, s: &[u8], at: usize, name: &[u8]) -> io::Result<usize> {
     let p = past(s, at);
     if set(s, at) {
-        return signed(s, p, name);
+        return signed(rt, s, p, name);
     }
-    p
+    Ok(p)
 }
 
-pub fn optional_clock(s: &[u8], at: usize, name: &[u8]) -> usize {
+pub fn optional_clock(rt: &impl Print, s: &[u8], at: usize, name: &[u8]) -> io::Result<usize> {
     let p = past(s, at);
     if set(s, at) {
-        return clock(s, p, name);
+        return clock(rt, s, p, name);
     }
-    p
+    Ok(p)
 }
 
-pub fn optional_number(s: &[u8], at: usize, name: &[u8]) -> usize {
+pub fn optional_number(rt: &impl Print, s: &[u8], at: usize, name: &[u8]) -> io::Result<usize> {
     let p = past(s, at);
     if set(s, at) {
         let n: Numbered = formats_read::number(s, p);
-        say(name);
-        say_number(n.value);
-        return n.next;
+        say(rt, name)?;
+        say_number(rt, n.value)?;
+        return Ok(n.next);
     }
-    p
+    Ok(p)
 }
 
-pub fn optional_text(s: &[u8], at: usize, name: &[u8]) -> usize {
+pub fn optional_text(rt: &impl Print, s: &[u8], at: usize, name: &[u8]) -> io::Result<usize> {
     let p = past(s, at);
     if set(s, at) {
-        say(name);
-        return text(s, p);
+        say(rt, name)?;
+        return text(rt, s, p);
     }
-    p
+    Ok(p)
 }
 
 // What a whole one is in a fraction that counts 2^-56.
 const ONE: u64 = 72057594037927936;
 
 // The five digits behind the point of a fraction.
-fn say_fraction(fraction: u64) {
+fn say_fraction(rt: &impl Print, fraction: u64) -> io::Result<()> {
     let mut f = fraction;
     let mut left: u8 = 5;
     while 0 < left {
         f = f % ONE * 10;
-        say_number(f / ONE);
+        say_number(rt, f / ONE)?;
         left -= 1;
     }
+    Ok(())
 }
 
 // m doubled n times, as long as there is room.
@@ -218,30 +219,30 @@ fn rounded(f: u64) -> u64 {
 }
 
 // A number of degrees by its 64 bits: sign, whole part and five digits. What is no number below 256 is a question mark.
-pub fn say_degrees(bits: u64) {
+pub fn say_degrees(rt: &impl Print, bits: u64) -> io::Result<()> {
     let exponent = bits / 4503599627370496 % 2048;
     if 1030 < exponent {
-        say(b"?");
+        say(rt, b"?")
     } else {
         if 9223372036854775808 <= bits {
-            say(b"-");
+            say(rt, b"-")?;
         }
         let f = rounded(fraction(bits, exponent));
-        say_number(f / ONE);
-        say(b".");
-        say_fraction(f);
+        say_number(rt, f / ONE)?;
+        say(rt, b".")?;
+        say_fraction(rt, f)
     }
 }
 
 // A float that is there, as degrees behind a name.
-pub fn optional_degrees(s: &[u8], at: usize, name: &[u8]) -> usize {
+pub fn optional_degrees(rt: &impl Print, s: &[u8], at: usize, name: &[u8]) -> io::Result<usize> {
     let p = past(s, at);
     if set(s, at) {
-        say(name);
-        say_degrees(formats_read::float(s, p));
-        return past_float(s, p);
+        say(rt, name)?;
+        say_degrees(rt, formats_read::float(s, p))?;
+        return Ok(past_float(s, p));
     }
-    p
+    Ok(p)
 }
 
 // The place past eight bytes.
@@ -255,9 +256,9 @@ pub fn past_float(s: &[u8], at: usize) -> usize {
     at + 8
 }
 
-pub fn flag(s: &[u8], at: usize, name: &[u8]) -> usize {
+pub fn flag(rt: &impl Print, s: &[u8], at: usize, name: &[u8]) -> io::Result<usize> {
     if set(s, at) {
-        say(name);
+        say(rt, name)?;
     }
-    past(s, at)
+    Ok(past(s, at))
 }

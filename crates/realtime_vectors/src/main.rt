@@ -10,28 +10,29 @@
 // its sequence, its stop, arrival and departure as delay and time, and whether it is skipped. '-' is absent.
 // What the readers answer is proved in `realtime` and `realtime_views`; the functions here write it out and promise
 // nothing of what was written, so they have no `ensures`.
+#![tactic(auto)]
+
 ghost use Rattle.std.specs.Prelude.{◌+◌, ◌≤◌, ◌<◌, length};
-ghost use Rattle.io.specs.Counts.{IsPrefixLen};
+ghost use Rattle.program_io.specs.Counts.{IsPrefixLen};
 
 use realtime::Verdict;
 use realtime_read::{FEED_MESSAGE, ID_LIMIT};
 use realtime_views::{Delay, Direction, Event, Item, StopUpdate, TextPart, Time, Timestamp, Trip};
+use std::io;
 
-const OUT: i32 = 1;
-
-fn write(s: &[u8]) {
-    io::write_all(OUT, s);
+fn write(rt: &impl Print, s: &[u8]) -> io::Result<()> {
+    rt.write_all(s)
 }
 
-fn write_number(n: u64) {
-    io::print_decimal(OUT, n);
+fn write_number(rt: &impl Print, n: u64) -> io::Result<()> {
+    rt.print(n)
 }
 
-fn write_bool(b: bool) {
+fn write_bool(rt: &impl Print, b: bool) -> io::Result<()> {
     if b {
-        write(b" yes");
+        write(rt, b" yes")
     } else {
-        write(b" no");
+        write(rt, b" no")
     }
 }
 
@@ -49,13 +50,13 @@ fn magnitude(z: i64) -> u64
     z as u64
 }
 
-fn write_signed(z: i64) {
+fn write_signed(rt: &impl Print, z: i64) -> io::Result<()> {
     if z < 0 {
-        write(b" -");
-        write_number(magnitude(flipped(z)) + 1);
+        write(rt, b" -")?;
+        write_number(rt, magnitude(flipped(z)) + 1)
     } else {
-        write(b" ");
-        write_number(magnitude(z));
+        write(rt, b" ")?;
+        write_number(rt, magnitude(z))
     }
 }
 
@@ -63,153 +64,152 @@ fn wide(z: i32) -> i64 {
     z as i64
 }
 
-fn write_delay(d: Delay) {
+fn write_delay(rt: &impl Print, d: Delay) -> io::Result<()> {
     match d {
-        Delay::Given(z) => write_signed(wide(z)),
-        Delay::Absent => write(b" -"),
+        Delay::Given(z) => write_signed(rt, wide(z)),
+        Delay::Absent => write(rt, b" -"),
     }
 }
 
-fn write_time(t: Time) {
+fn write_time(rt: &impl Print, t: Time) -> io::Result<()> {
     match t {
-        Time::Given(z) => write_signed(z),
-        Time::Absent => write(b" -"),
+        Time::Given(z) => write_signed(rt, z),
+        Time::Absent => write(rt, b" -"),
     }
 }
 
-fn write_span(s: &[u8], p: TextPart)
+fn write_span(rt: &impl Print, s: &[u8], p: TextPart) -> io::Result<()>
     requires { p.start + p.len ≤ length s.now }
 {
     let start = p.start;
     let len = p.len;
     if len == 0 {
-        write(b" -");
-        return;
+        return write(rt, b" -");
     }
-    write(b" ");
-    write(slices::part(s, start, len));
+    write(rt, b" ")?;
+    write(rt, slices::part(s, start, len))
 }
 
-fn write_event(e: Event) {
+fn write_event(rt: &impl Print, e: Event) -> io::Result<()> {
     let delay = e.delay;
     let time = e.time;
-    write_delay(delay);
-    write_time(time);
+    write_delay(rt, delay)?;
+    write_time(rt, time)
 }
 
-fn write_stop(s: &[u8], u: StopUpdate)
+fn write_stop(rt: &impl Print, s: &[u8], u: StopUpdate) -> io::Result<()>
     requires { u.stop.start + u.stop.len ≤ length s.now }
 {
-    write(b" (");
-    write_number(u.sequence as u64);
-    write_span(s, u.stop);
-    write_event(u.arrival);
-    write_event(u.departure);
-    write_bool(u.skipped);
-    write(b")");
+    write(rt, b" (")?;
+    write_number(rt, u.sequence as u64)?;
+    write_span(rt, s, u.stop)?;
+    write_event(rt, u.arrival)?;
+    write_event(rt, u.departure)?;
+    write_bool(rt, u.skipped)?;
+    write(rt, b")")
 }
 
-fn write_direction(d: Direction) {
+fn write_direction(rt: &impl Print, d: Direction) -> io::Result<()> {
     match d {
         Direction::Given(n) => {
-            write(b" ");
-            write_number(n as u64);
+            write(rt, b" ")?;
+            write_number(rt, n as u64)
         }
-        Direction::Absent => write(b" -"),
+        Direction::Absent => write(rt, b" -"),
     }
 }
 
-fn write_timestamp(t: Timestamp) {
+fn write_timestamp(rt: &impl Print, t: Timestamp) -> io::Result<()> {
     match t {
         Timestamp::Given(n) => {
-            write(b" ");
-            write_number(n);
+            write(rt, b" ")?;
+            write_number(rt, n)
         }
-        Timestamp::Absent => write(b" -"),
+        Timestamp::Absent => write(rt, b" -"),
     }
 }
 
-fn write_trip(s: &[u8], start: usize, len: usize)
+fn write_trip(rt: &impl Print, s: &[u8], start: usize, len: usize) -> io::Result<()>
     requires { start + len ≤ length s.now }
 {
     let t = realtime_views::trip_of(s, start, len);
-    write(b"trip");
-    write_span(s, t.id);
-    write_span(s, t.time);
-    write_span(s, t.date);
-    write_span(s, t.route);
-    write_bool(t.cancelled);
+    write(rt, b"trip")?;
+    write_span(rt, s, t.id)?;
+    write_span(rt, s, t.time)?;
+    write_span(rt, s, t.date)?;
+    write_span(rt, s, t.route)?;
+    write_bool(rt, t.cancelled)?;
     let direction = t.direction;
     let delay = t.delay;
-    write_direction(direction);
-    write_delay(delay);
+    write_direction(rt, direction)?;
+    write_delay(rt, delay)
 }
 
 // The stop time updates of the entity that starts at `start` and ends with `s`.
-fn write_updates(s: &[u8], start: usize)
+fn write_updates(rt: &impl Print, s: &[u8], start: usize) -> io::Result<()>
     requires { start ≤ length s.now }
 {
     let mut w = realtime_views::merged_items(start);
     loop {
         match realtime_views::next_update(s, w) {
-            Item::Done => return,
+            Item::Done => return Ok(()),
             Item::At {
                 start: i,
                 len: n,
                 walk: rest,
             } => {
-                write_stop(s, realtime_views::stop_of(s, i, n));
+                write_stop(rt, s, realtime_views::stop_of(s, i, n))?;
                 w = rest;
             }
         }
     }
 }
 
-fn write_entity(s: &[u8], start: usize, len: usize)
+fn write_entity(rt: &impl Print, s: &[u8], start: usize, len: usize) -> io::Result<()>
     requires { start + len ≤ length s.now }
 {
-    write(b" [");
+    write(rt, b" [")?;
     if realtime_views::is_deleted(s, start, len) {
-        write(b"deleted");
+        write(rt, b"deleted")?;
     } else {
-        write_trip(s, start, len);
-        write_updates(slices::part(s, 0, start + len), start);
+        write_trip(rt, s, start, len)?;
+        write_updates(rt, slices::part(s, 0, start + len), start)?;
     }
-    write(b"]");
+    write(rt, b"]")
 }
 
-fn write_entities(s: &[u8]) {
+fn write_entities(rt: &impl Print, s: &[u8]) -> io::Result<()> {
     let mut w = realtime_views::entities(s);
     loop {
         match realtime_views::next_entity(s, w) {
-            Item::Done => return,
+            Item::Done => return Ok(()),
             Item::At {
                 start: i,
                 len: n,
                 walk: rest,
             } => {
-                write_entity(s, i, n);
+                write_entity(rt, s, i, n)?;
                 w = rest;
             }
         }
     }
 }
 
-fn write_message(s: &[u8]) {
+fn write_message(rt: &impl Print, s: &[u8]) -> io::Result<()> {
     match realtime_read::judge(s, FEED_MESSAGE, ID_LIMIT) {
-        Verdict::Broken => write(b"4"),
-        Verdict::Text => write(b"5"),
-        Verdict::Time => write(b"6"),
+        Verdict::Broken => write(rt, b"4")?,
+        Verdict::Text => write(rt, b"5")?,
+        Verdict::Time => write(rt, b"6")?,
         Verdict::Fine => {
-            write(b"0");
+            write(rt, b"0")?;
             let h = realtime_views::header_of(s);
-            write_bool(h.differential);
+            write_bool(rt, h.differential)?;
             let timestamp = h.timestamp;
-            write_timestamp(timestamp);
-            write_entities(s);
+            write_timestamp(rt, timestamp)?;
+            write_entities(rt, s)?;
         }
     }
-    write(b"\n");
+    write(rt, b"\n")
 }
 
 // The bytes of a line, two digits each, and how many they are.
@@ -237,29 +237,29 @@ fn bytes_of(line: &[u8], out: &mut [u8]) -> usize
     n
 }
 
-fn answer(line: &[u8]) {
+fn answer(rt: &impl Print, line: &[u8]) -> io::Result<()> {
     if 0 < line.len() {
         if line[0] == b'#' {
-            write(line);
-            return;
+            return write(rt, line);
         }
     }
-    let mut bytes = io::buffer();
+    let mut bytes = program_io::buffer();
     let n = bytes_of(line, &mut bytes);
-    write_message(&bytes[..n]);
+    write_message(rt, &bytes[..n])
 }
 
-fn answers(s: &[u8]) {
+fn answers(rt: &impl Print, s: &[u8]) -> io::Result<()> {
     let mut at = 0;
     while at < s.len() {
         let end = vector_lines::line_end(s, at);
-        answer(&s[at..end]);
+        answer(rt, &s[at..end])?;
         at = end;
     }
+    Ok(())
 }
 
-fn main() {
-    let mut buffer = io::large_buffer();
-    let n = io::read_full(0, &mut buffer);
-    answers(&buffer[..n]);
+fn main(rt: HostRuntime) -> io::Result<()> {
+    let mut buffer = program_io::large_buffer();
+    let n = program_io::read_full(&mut rt.reader(), &mut buffer)?;
+    answers(&rt, &buffer[..n])
 }

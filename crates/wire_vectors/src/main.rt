@@ -9,7 +9,7 @@
 
 ghost use Rattle.std.specs.Prelude.{◌≤◌, length};
 
-use libc::{STDIN_FILENO, STDOUT_FILENO};
+use std::io;
 use wire::{Cursor, GotKey, GotNumber, GotText, Skipped};
 
 // An answer in numbers: 1 and what was read, or zeros where the bytes are broken.
@@ -175,42 +175,39 @@ fn agrees(line: &[u8], kind: u8, s: &mut [u8]) -> bool {
 }
 
 // 1 where a line has a vector that agrees, else 0; where it differs, the line is named.
-fn run_line(line: &[u8], number: u64) -> u64 {
+fn run_line(rt: &impl Print, line: &[u8], number: u64) -> io::Result<u64> {
     if line.len() == 0 {
-        return 0;
+        return Ok(0);
     }
     let kind = line[0];
     if (kind == b'#') | (kind == b'\n') {
-        return 0;
+        return Ok(0);
     }
     let mut s = [0u8; 64];
     if agrees(line, kind, &mut s) {
-        return 1;
+        return Ok(1);
     }
-    io::write_all(STDOUT_FILENO, b"differs: line ");
-    io::print_decimal(STDOUT_FILENO, number);
-    io::write_all(STDOUT_FILENO, b"\n");
-    0
+    println!(rt; "differs: line {number}")?;
+    Ok(0)
 }
 
 // How many vectors of s agree.
-fn run(s: &[u8]) -> u64 {
+fn run(rt: &impl Print, s: &[u8]) -> io::Result<u64> {
     let mut start = 0;
     let mut number: u64 = 1;
     let mut agree: u64 = 0;
     while start < s.len() {
         let end = vector_lines::line_end(s, start);
-        agree = std::num::wrapping_add_u64(agree, run_line(&s[start..end], number));
-        number = std::num::wrapping_add_u64(number, 1);
+        agree = agree.wrapping_add(run_line(rt, &s[start..end], number)?);
+        number = number.wrapping_add(1);
         start = end;
     }
-    agree
+    Ok(agree)
 }
 
-fn main() {
-    let mut input = io::large_buffer();
-    let n = io::read_full(STDIN_FILENO, &mut input);
-    let agree = run(&input[..n]);
-    io::print_decimal(STDOUT_FILENO, agree);
-    io::write_all(STDOUT_FILENO, b" vectors agree\n");
+fn main(rt: HostRuntime) -> io::Result<()> {
+    let mut input = program_io::large_buffer();
+    let n = program_io::read_full(&mut rt.reader(), &mut input)?;
+    let agree = run(&rt, &input[..n])?;
+    println!(rt; "{agree} vectors agree")
 }

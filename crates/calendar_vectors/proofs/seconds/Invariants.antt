@@ -1,5 +1,5 @@
 -- `calendar_vectors::seconds` stays inside the line. Assumes nothing.
-use Rattle.std.proofs.Common.{◌-◌, ◌≤◌, rules}
+use Rattle.std.proofs.Common.{◌-◌, ◌≤◌}
 use Rattle.calendar_vectors.proofs.seconds.Given as goal
 
 abbrev pub invariant-loop-i : goal.invariant-loop-i

@@ -1,5 +1,5 @@
 -- `wire_vectors::bytes` stays inside the line and the bytes lent. Assumes nothing.
-use Rattle.std.proofs.Common.{◌≡◌, ◌-◌, ◌≤◌, length, length-set, rules}
+use Rattle.std.proofs.Common.{◌≡◌, ◌-◌, ◌≤◌, length}
 use Rattle.wire_vectors.proofs.bytes.Given as goal
 
 abbrev pub invariant-loop-n : goal.invariant-loop-n

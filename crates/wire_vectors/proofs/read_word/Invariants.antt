@@ -1,5 +1,5 @@
 -- `wire_vectors::read_word` stays inside the line. Assumes nothing.
-use Rattle.std.proofs.Common.{◌-◌, ◌≤◌, length, rules}
+use Rattle.std.proofs.Common.{◌-◌, ◌≤◌, length}
 use Rattle.wire_vectors.proofs.read_word.Given as goal
 
 abbrev pub invariant-loop-at : goal.invariant-loop-at

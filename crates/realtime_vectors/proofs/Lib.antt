@@ -1,2 +1,0 @@
--- Lemmas on plain values.
-mod Signed
