@@ -1,4 +1,6 @@
 // The index of what a message leaves of a feed's trips: every entity's keys, in order.
+#![tactic(auto)]
+
 ghost use Rattle.std.specs.Prelude.{◌≤◌, length};
 ghost use Rattle.decode.specs.Sizes.{most_feed, most_message};
 ghost use Rattle.decode_slots.specs.Index.{index};

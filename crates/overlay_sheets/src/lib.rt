@@ -1,5 +1,7 @@
 // An overlay as an alert sheet or a vehicle sheet leaves it: the feed that the sheet is for is written anew or made,
 // the rest is copied. What question 7 refuses is answered as what does not fit, and nothing is written.
+#![tactic(auto)]
+
 ghost use Rattle.std.specs.Prelude.{◌≡◌, true, List, length, ℤ, pos, ◌-ℤ◌};
 ghost use Rattle.maps.specs.Map.{puts};
 ghost use Rattle.maps.specs.Order.{texts};

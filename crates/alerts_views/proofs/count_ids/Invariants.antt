@@ -1,11 +1,8 @@
 -- `alerts_views::count_ids`: those so far and those that are left. Assumes nothing.
-use borrow.Author.Rules.{rules}
 use Prim.Native.Nat.{◌+◌}
-use native.Mathlib.Omega.{arith}
 use lib.ListN.{take}
 use Rattle.realtime_views.specs.Promises.Walks.{ahead}
-use Rattle.alerts_views.proofs.Counting.{Counting, counting, counts, selector_inside, fewer, id_count}
-use Rattle.alerts_views.proofs.Counting.{ids_counted, ids_more, ids_on, ids_many}
+use Rattle.alerts_views.proofs.Counting.{Counting, id_count}
 use Rattle.alerts_views.proofs.count_ids.Given as goal
 
 abbrev pub invariant-loop-n : goal.invariant-loop-n

@@ -1,10 +1,6 @@
 -- `alerts_views::count_selectors`: those so far and those that are left. Assumes nothing.
-use borrow.Author.Rules.{rules}
-use Prim.Native.Nat.{◌+◌}
 use native.Mathlib.Omega.{arith}
-use lib.ListN.{length, take}
-use Rattle.realtime_views.specs.Promises.Walks.{ahead}
-use Rattle.alerts_views.proofs.Counting.{Counting, counting, counts, fewer, selectors_counted, selectors_on}
+use Rattle.alerts_views.proofs.Counting.{counting, counts, fewer, selectors_counted, selectors_on}
 use Rattle.alerts_views.proofs.Counting.{selectors_many}
 use Rattle.alerts_views.proofs.count_selectors.Goals as goal
 

@@ -1,5 +1,4 @@
 -- `alerts_views::description_of` meets its contract: the words at the field that it names. Assumes nothing.
-use borrow.Author.Rules.{rules}
 use Rattle.alerts_views.proofs.Wording.{description_worded}
 use Rattle.alerts_views.proofs.description_of.Goals as goal
 

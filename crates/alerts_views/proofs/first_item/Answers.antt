@@ -1,5 +1,4 @@
 -- `alerts_views::first_item` meets its contract, in the bytes up to the message's end. Assumes nothing.
-use borrow.Author.Rules.{rules}
 use Rattle.alerts_views.proofs.Presence.{first_walks, first_read}
 use Rattle.alerts_views.proofs.first_item.Goals as goal
 

@@ -1,5 +1,4 @@
 -- `alerts_views::header_of` meets its contract: the words at the field that it names. Assumes nothing.
-use borrow.Author.Rules.{rules}
 use Rattle.alerts_views.proofs.Wording.{header_worded}
 use Rattle.alerts_views.proofs.header_of.Goals as goal
 

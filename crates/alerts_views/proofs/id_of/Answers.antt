@@ -1,5 +1,4 @@
 -- `alerts_views::id_of` meets its contract: the text at the field of the kind. Assumes nothing.
-use borrow.Author.Rules.{rules}
 use Rattle.alerts_views.proofs.Ids.{trip_id_read, route_id_read, stop_id_read}
 use Rattle.alerts_views.proofs.id_of.Goals as goal
 

@@ -1,5 +1,4 @@
 -- `alerts_views::is_deleted` meets its contract, by the kind of the scalar. Assumes nothing.
-use borrow.Author.Rules.{rules}
 use mathlib.Core.Path.{sym, ap}
 use Rattle.alerts_views.proofs.Presence.{marked, deleted_read}
 use Rattle.alerts_views.proofs.is_deleted.Goals as goal

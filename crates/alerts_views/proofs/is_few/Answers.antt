@@ -1,5 +1,4 @@
 -- `alerts_views::is_few` meets its contract: by its selectors, or by its ids of each kind. Assumes nothing.
-use borrow.Author.Rules.{rules}
 use Rattle.alerts_views.proofs.Counting.{few_selectors, many_trips, many_routes, by_stops}
 use Rattle.alerts_views.proofs.is_few.Goals as goal
 

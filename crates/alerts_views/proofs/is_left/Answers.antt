@@ -1,5 +1,4 @@
 -- `alerts_views::is_left` meets its contract: not deleted, and a first alert. Assumes nothing.
-use borrow.Author.Rules.{rules}
 use mathlib.Core.Path.{sym, ap}
 use Rattle.alerts_views.proofs.Presence.{is_item, left_deleted, left_read}
 use Rattle.alerts_views.proofs.is_left.Goals as goal

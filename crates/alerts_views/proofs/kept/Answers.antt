@@ -1,8 +1,6 @@
 -- `alerts_views::kept`: the alerts so far and the entities that are left. The measure: the bytes behind the walk.
 -- Assumes nothing.
-use borrow.Author.Rules.{rules}
-use Rattle.realtime_views.specs.Promises.Walks.{ahead}
-use Rattle.alerts_views.proofs.Keeping.{Keeping, keeping, kept_many, kept_all, entity_inside, fewer, keeps_on}
+use Rattle.alerts_views.proofs.Keeping.{keeping, kept_many, kept_all, entity_inside, fewer, keeps_on}
 use Rattle.alerts_views.proofs.kept.Goals as goal
 
 pub loop-n-init : goal.loop-n-init

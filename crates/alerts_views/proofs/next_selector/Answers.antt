@@ -1,5 +1,4 @@
 -- `alerts_views::next_selector` meets its contract: a walk over the listed fields that it names. Assumes nothing.
-use borrow.Author.Rules.{rules}
 use Rattle.alerts_views.proofs.Walking as walking
 use Rattle.alerts_views.proofs.next_selector.Goals as goal
 

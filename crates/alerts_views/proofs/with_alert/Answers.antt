@@ -1,5 +1,4 @@
 -- `alerts_views::with_alert` meets its contract: by whether the alert is kept, and has few ids. Assumes nothing.
-use borrow.Author.Rules.{rules}
 use Rattle.alerts_views.proofs.Keeping.{none_more, one_more, too_many}
 use Rattle.alerts_views.proofs.with_alert.Goals as goal
 

@@ -1,24 +1,9 @@
 -- `alerts_views::words` meets its contract. The invariant: the first translation of the strings that are left is that
 -- of all. Assumes nothing.
-use borrow.Author.Rules.{rules}
-use Prim.Native.Nat.{◌+◌}
-use native.Mathlib.Omega.{arith}
-use lib.ListN.{take}
-use Rattle.realtime_views.specs.Promises.Walks.{ahead}
-use Rattle.alerts_views.specs.Promises.Words.{Worded}
 use Rattle.realtime_views.specs.Laws.Turns.{walks, there, less}
-use Rattle.alerts_views.proofs.Wording.{Wording, wording, strings_of, wordless, wording_on, worded}
+use Rattle.alerts_views.proofs.Wording.{wording, strings_of, wordless, wording_on, worded}
 use Rattle.alerts_views.proofs.Wording.{first_there}
 use Rattle.alerts_views.proofs.words.Goals as goal
-
-abbrev Sought : Type 0
-Sought = tie.After-next-item invariant-loop decreases-loop
-
-abbrev turn : Sought → tie.At-loop invariant-loop decreases-loop
-turn c = c.before.before
-
-listed : (c : Sought) → Worded (turn c).before.before.before.args.k
-listed c = (turn c).before.before.before.requires.1
 
 pub loop-i-init : goal.loop-i-init
 loop-i-init c =
@@ -30,14 +15,14 @@ next_item-found-requires c = walks c.loop-i.invariant c.part.ensures
 
 pub returns-in_default : goal.returns-in_default
 returns-in_default c =
-    wordless (turn c).loop.invariant (listed c) c.part.ensures
-    (strings_of (turn c).loop.invariant (listed c) c.part.ensures c.next_item-found.ensures)
+    wordless c.loop-i.invariant c.requires.worded c.part.ensures
+    (strings_of c.loop-i.invariant c.requires.worded c.part.ensures c.next_item-found.ensures)
     c.in_default.is
 
 pub first_item-requires : goal.first_item-requires
 first_item-requires c =
-    there (turn c).loop.invariant c.part.ensures
-    (strings_of (turn c).loop.invariant (listed c) c.part.ensures c.next_item-found.ensures)
+    there c.loop-i.invariant c.part.ensures
+    (strings_of c.loop-i.invariant c.requires.worded c.part.ensures c.next_item-found.ensures)
     c.in-At.is
 
 pub text_of-requires : goal.text_of-requires
@@ -45,19 +30,19 @@ text_of-requires c = first_there c.first_item.ensures c.in-At-first_item.is
 
 pub returns-in-At-first_item : goal.returns-in-At-first_item
 returns-in-At-first_item c =
-    worded (turn c).loop.invariant (listed c) c.part.ensures
-    (strings_of (turn c).loop.invariant (listed c) c.part.ensures c.next_item-found.ensures)
+    worded c.loop-i.invariant c.requires.worded c.part.ensures
+    (strings_of c.loop-i.invariant c.requires.worded c.part.ensures c.next_item-found.ensures)
     c.in-At.is c.first_item.ensures c.in-At-first_item.is
     c.text_of.ensures
 
 pub loop-i-smaller : goal.loop-i-smaller
 loop-i-smaller c =
-    less (turn c).loop.invariant c.part.ensures
-    (strings_of (turn c).loop.invariant (listed c) c.part.ensures c.next_item-found.ensures)
+    less c.loop-i.invariant c.part.ensures
+    (strings_of c.loop-i.invariant c.requires.worded c.part.ensures c.next_item-found.ensures)
     c.in-At.is
 
 pub loop-i-preserved : goal.loop-i-preserved
 loop-i-preserved c =
-    wording_on (turn c).loop.invariant (listed c) c.part.ensures
-    (strings_of (turn c).loop.invariant (listed c) c.part.ensures c.next_item-found.ensures)
+    wording_on c.loop-i.invariant c.requires.worded c.part.ensures
+    (strings_of c.loop-i.invariant c.requires.worded c.part.ensures c.next_item-found.ensures)
     c.in-At.is c.first_item.ensures c.in-Done.is

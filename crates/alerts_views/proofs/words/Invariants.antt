@@ -1,14 +1,9 @@
 -- `alerts_views::words` meets its contract. The invariant: the first translation of the strings that are left is that
 -- of all. Assumes nothing.
-use borrow.Author.Rules.{rules}
 use Prim.Native.Nat.{◌+◌}
-use native.Mathlib.Omega.{arith}
 use lib.ListN.{take}
 use Rattle.realtime_views.specs.Promises.Walks.{ahead}
-use Rattle.alerts_views.specs.Promises.Words.{Worded}
-use Rattle.realtime_views.specs.Laws.Turns.{walks, there, less}
-use Rattle.alerts_views.proofs.Wording.{Wording, wording, strings_of, wordless, wording_on, worded}
-use Rattle.alerts_views.proofs.Wording.{first_there}
+use Rattle.alerts_views.proofs.Wording.{Wording}
 use Rattle.alerts_views.proofs.words.Given as goal
 
 abbrev pub invariant-loop-i : goal.invariant-loop-i

@@ -7,8 +7,7 @@ use lib.ListN.{length}
 use Rattle.formats_check.proofs.printables_from.Given as goal
 
 abbrev pub invariant-loop-left : goal.invariant-loop-left
-invariant-loop-left l =
-    (l.p ≤ length l.s) × Eaching (text l.limit printable) l.n l.s l.at l.left l.p
+invariant-loop-left l = (l.p ≤ length l.s) × Eaching (text l.limit printable) l.n l.s l.at l.left l.p
 
 abbrev pub decreases-loop-left : goal.decreases-loop-left
 decreases-loop-left l = l.left

@@ -1,7 +1,6 @@
 -- `alerts` meets its contract.
 use Rattle.overlay_resolve.specs.Laws.Shown.{alerts_in, no_alerts}
 use Rattle.overlay_places.specs.Laws.Ranks.{noted_room, found_low}
-use borrow.Author.Rules.{rules}
 use lib.ListN.{length-take}
 use native.Mathlib.Omega.{arith}
 use Rattle.overlay_resolve.proofs.alerts.Goals as goal

@@ -1,6 +1,5 @@
 -- `by_route` meets its contract.
 use Rattle.overlay_resolve.specs.Laws.Resolve.{route_empty, route_named}
-use borrow.Author.Rules.{rules}
 use lib.ListN.{length-take}
 use native.Mathlib.Omega.{arith}
 use Rattle.overlay_resolve.proofs.by_route.Goals as goal

@@ -1,6 +1,5 @@
 -- `resolve` meets its contract.
 use Rattle.overlay_resolve.specs.Laws.Resolve.{by_id, by_leg}
-use borrow.Author.Rules.{rules}
 use lib.ListN.{length-take}
 use native.Mathlib.Omega.{arith}
 use Rattle.overlay_resolve.proofs.resolve.Goals as goal

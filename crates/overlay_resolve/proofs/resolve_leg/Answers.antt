@@ -1,6 +1,5 @@
 -- `resolve_leg` meets its contract.
 use Rattle.overlay_resolve.specs.Laws.Resolve.{dated}
-use borrow.Author.Rules.{rules}
 use Rattle.overlay_resolve.proofs.resolve_leg.Goals as goal
 
 pub returns : goal.returns

@@ -1,7 +1,6 @@
 -- `route_in_feed` meets its contract.
 use Rattle.overlay_resolve.specs.Laws.Resolve.{record_found, record_missing, feed_missing}
 use Rattle.overlay_places.specs.Laws.Ranks.{noted_room, found_low, rank_noted}
-use borrow.Author.Rules.{rules}
 use Rattle.overlay_resolve.proofs.route_in_feed.Goals as goal
 
 pub by_descriptor-requires : goal.by_descriptor-requires

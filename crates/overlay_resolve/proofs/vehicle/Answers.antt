@@ -1,7 +1,6 @@
 -- `vehicle` meets its contract.
 use Rattle.overlay_resolve.specs.Laws.Shown.{in_feed, no_feed_holds}
 use Rattle.overlay_places.specs.Laws.Ranks.{noted_room, found_low}
-use borrow.Author.Rules.{rules}
 use lib.ListN.{length-take}
 use native.Mathlib.Omega.{arith}
 use Rattle.overlay_resolve.proofs.vehicle.Goals as goal

@@ -7,8 +7,7 @@ use Rattle.vehicle_place.proofs.write.Goals as goal
 
 pub returns : goal.returns
 returns c =
-    let f : SFits w64
-    c.args.v.updated = search rules in
+    let f : SFits w64 c.args.v.updated = search rules in
     Laws.place_out
     c.args.v
     c.to_bits.ensures c.to_bits-2.ensures f
