@@ -1,6 +1,7 @@
 // The alerts of a message, written as an alert sheet: its version, how many they are, and each with its words and the
 // ids of its selectors, which have the feed's prefix.
 #![tactic(auto)]
+
 ghost use Rattle.std.specs.Prelude.{length};
 ghost use Rattle.formats_write.specs.declared.Put.TheVariants.{At};
 ghost use Rattle.formats_write.specs.Promises.Adds.{Adds};

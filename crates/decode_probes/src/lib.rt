@@ -1,5 +1,7 @@
 // Calls of the readers of trip messages for a C host: the comparison with the original runs them. They ask nothing of
 // their caller.
+#![tactic(auto)]
+
 mod table;
 
 ghost use Rattle.std.specs.Prelude.{◌≡◌, false, eqb, length};

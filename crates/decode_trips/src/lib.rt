@@ -1,4 +1,6 @@
 // The trips that a message leaves, written: keys and records in the order of the keys.
+#![tactic(auto)]
+
 ghost use Rattle.std.specs.Prelude.{◌≡◌, false, ◌≤◌, length, take};
 ghost use Rattle.basics.specs.Lists.{All};
 ghost use Rattle.formats.specs.Readers.{many_w};

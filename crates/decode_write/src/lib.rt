@@ -1,5 +1,7 @@
 // The records that a message leaves, written: one of the message is made from its entity, an old one copied. How many
 // keys count.
+#![tactic(auto)]
+
 ghost use Rattle.std.specs.Prelude.{◌≡◌, false, List, ℕ, ◌+◌, ◌-◌, ◌≤◌, ◌<◌, length, take, drop};
 ghost use Rattle.basics.specs.Lists.{All};
 ghost use Rattle.basics.specs.Options.{maybe};

@@ -1,4 +1,6 @@
 // The card: what a first pass over its legs gathers, and its head written anew.
+#![tactic(auto)]
+
 ghost use Rattle.std.specs.Prelude.{◌≡◌, cond, ◌||◌, ◌<◌, length};
 ghost use Rattle.basics.specs.Options.{given_or};
 ghost use Rattle.formats_write.specs.Promises.Adds.{Adds};

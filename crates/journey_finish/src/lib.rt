@@ -1,5 +1,7 @@
 // A transit leg finished by look-ups in the overlay b, whose places are noted: its record, its vehicle, and the leg
 // written anew.
+#![tactic(auto)]
+
 ghost use Rattle.overlay_noted.specs.Promises.Noted.{Noted};
 ghost use Rattle.journey_finish.specs.Promises.Finish.{LegResolved, RowAt, Looks, LegVehicle, FinishesBy};
 ghost use Rattle.journey_finish.specs.Promises.Finish.{Finishes, LegDone, EachDone, LegsDone};

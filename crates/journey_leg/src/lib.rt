@@ -1,4 +1,6 @@
 // A transit leg written anew from what look-ups gave: what isn't taken is copied as it stands.
+#![tactic(auto)]
+
 ghost use Rattle.std.specs.Prelude.{◌≡◌};
 ghost use Rattle.formats_write.specs.Promises.Adds.{Adds};
 ghost use Rattle.journey_leg.specs.Promises.Leg.{live_of, told_w, PutsTimes, PutsFlag, PutsPlace, PutsMarks};

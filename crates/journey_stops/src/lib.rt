@@ -1,4 +1,6 @@
 // The legs of a card written anew: look-ups for their stops, their middle stops one by one, and the leg whole.
+#![tactic(auto)]
+
 ghost use Rattle.formats_write.specs.Promises.Given.{given_number};
 ghost use Rattle.journey_stops.specs.Promises.Stops.{LooksUp, EventsAt, MiddleEvents, StopAnew, StopsAnew};
 ghost use Rattle.journey_stops.specs.Promises.Stops.{ListAnew, LegAnew, EndpointAt, CancelsBy, LegKnown};

@@ -1,4 +1,6 @@
 // The call that makes an alert sheet of a feed's message: its questions in their order and the sheet, then zeros.
+#![tactic(auto)]
+
 ghost use Rattle.std.specs.Prelude.{◌≡◌, [], ◌-◌, length};
 ghost use Rattle.panel.specs.Calls as calls;
 ghost use Rattle.panel.specs.Given.{Given};

@@ -1,5 +1,7 @@
 // A message's call, with the overlay's length as a parameter: its questions in their order and the state that it
 // leaves, then zeros behind what was written and in the working buffers.
+#![tactic(auto)]
+
 ghost use Rattle.std.specs.Prelude.{◌≡◌, [], ◌∷◌, ◌≤◌, length};
 ghost use Rattle.decode.specs.Sizes.{most_old};
 ghost use Rattle.panel.specs.Calls as calls;

@@ -1,5 +1,7 @@
 // What all calls do alike: question 1, which compares lengths, and the output at the end: what was written and then
 // zeros, or zeros alone where the call is refused.
+#![tactic(auto)]
+
 ghost use Rattle.std.specs.Prelude.{◌≡◌};
 ghost use Rattle.basics.specs.Texts.{same};
 ghost use Rattle.panel_output.specs.Promises.Ending.{ending_of, put_ending, Cleared, Finished};

@@ -1,4 +1,6 @@
 // The fresh overlay, and the report on a feed: a call of each.
+#![tactic(auto)]
+
 ghost use Rattle.std.specs.Prelude.{◌≡◌, [], length};
 ghost use Rattle.formats.specs.Format.{write};
 ghost use Rattle.formats.specs.Number.{zag};

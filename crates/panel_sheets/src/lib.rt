@@ -1,5 +1,7 @@
 // Alert sheets and vehicle sheets, with the overlay's length as a parameter: a call of each, its questions in their
 // order, then zeros behind what was written.
+#![tactic(auto)]
+
 ghost use Rattle.std.specs.Prelude.{[], ℤ, length};
 ghost use Rattle.panel.specs.Calls as calls;
 ghost use Rattle.panel.specs.Given.{Given};

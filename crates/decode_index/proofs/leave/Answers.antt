@@ -6,8 +6,7 @@ use Rattle.decode_index.proofs.leave.Goals as goal
 
 pub returns-then-m-gt-MOST_TRIPS : goal.returns-then-m-gt-MOST_TRIPS
 returns-then-m-gt-MOST_TRIPS c =
-    let P = c.requires.1.1 in
-    leaves_many P.0 P.1 c.header_of-h.ensures c.begin-begun.ensures
+    leaves_many c.requires.judged_message c.requires.old c.header_of-h.ensures c.begin-begun.ensures
     c.apply_entities-m.ensures c.if-m-gt-MOST_TRIPS.true
 
 pub any_crowded-requires-clause-marks_len : goal.any_crowded-requires-clause-marks_len
@@ -17,27 +16,23 @@ any_crowded-requires-clause-marks_len c =
 
 pub any_crowded-requires-clause-n_le_most_trips : goal.any_crowded-requires-clause-n_le_most_trips
 any_crowded-requires-clause-n_le_most_trips c =
-    let P = c.requires in
     let I = c.apply_entities-m.ensures in
-    (omega (arith, c.if-m-gt-MOST_TRIPS.false), P.1.0.1)
+    (omega (arith, c.if-m-gt-MOST_TRIPS.false), c.requires.feed_len_bound.1)
 
 pub any_crowded-requires-clause-all : goal.any_crowded-requires-clause-all
 any_crowded-requires-clause-all c =
-    let P = c.requires in
     let I = c.apply_entities-m.ensures in
-    readable_slots P.1.1.0 P.1.1.1
+    readable_slots c.requires.judged_message c.requires.old
     c.header_of-h.ensures c.begin-begun.ensures I (omega (arith, c.if-m-gt-MOST_TRIPS.false))
 
 pub returns-then-any_crowded : goal.returns-then-any_crowded
 returns-then-any_crowded c =
-    let P = c.requires.1.1 in
-    leaves_crowded P.0 P.1 c.header_of-h.ensures c.begin-begun.ensures
+    leaves_crowded c.requires.judged_message c.requires.old c.header_of-h.ensures c.begin-begun.ensures
     c.apply_entities-m.ensures (omega (arith, c.if-m-gt-MOST_TRIPS.false))
     c.any_crowded.ensures c.if-any_crowded.true
 
 pub returns : goal.returns
 returns c =
-    let P = c.requires.1.1 in
-    leaves_trips P.0 P.1 c.header_of-h.ensures c.begin-begun.ensures
+    leaves_trips c.requires.judged_message c.requires.old c.header_of-h.ensures c.begin-begun.ensures
     c.apply_entities-m.ensures (omega (arith, c.if-m-gt-MOST_TRIPS.false))
     c.any_crowded.ensures c.if-any_crowded.false

@@ -1,5 +1,4 @@
 -- `journey_labels::note`: it stands there already, or goes in at its rank.
-use borrow.Author.Rules.{rules}
 use Rattle.journey_labels.specs.Laws.Labels.{noted_before, noted_now, rank_few, room_from, room_to}
 use Rattle.journey_labels.proofs.note.Goals as goal
 

@@ -1,5 +1,4 @@
 -- `journey_labels::order_at` meets its contract.
-use borrow.Author.Rules.{rules}
 use Rattle.journey_labels.specs.Laws.Labels.{ordered}
 use Rattle.journey_labels.proofs.order_at.Goals as goal
 

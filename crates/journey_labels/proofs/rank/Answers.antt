@@ -1,7 +1,5 @@
 -- `journey_labels::rank`: the rank lies between `lo` and `hi`.
-use borrow.Author.Rules.{rules}
-use Prim.Native.Nat.{◌-◌}
-use Rattle.journey_labels.specs.Laws.Labels.{Between, between_all, between_up, between_down, between_one}
+use Rattle.journey_labels.specs.Laws.Labels.{between_all, between_up, between_down, between_one}
 use Rattle.journey_labels.specs.Laws.Labels.{mid_inside, mid_from, mid_to}
 use Rattle.journey_labels.proofs.rank.Goals as goal
 

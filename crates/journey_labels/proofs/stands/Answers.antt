@@ -1,5 +1,4 @@
 -- `journey_labels::stands` meets its contract.
-use borrow.Author.Rules.{rules}
 use Rattle.journey_labels.specs.Laws.Labels.{stands_beyond, stands_so, inside_at, at_from, at_to}
 use Rattle.journey_labels.proofs.stands.Goals as goal
 

@@ -1,6 +1,5 @@
 -- `card` meets its contract.
 use Rattle.journey_places.specs.Laws.Places.{card_at}
-use borrow.Author.Rules.{rules}
 use Rattle.journey_places.proofs.card.Goals as goal
 
 pub returns : goal.returns

@@ -1,6 +1,5 @@
 -- `changing` meets its contract.
 use Rattle.journey_places.specs.Laws.Places.{changing_at}
-use borrow.Author.Rules.{rules}
 use Rattle.journey_places.proofs.changing.Goals as goal
 
 pub returns : goal.returns

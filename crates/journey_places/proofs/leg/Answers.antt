@@ -1,6 +1,5 @@
 -- `leg` meets its contract.
 use Rattle.journey_places.specs.Laws.Places.{leg_at}
-use borrow.Author.Rules.{rules}
 use Rattle.journey_places.proofs.leg.Goals as goal
 
 pub returns : goal.returns

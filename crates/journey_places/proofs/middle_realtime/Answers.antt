@@ -1,6 +1,5 @@
 -- `middle_realtime` meets its contract.
 use Rattle.journey_places.specs.Laws.Places.{middle_at}
-use borrow.Author.Rules.{rules}
 use Rattle.journey_places.proofs.middle_realtime.Goals as goal
 
 pub returns : goal.returns

@@ -1,6 +1,5 @@
 -- `past_leg` meets its contract.
 use Rattle.journey_places.specs.Laws.Places.{leg_out, leg_transit, leg_walk}
-use borrow.Author.Rules.{rules}
 use Rattle.journey_places.proofs.past_leg.Goals as goal
 
 pub returns-then-s-at : goal.returns-then-s-at

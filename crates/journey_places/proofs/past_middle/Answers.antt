@@ -1,6 +1,5 @@
 -- `past_middle` meets its contract.
 use Rattle.journey_places.specs.Laws.Places.{middle_end}
-use borrow.Author.Rules.{rules}
 use Rattle.journey_places.proofs.past_middle.Goals as goal
 
 pub returns : goal.returns

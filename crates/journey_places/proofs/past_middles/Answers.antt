@@ -1,7 +1,5 @@
 -- `past_middles` meets its contract.
-use Rattle.formats_skip.specs.Laws.Passes.{Passing, list_start, list_on, list_end}
-use Rattle.journey.specs.Card.{middle}
-use borrow.Author.Rules.{rules}
+use Rattle.formats_skip.specs.Laws.Passes.{list_start, list_on, list_end}
 use Rattle.journey_places.proofs.past_middles.Goals as goal
 
 pub loop-left-init : goal.loop-left-init

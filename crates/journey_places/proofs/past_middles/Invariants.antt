@@ -1,7 +1,6 @@
 -- `past_middles` meets its contract.
-use Rattle.formats_skip.specs.Laws.Passes.{Passing, list_start, list_on, list_end}
+use Rattle.formats_skip.specs.Laws.Passes.{Passing}
 use Rattle.journey.specs.Card.{middle}
-use borrow.Author.Rules.{rules}
 use Rattle.journey_places.proofs.past_middles.Given as goal
 
 abbrev pub invariant-loop-left : goal.invariant-loop-left

@@ -1,6 +1,5 @@
 -- `past_place` meets its contract.
 use Rattle.journey_places.specs.Laws.Places.{place_end}
-use borrow.Author.Rules.{rules}
 use Rattle.journey_places.proofs.past_place.Goals as goal
 
 pub returns : goal.returns

@@ -1,6 +1,5 @@
 -- `past_realtime` meets its contract.
 use Rattle.journey_places.specs.Laws.Places.{realtime_end}
-use borrow.Author.Rules.{rules}
 use Rattle.journey_places.proofs.past_realtime.Goals as goal
 
 pub returns : goal.returns

@@ -1,6 +1,5 @@
 -- `past_times` meets its contract.
 use Rattle.journey_places.specs.Laws.Places.{times_end}
-use borrow.Author.Rules.{rules}
 use Rattle.journey_places.proofs.past_times.Goals as goal
 
 pub returns : goal.returns

@@ -1,6 +1,5 @@
 -- `past_transit` meets its contract.
 use Rattle.journey_places.specs.Laws.Places.{transit_end}
-use borrow.Author.Rules.{rules}
 use Rattle.journey_places.proofs.past_transit.Goals as goal
 
 pub returns : goal.returns

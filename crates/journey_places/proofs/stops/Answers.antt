@@ -1,6 +1,5 @@
 -- `stops` meets its contract.
 use Rattle.journey_places.specs.Laws.Places.{stops_at}
-use borrow.Author.Rules.{rules}
 use Rattle.journey_places.proofs.stops.Goals as goal
 
 pub returns : goal.returns

@@ -11,7 +11,7 @@ use Rattle.formats_read.specs.Promises.Here.{Here}
 use Rattle.formats_read.specs.Promises.Reads.{ReadsNumber, ReadsText}
 use Rattle.formats_read.specs.Laws.Here.{halves, number_here}
 use Rattle.formats_skip.specs.Laws.Leads.{lead_field}
-use Rattle.overlay.specs.Lookup.{FeedTrip, get_vehicle_for_trip}
+use Rattle.overlay.specs.Lookup.{get_vehicle_for_trip}
 use Rattle.overlay.specs.Records.{Feeds}
 use Rattle.overlay.proofs.Laws.Within.{Judged56, left, right}
 use Rattle.overlay_seek.specs.declared.Found as seek

@@ -20,7 +20,7 @@ use Rattle.formats_skip.specs.Promises.Passes.{Passes}
 use Rattle.formats_skip.specs.Laws.Passes.{any_signed}
 use Rattle.formats_skip.specs.Laws.Leads.{lead_field}
 use Rattle.decode.specs.Trip.{stop_update}
-use Rattle.overlay.specs.Lookup.{FeedTrip, find_stop_update}
+use Rattle.overlay.specs.Lookup.{find_stop_update}
 use Rattle.overlay.proofs.Laws.Within.{Judged56, left, right, elements}
 use Rattle.overlay_seek.specs.declared.Found as seek
 use Rattle.overlay_seek.specs.declared.Found.TheVariants as seeks

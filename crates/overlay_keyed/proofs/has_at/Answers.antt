@@ -1,7 +1,5 @@
 -- `overlay_keyed::has_at` meets its contract.
-use Prim.Native.Nat.{◌≤◌, ◌-◌}
-use lib.ListN.{length}
-use Rattle.overlay_keyed.specs.Laws.Trips.{Seeking, seek_start, seek_end, seek_so, seek_on}
+use Rattle.overlay_keyed.specs.Laws.Trips.{seek_start, seek_end, seek_so, seek_on}
 use borrow.Author.Rules.{rules}
 use Rattle.overlay_keyed.proofs.has_at.Goals as goal
 

@@ -1,8 +1,7 @@
 -- `overlay_keyed::has_at` meets its contract.
 use Prim.Native.Nat.{◌≤◌, ◌-◌}
 use lib.ListN.{length}
-use Rattle.overlay_keyed.specs.Laws.Trips.{Seeking, seek_start, seek_end, seek_so, seek_on}
-use borrow.Author.Rules.{rules}
+use Rattle.overlay_keyed.specs.Laws.Trips.{Seeking}
 use Rattle.overlay_keyed.proofs.has_at.Given as goal
 
 abbrev pub invariant-loop-i : goal.invariant-loop-i

@@ -1,6 +1,5 @@
 -- `overlay_keyed::trip_entry` meets its contract.
 use Rattle.overlay_keyed.specs.Laws.Trips.{trip_key, key_inside, trip_none, trip_other, trip_so}
-use borrow.Author.Rules.{rules}
 use Rattle.overlay_keyed.proofs.trip_entry.Goals as goal
 
 pub returns-in_default : goal.returns-in_default

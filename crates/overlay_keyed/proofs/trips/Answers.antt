@@ -3,7 +3,6 @@ use Rattle.formats_check.specs.Laws.Elements.{in_place}
 use Rattle.formats_check.specs.Laws.Climbing.{climbs_no, climbs_many, climbs_so}
 use Rattle.overlay_noted.specs.Laws.Passes.{unless_no}
 use Rattle.overlay_noted.specs.Laws.Entries.{trips_put}
-use borrow.Author.Rules.{rules}
 use Rattle.overlay_keyed.proofs.trips.Goals as goal
 
 pub returns-in_default-clause-tested : goal.returns-in_default-clause-tested

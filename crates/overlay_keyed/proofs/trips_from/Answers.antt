@@ -1,15 +1,11 @@
 -- `overlay_keyed::trips_from` meets its contract.
-use Prim.Native.Nat.{◌≤◌, ◌+◌}
 use native.Mathlib.Omega.{arith}
-use lib.ListN.{length}
 use borrow.Author.Tests.{not-true, not-false}
-use Rattle.formats.specs.Class.{printable}
-use Rattle.formats_check.specs.Laws.Climbing.{by_key, known, Climbing, climbing_start, climbing_bad, climbing_order}
+use Rattle.formats_check.specs.Laws.Climbing.{climbing_start, climbing_bad, climbing_order}
 use Rattle.formats_check.specs.Laws.Climbing.{climbing_so, climbing_end, climbing_sum, entered_forward, entered_in}
 use Rattle.formats_check.specs.Laws.Climbing.{entered_past}
 use Rattle.overlay_noted.specs.Laws.Passes.{unless_no}
-use Rattle.overlay_noted.specs.Laws.Entries.{Noting, noting_start, noting_kept, noting_on, noting_end}
-use Rattle.overlay_keyed.specs.Promises.Trips.{entry_good, plain, is_count}
+use Rattle.overlay_noted.specs.Laws.Entries.{noting_start, noting_kept, noting_on, noting_end}
 use Rattle.overlay_keyed.specs.Laws.Trips.{entered_inside, count_plain, count_all, count_other}
 use borrow.Author.Rules.{rules}
 use Rattle.overlay_keyed.proofs.trips_from.Goals as goal

@@ -1,5 +1,4 @@
 -- `overlay_keys::decimal` meets its contract.
-use Prim.Native.Nat.{ℕ, ◌<◌}
 use Rattle.overlay_keys.proofs.+decimal.Given as goal
 
 abbrev pub decreases-decimal : goal.decreases-decimal

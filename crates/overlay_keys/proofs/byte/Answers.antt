@@ -1,6 +1,5 @@
 -- `overlay_keys::byte` meets its contract.
 use Rattle.overlay_keys.specs.Laws.Piece.{byte_end, byte_other, byte_so}
-use borrow.Author.Rules.{rules}
 use Rattle.overlay_keys.proofs.byte.Goals as goal
 
 pub returns-then-e-at : goal.returns-then-e-at

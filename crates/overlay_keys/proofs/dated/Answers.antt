@@ -1,7 +1,6 @@
 -- `overlay_keys::dated` meets its contract.
 use Rattle.overlay_keys.specs.Laws.Keys.{dated_long, dated_mark, dated_none, dated_other, dated_short, dated_so}
 use Rattle.overlay_keys.specs.Laws.Piece.{piece_inside}
-use borrow.Author.Rules.{rules}
 use Rattle.overlay_keys.proofs.dated.Goals as goal
 
 pub returns-then-m-eq0 : goal.returns-then-m-eq0

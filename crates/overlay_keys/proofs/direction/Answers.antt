@@ -1,6 +1,5 @@
 -- `overlay_keys::direction` meets its contract.
 use Rattle.overlay_keys.specs.Laws.Keys.{direction_bad, direction_end, direction_none, direction_so}
-use borrow.Author.Rules.{rules}
 use Rattle.overlay_keys.proofs.direction.Goals as goal
 
 pub returns-then-old-y : goal.returns-then-old-y

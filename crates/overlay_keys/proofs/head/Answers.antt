@@ -2,7 +2,6 @@
 use native.Mathlib.Omega.{arith}
 use Rattle.overlay_keys.specs.Laws.Keys.{head_between, head_mark, head_route, head_so, route_inside}
 use Rattle.overlay_keys.specs.Laws.Piece.{piece_inside, piece_forward}
-use borrow.Author.Rules.{rules}
 use Rattle.overlay_keys.proofs.head.Goals as goal
 
 pub returns-in_default : goal.returns-in_default

@@ -1,7 +1,6 @@
 -- `overlay_keys::incomplete` meets its contract.
 use Rattle.overlay_keys.specs.Laws.Keys.{incomplete_route, incomplete_so, incomplete_time, incomplete_way}
 use Rattle.overlay_keys.specs.Laws.Keys.{span_inside}
-use borrow.Author.Rules.{rules}
 use Rattle.overlay_keys.proofs.incomplete.Goals as goal
 
 pub returns-in_default : goal.returns-in_default

@@ -1,6 +1,5 @@
 -- `overlay_keys::key_ok` meets its contract.
 use Rattle.overlay_keys.specs.Laws.Keys.{key_empty, key_long, key_raw}
-use borrow.Author.Rules.{rules}
 use Rattle.overlay_keys.proofs.key_ok.Goals as goal
 
 pub returns-then-n-eq0 : goal.returns-then-n-eq0

@@ -1,7 +1,6 @@
 -- `overlay_keys::longer` meets its contract.
 use Rattle.overlay_keys.specs.Laws.Keys.{longer_date, longer_dated, longer_delay, longer_flag, longer_so}
 use Rattle.overlay_keys.specs.Laws.Keys.{span_inside}
-use borrow.Author.Rules.{rules}
 use Rattle.overlay_keys.proofs.longer.Goals as goal
 
 pub returns-in_default : goal.returns-in_default

@@ -1,6 +1,5 @@
 -- `overlay_keys::matches` meets its contract.
 use Rattle.overlay_keys.specs.Laws.Keys.{head_inside, match_head, match_so, match_tail}
-use borrow.Author.Rules.{rules}
 use Rattle.overlay_keys.proofs.matches.Goals as goal
 
 pub returns-in_default : goal.returns-in_default

@@ -1,6 +1,5 @@
 -- `overlay_keys::piece` meets its contract.
 use Rattle.overlay_keys.specs.Laws.Piece.{piece_other, piece_short, piece_so}
-use borrow.Author.Rules.{rules}
 use Rattle.overlay_keys.proofs.piece.Goals as goal
 
 pub returns-then-e-at : goal.returns-then-e-at

@@ -1,7 +1,6 @@
 -- `overlay_keys::route` meets its contract.
 use Rattle.overlay_keys.specs.Laws.Keys.{route_colon, route_feed, route_none, route_so}
 use Rattle.overlay_keys.specs.Laws.Piece.{piece_inside}
-use borrow.Author.Rules.{rules}
 use Rattle.overlay_keys.proofs.route.Goals as goal
 
 pub returns-then-x-y : goal.returns-then-x-y

@@ -1,7 +1,6 @@
 -- `overlay_keys::tail` meets its contract.
 use Rattle.overlay_keys.specs.Laws.Keys.{tail_between, tail_date, tail_mark, tail_so}
 use Rattle.overlay_keys.specs.Laws.Piece.{piece_inside}
-use borrow.Author.Rules.{rules}
 use Rattle.overlay_keys.proofs.tail.Goals as goal
 
 pub returns-in_default : goal.returns-in_default

@@ -1,6 +1,5 @@
 -- `overlay_noted::note` meets its contract.
 use Rattle.overlay_noted.specs.Laws.Parts.{put_in, put_past}
-use borrow.Author.Rules.{rules}
 use Rattle.overlay_noted.proofs.note.Goals as goal
 
 pub returns-then-i-noted : goal.returns-then-i-noted

@@ -1,7 +1,6 @@
 -- `overlay_records::alerts` meets its contract.
 use Rattle.formats_check.specs.Laws.Elements.{in_place}
 use Rattle.formats_check.specs.Laws.Walks.{all_many, all_no, all_so}
-use borrow.Author.Rules.{rules}
 use Rattle.overlay_records.proofs.alerts.Goals as goal
 
 pub returns-in_default : goal.returns-in_default

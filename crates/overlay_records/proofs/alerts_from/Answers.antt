@@ -1,9 +1,6 @@
 -- `overlay_records::alerts_from` meets its contract.
-use Prim.Native.Nat.{◌≤◌}
-use lib.ListN.{length}
 use Rattle.formats_check.specs.Laws.Checked.{check_in}
-use Rattle.formats_check.specs.Laws.Walks.{Eaching, each_end, each_no, each_so, each_start}
-use Rattle.alerts.specs.Alert.{alert}
+use Rattle.formats_check.specs.Laws.Walks.{each_end, each_no, each_so, each_start}
 use borrow.Author.Rules.{rules}
 use Rattle.overlay_records.proofs.alerts_from.Goals as goal
 

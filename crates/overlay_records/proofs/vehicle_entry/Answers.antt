@@ -1,6 +1,5 @@
 -- `overlay_records::vehicle_entry` meets its contract.
 use Rattle.overlay_records.specs.Laws.Records.{vehicle_key, vehicle_none, vehicle_so}
-use borrow.Author.Rules.{rules}
 use Rattle.overlay_records.proofs.vehicle_entry.Goals as goal
 
 pub returns-in_default : goal.returns-in_default

@@ -1,7 +1,6 @@
 -- `overlay_records::vehicles` meets its contract.
 use Rattle.formats_check.specs.Laws.Elements.{in_place}
 use Rattle.formats_check.specs.Laws.Climbing.{climbs_no, climbs_many, climbs_so}
-use borrow.Author.Rules.{rules}
 use Rattle.overlay_records.proofs.vehicles.Goals as goal
 
 pub returns-in_default : goal.returns-in_default

@@ -1,14 +1,9 @@
 -- `overlay_records::vehicles_from` meets its contract.
 use Prim.Native.Nat.{◌≤◌}
-use native.Mathlib.Omega.{arith}
 use lib.ListN.{length}
-use borrow.Author.Tests.{not-true, not-false}
 use Rattle.formats.specs.Class.{printable}
-use Rattle.formats_check.specs.Laws.Climbing.{known, Climbing, weightless, whatever, climbing_start, climbing_bad}
-use Rattle.formats_check.specs.Laws.Climbing.{climbing_order, climbing_on, climbing_end, entered_forward, entered_in}
-use Rattle.formats_check.specs.Laws.Climbing.{entered_past}
+use Rattle.formats_check.specs.Laws.Climbing.{known, Climbing, weightless, whatever}
 use Rattle.overlay_records.specs.Promises.Vehicles.{vehicle_good}
-use borrow.Author.Rules.{rules}
 use Rattle.overlay_records.proofs.vehicles_from.Given as goal
 
 abbrev pub invariant-loop-left : goal.invariant-loop-left

@@ -1,6 +1,5 @@
 -- `is_text` meets its contract.
 use Rattle.overlay_seek.specs.Laws.Answers.{is_text}
-use borrow.Author.Rules.{rules}
 use Rattle.overlay_seek.proofs.is_text.Goals as goal
 
 pub returns : goal.returns

@@ -1,6 +1,5 @@
 -- `past_feed` meets its contract.
 use Rattle.formats_skip.specs.Laws.Passes.{pair, number_then, optional_signed_then}
-use borrow.Author.Rules.{rules}
 use Rattle.overlay_skip.proofs.past_feed.Goals as goal
 
 pub returns : goal.returns

@@ -1,6 +1,5 @@
 -- `past_feed_entry` meets its contract.
 use Rattle.formats_skip.specs.Laws.Passes.{text_then}
-use borrow.Author.Rules.{rules}
 use Rattle.overlay_skip.proofs.past_feed_entry.Goals as goal
 
 pub returns : goal.returns

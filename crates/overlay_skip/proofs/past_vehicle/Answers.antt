@@ -1,6 +1,5 @@
 -- `past_vehicle` meets its contract.
 use Rattle.formats_skip.specs.Laws.Passes.{pair, any_signed, optional_text_then}
-use borrow.Author.Rules.{rules}
 use Rattle.overlay_skip.proofs.past_vehicle.Goals as goal
 
 pub returns : goal.returns

@@ -1,7 +1,5 @@
 -- `past_vehicles` meets its contract.
-use Rattle.formats_skip.specs.Laws.Passes.{Passing, list_start, list_on, list_end}
-use Rattle.overlay.specs.State.{vehicle_entry}
-use borrow.Author.Rules.{rules}
+use Rattle.formats_skip.specs.Laws.Passes.{list_start, list_on, list_end}
 use Rattle.overlay_skip.proofs.past_vehicles.Goals as goal
 
 pub loop-left-init : goal.loop-left-init

@@ -1,7 +1,6 @@
 -- `past_vehicles` meets its contract.
-use Rattle.formats_skip.specs.Laws.Passes.{Passing, list_start, list_on, list_end}
+use Rattle.formats_skip.specs.Laws.Passes.{Passing}
 use Rattle.overlay.specs.State.{vehicle_entry}
-use borrow.Author.Rules.{rules}
 use Rattle.overlay_skip.proofs.past_vehicles.Given as goal
 
 abbrev pub invariant-loop-left : goal.invariant-loop-left

@@ -1,6 +1,5 @@
 -- `overlay_trip::departure` meets its contract.
 use Rattle.formats_check.specs.Laws.Checked.{then_no, then_so}
-use borrow.Author.Rules.{rules}
 use Rattle.overlay_trip.proofs.departure.Goals as goal
 
 pub returns-in_default : goal.returns-in_default

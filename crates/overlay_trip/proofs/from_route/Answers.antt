@@ -1,6 +1,5 @@
 -- `overlay_trip::from_route` meets its contract.
 use Rattle.formats_check.specs.Laws.Checked.{behind_no, behind_so}
-use borrow.Author.Rules.{rules}
 use Rattle.overlay_trip.proofs.from_route.Goals as goal
 
 pub returns-in_default : goal.returns-in_default

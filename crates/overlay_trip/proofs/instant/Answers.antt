@@ -1,6 +1,5 @@
 -- `overlay_trip::instant` meets its contract.
 use Rattle.overlay_trip.specs.Laws.Trip.{instant_no, instant_odd, instant_over, instant_so}
-use borrow.Author.Rules.{rules}
 use Rattle.overlay_trip.proofs.instant.Goals as goal
 
 pub returns-in_default : goal.returns-in_default

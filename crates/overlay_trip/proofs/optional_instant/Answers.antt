@@ -1,6 +1,5 @@
 -- `overlay_trip::optional_instant` meets its contract.
 use Rattle.formats_check.specs.Laws.Checked.{optional_end, optional_absent, optional_given, optional_other}
-use borrow.Author.Rules.{rules}
 use Rattle.overlay_trip.proofs.optional_instant.Goals as goal
 
 pub returns-then-old-at : goal.returns-then-old-at

@@ -1,6 +1,5 @@
 -- `overlay_trip::optional_word` meets its contract.
 use Rattle.formats_check.specs.Laws.Checked.{optional_end, optional_absent, optional_given, optional_other}
-use borrow.Author.Rules.{rules}
 use Rattle.overlay_trip.proofs.optional_word.Goals as goal
 
 pub returns-then-old-at-clause-fine : goal.returns-then-old-at-clause-fine

@@ -1,7 +1,6 @@
 -- `overlay_trip::updates` meets its contract.
 use Rattle.formats_check.specs.Laws.Elements.{in_place}
 use Rattle.formats_check.specs.Laws.Rising.{ascend_no, ascend_many, ascend_so}
-use borrow.Author.Rules.{rules}
 use Rattle.overlay_trip.proofs.updates.Goals as goal
 
 pub returns-in_default : goal.returns-in_default

@@ -1,10 +1,7 @@
 -- `overlay_trip::updates_from` meets its contract.
 use borrow.Author.Rules.{rules}
-use Prim.Native.Nat.{◌≤◌}
-use lib.ListN.{length}
-use Rattle.decode.specs.Trip.{stop_update}
 use Rattle.formats_check.specs.Laws.Checked.{check_in}
-use Rattle.formats_check.specs.Laws.Rising.{Rising, rising_start, rising_no, rising_low, rising_high, rising_rest}
+use Rattle.formats_check.specs.Laws.Rising.{rising_start, rising_no, rising_low, rising_high, rising_rest}
 use Rattle.formats_check.specs.Laws.Rising.{rising_so, rising_end}
 use Rattle.overlay_trip.proofs.updates_from.Goals as goal
 

@@ -1,11 +1,8 @@
 -- `overlay_trip::updates_from` meets its contract.
-use borrow.Author.Rules.{rules}
 use Prim.Native.Nat.{◌≤◌}
 use lib.ListN.{length}
 use Rattle.decode.specs.Trip.{stop_update}
-use Rattle.formats_check.specs.Laws.Checked.{check_in}
-use Rattle.formats_check.specs.Laws.Rising.{Rising, rising_start, rising_no, rising_low, rising_high, rising_rest}
-use Rattle.formats_check.specs.Laws.Rising.{rising_so, rising_end}
+use Rattle.formats_check.specs.Laws.Rising.{Rising}
 use Rattle.overlay_trip.proofs.updates_from.Given as goal
 
 abbrev pub invariant-loop-left : goal.invariant-loop-left

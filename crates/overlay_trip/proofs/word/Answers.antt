@@ -1,6 +1,5 @@
 -- `overlay_trip::word` meets its contract.
 use Rattle.overlay_trip.specs.Laws.Trip.{delay_no, delay_over, delay_so, number32_no, number32_over, number32_so}
-use borrow.Author.Rules.{rules}
 use Rattle.overlay_trip.proofs.word.Goals as goal
 
 pub returns-in_default-clause-fine : goal.returns-in_default-clause-fine

@@ -1,0 +1,21 @@
+-- `decode_write::put_signed` meets its contract, by the kind of the value. Assumes nothing.
+use borrow.Author.Rules.{rules}
+use mathlib.Core.Path.{ap, ◌∙◌}
+use mir.Facts.{to_z-of_z}
+use mir.Syntax.{w64}
+use mir.Val.{SFits}
+use Rattle.formats.specs.Number.{number_w, zig}
+use Rattle.formats_write.specs.Laws.Adds.{same}
+use Rattle.formats_write.specs.Promises.Given.{given_signed}
+use Rattle.formats_write.proofs.Laws as laws
+use Rattle.decode_write.specs.Promises.Written.{signed_w}
+use Rattle.decode_write.proofs.put_signed.Goals as goal
+
+pub returns-in-Absent : goal.returns-in-Absent
+returns-in-Absent c = laws.absent_is signed_w (ap given_signed c.in-Absent.is) c.byte.ensures
+
+pub returns-in-Present : goal.returns-in-Present
+returns-in-Present c =
+    let f : SFits w64 c.in-Present.z = search rules in
+    laws.present_is signed_w _ (ap given_signed c.in-Present.is) c.byte-q.ensures
+    (same c.put_number.ensures (ap number_w (c.to_zigzag.ensures ∙ ap zig (to_z-of_z f))))

@@ -1,0 +1,7 @@
+-- `finish` meets its contract.
+use Rattle.journey_finish.specs.Laws.Finish.{finished}
+use borrow.Author.Rules.{rules}
+use Rattle.journey_finish.proofs.finish.Goals as goal
+
+pub returns : goal.returns
+returns c = search finished
