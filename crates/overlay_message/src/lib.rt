@@ -1,5 +1,7 @@
 // The state after a message: its trips are written anew, with their count and the message's timestamp; all else of the
 // state is copied.
+#![tactic(auto)]
+
 ghost use Rattle.std.specs.Prelude.{◌≡◌, ℕ, ◌≤◌, length};
 ghost use Rattle.std.proofs.Math.Option.{some};
 ghost use Rattle.formats.specs.Number.{zig};
