@@ -1,4 +1,6 @@
 // The alerts of the overlay b that apply to a leg of a card: whether there is one, and their labels, noted.
+#![tactic(auto)]
+
 ghost use Rattle.std.specs.Prelude.{◌≡◌, ◌≤◌, length, get_or};
 ghost use Rattle.decode.specs.Sizes.{most_old};
 ghost use Rattle.alerts_search.specs.Promises.Marks.{most_marks};

@@ -1,4 +1,6 @@
 // A whole card written anew: its head by the first pass, the headers that it noted, and the legs finished.
+#![tactic(auto)]
+
 ghost use Rattle.std.specs.Prelude.{◌≤◌, length};
 ghost use Rattle.overlay_noted.specs.Promises.Noted.{Noted};
 ghost use Rattle.journey_enrich.specs.Promises.Enrich.{HeadersUpTo, HeadersPut, Enriches};

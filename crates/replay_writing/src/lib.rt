@@ -1,4 +1,6 @@
 // The calls of a script that write an overlay, each into a part of what is lent.
+#![tactic(auto)]
+
 ghost use Rattle.std.specs.Prelude.{◌≡◌, true, [], ◌∷◌, ℕ, ◌≤◌, leb, ℤ, length};
 ghost use Rattle.std.proofs.Math.Seq.{slice};
 ghost use Rattle.formats_read.specs.Promises.Here.{Here};

@@ -1,6 +1,5 @@
 -- `finish` meets its contract.
 use Rattle.journey_finish.specs.Laws.Finish.{finished}
-use borrow.Author.Rules.{rules}
 use Rattle.journey_finish.proofs.finish.Goals as goal
 
 pub returns : goal.returns

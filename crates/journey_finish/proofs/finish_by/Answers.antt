@@ -1,6 +1,5 @@
 -- `finish_by` meets its contract.
 use Rattle.journey_finish.specs.Laws.Finish.{finished_by}
-use borrow.Author.Rules.{rules}
 use Rattle.journey_finish.proofs.finish_by.Goals as goal
 
 pub returns : goal.returns

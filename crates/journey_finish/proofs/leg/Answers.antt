@@ -1,6 +1,5 @@
 -- `leg` meets its contract.
 use Rattle.journey_finish.specs.Laws.Legs.{leg_out, leg_transit, leg_walk}
-use borrow.Author.Rules.{rules}
 use Rattle.journey_finish.proofs.leg.Goals as goal
 
 pub returns-then-card-at : goal.returns-then-card-at

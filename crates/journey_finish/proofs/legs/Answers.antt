@@ -1,6 +1,5 @@
 -- `legs` meets its contract.
 use Rattle.journey_finish.specs.Laws.Legs.{legs_put}
-use borrow.Author.Rules.{rules}
 use Rattle.journey_finish.proofs.legs.Goals as goal
 
 pub returns : goal.returns

@@ -1,6 +1,5 @@
 -- `look` meets its contract.
 use Rattle.journey_finish.specs.Laws.Finish.{looked}
-use borrow.Author.Rules.{rules}
 use Rattle.journey_finish.proofs.look.Goals as goal
 
 pub returns : goal.returns

@@ -1,6 +1,5 @@
 -- `resolved` meets its contract.
 use Rattle.journey_finish.specs.Laws.Finish.{resolved_in}
-use borrow.Author.Rules.{rules}
 use Rattle.journey_finish.proofs.resolved.Goals as goal
 
 pub returns : goal.returns

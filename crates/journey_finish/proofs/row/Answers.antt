@@ -1,6 +1,5 @@
 -- `row` meets its contract.
 use Rattle.journey_finish.specs.Laws.Finish.{row_none, row_found}
-use borrow.Author.Rules.{rules}
 use Rattle.journey_finish.proofs.row.Goals as goal
 
 pub returns-in-At : goal.returns-in-At

@@ -1,6 +1,5 @@
 -- `vehicle` meets its contract.
 use Rattle.journey_finish.specs.Laws.Finish.{vehicle_in}
-use borrow.Author.Rules.{rules}
 use Rattle.journey_finish.proofs.vehicle.Goals as goal
 
 pub returns : goal.returns

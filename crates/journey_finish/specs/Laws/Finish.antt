@@ -16,8 +16,6 @@ use Rattle.formats.specs.declared.OptionalNumber.{OptionalNumber}
 use Rattle.formats_write.specs.declared.Put.{Put}
 use Rattle.formats_write.specs.Laws.Slices.{slice_is}
 use Rattle.formats_write.specs.Promises.Given.{given_number}
-use Rattle.decode.specs.Trip.{trip}
-use Rattle.overlay.specs.Lookup.{FeedTrip}
 use Rattle.overlay.specs.Records.{shown}
 use Rattle.overlay.proofs.Laws.Within.{Judged56, left, right}
 use Rattle.overlay_resolve.specs.declared.Resolved.{Resolved}

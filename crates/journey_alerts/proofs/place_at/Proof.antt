@@ -1,8 +1,0 @@
--- `place_at` meets its contract.
-use Rattle.journey_alerts.specs.Laws.Places.{beyond}
-use borrow.Author.Rules.{rules}
-use Rattle.journey_alerts.proofs.place_at.Statement.{statement}
-use Rattle.journey_alerts.proofs.place_at.Tie as tie
-
-pub place_at_spec : {M : Type 1} → statement M
-place_at_spec = tie.close (tie.spec (λ c. search beyond) (λ c κs. search rules) (λ c. search rules))
