@@ -9,5 +9,4 @@ pub returns-then-z-gt4611686018427387903 : goal.returns-then-z-gt461168601842738
 returns-then-z-gt4611686018427387903 c = small_above _ c.ranges.z c.if-z-gt4611686018427387903.true
 
 pub returns : goal.returns
-returns c =
-    small_inside _ c.ranges.z c.if-z-ltminus4611686018427387904.false c.if-z-gt4611686018427387903.false
+returns c = small_inside _ c.ranges.z c.if-z-ltminus4611686018427387904.false c.if-z-gt4611686018427387903.false

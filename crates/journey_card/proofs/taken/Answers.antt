@@ -1,6 +1,5 @@
 -- `taken` meets its contract.
 use Rattle.journey_card.specs.Laws.Steps.{took}
-use borrow.Author.Rules.{rules}
 use Rattle.journey_card.proofs.taken.Goals as goal
 
 pub returns-then-b : goal.returns-then-b

@@ -1,5 +1,5 @@
 -- Law. One leg more, as the code gathers it.
-use Rattle.std.specs.Prelude.{◌≡◌, refl, Bool, true, false, cond, ◌||◌, not, ◌-◌, ℤ, pos, negsuc, eqb}
+use Rattle.std.specs.Prelude.{◌≡◌, refl, Bool, true, false, cond, ◌||◌, not, ℤ, pos, negsuc, eqb}
 use Rattle.std.proofs.Common.{sym, ap, ◌∙◌, inr, arith, ne_eqb, SFits, to_z, of_z, to_z-of_z}
 use Rattle.std.specs.Int.{w32, w64}
 use Rattle.basics.specs.Options.{given_or}

@@ -1,6 +1,5 @@
 -- `flag` meets its contract.
 use Rattle.journey_leg.specs.Laws.Leg.{flag_set, flag_kept}
-use borrow.Author.Rules.{rules}
 use Rattle.journey_leg.proofs.flag.Goals as goal
 
 pub returns-then-cancels : goal.returns-then-cancels

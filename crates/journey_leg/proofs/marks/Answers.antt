@@ -1,6 +1,5 @@
 -- `marks` meets its contract.
 use Rattle.journey_leg.specs.Laws.Leg.{marks_put}
-use borrow.Author.Rules.{rules}
 use Rattle.journey_leg.proofs.marks.Goals as goal
 
 pub returns : goal.returns

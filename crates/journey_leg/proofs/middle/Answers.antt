@@ -1,6 +1,5 @@
 -- `middle` meets its contract.
 use Rattle.journey_leg.specs.Laws.Leg.{middle_put}
-use borrow.Author.Rules.{rules}
 use Rattle.journey_leg.proofs.middle.Goals as goal
 
 pub returns : goal.returns

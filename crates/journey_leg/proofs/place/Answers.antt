@@ -1,6 +1,5 @@
 -- `place` meets its contract.
 use Rattle.journey_leg.specs.Laws.Leg.{place_kept, place_told}
-use borrow.Author.Rules.{rules}
 use Rattle.journey_leg.proofs.place.Goals as goal
 
 pub returns-in-Absent : goal.returns-in-Absent

@@ -1,6 +1,5 @@
 -- `times` meets its contract.
 use Rattle.journey_leg.specs.Laws.Leg.{times_told, times_kept}
-use borrow.Author.Rules.{rules}
 use Rattle.journey_leg.proofs.times.Goals as goal
 
 pub returns-then-live : goal.returns-then-live

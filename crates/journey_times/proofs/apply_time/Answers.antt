@@ -1,6 +1,5 @@
 -- `apply_time` meets its contract.
 use Rattle.journey_times.specs.Laws.Places.{applies_none, applies_trip, applies_update}
-use borrow.Author.Rules.{rules}
 use Rattle.journey_times.proofs.apply_time.Goals as goal
 
 pub returns-in-Nothing : goal.returns-in-Nothing

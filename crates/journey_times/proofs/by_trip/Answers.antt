@@ -1,6 +1,5 @@
 -- `by_trip` meets its contract.
 use Rattle.journey_times.specs.Laws.Places.{by_trip}
-use borrow.Author.Rules.{rules}
 use Rattle.journey_times.proofs.by_trip.Goals as goal
 
 pub returns : goal.returns

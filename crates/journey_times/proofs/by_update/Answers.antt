@@ -1,6 +1,5 @@
 -- `by_update` meets its contract.
 use Rattle.journey_times.specs.Laws.Places.{by_arrival, by_departure}
-use borrow.Author.Rules.{rules}
 use Rattle.journey_times.proofs.by_update.Goals as goal
 
 pub returns-in-Arrival : goal.returns-in-Arrival

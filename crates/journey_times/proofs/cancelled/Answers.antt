@@ -1,6 +1,5 @@
 -- `cancelled` meets its contract.
 use Rattle.journey_times.specs.Laws.Places.{cancels}
-use borrow.Author.Rules.{rules}
 use Rattle.journey_times.proofs.cancelled.Goals as goal
 
 pub returns : goal.returns

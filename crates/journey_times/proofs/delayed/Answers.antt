@@ -1,6 +1,5 @@
 -- `delayed` meets its contract.
 use Rattle.journey_times.specs.Laws.Events.{no_delay, a_delay}
-use borrow.Author.Rules.{rules}
 use Rattle.journey_times.proofs.delayed.Goals as goal
 
 pub returns-in-Absent : goal.returns-in-Absent

@@ -1,6 +1,5 @@
 -- `event_at` meets its contract.
 use Rattle.journey_times.specs.Laws.Places.{reads_event}
-use borrow.Author.Rules.{rules}
 use Rattle.journey_times.proofs.event_at.Goals as goal
 
 pub returns : goal.returns

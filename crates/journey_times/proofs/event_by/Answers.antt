@@ -1,6 +1,5 @@
 -- `event_by` meets its contract.
 use Rattle.journey_times.specs.Laws.Events.{told_by}
-use borrow.Author.Rules.{rules}
 use Rattle.journey_times.proofs.event_by.Goals as goal
 
 pub returns : goal.returns

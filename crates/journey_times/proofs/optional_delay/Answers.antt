@@ -1,6 +1,5 @@
 -- `optional_delay` meets its contract.
 use Rattle.journey_times.specs.Laws.Places.{delay_absent, delay_present}
-use borrow.Author.Rules.{rules}
 use Rattle.journey_times.proofs.optional_delay.Goals as goal
 
 pub returns-in-Absent : goal.returns-in-Absent

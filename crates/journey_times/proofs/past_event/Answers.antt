@@ -1,6 +1,5 @@
 -- `past_event` meets its contract.
 use Rattle.journey_times.specs.Laws.Places.{past_event}
-use borrow.Author.Rules.{rules}
 use Rattle.journey_times.proofs.past_event.Goals as goal
 
 pub returns : goal.returns

@@ -1,6 +1,5 @@
 -- `scheduled` meets its contract.
 use Rattle.journey_times.specs.Laws.Ranges.{unscheduled, schedules}
-use borrow.Author.Rules.{rules}
 use Rattle.journey_times.proofs.scheduled.Goals as goal
 
 pub returns-then-n-gt4291833598 : goal.returns-then-n-gt4291833598

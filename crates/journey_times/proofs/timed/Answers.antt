@@ -1,6 +1,5 @@
 -- `timed` meets its contract.
 use Rattle.journey_times.specs.Laws.Events.{no_time, a_time}
-use borrow.Author.Rules.{rules}
 use Rattle.journey_times.proofs.timed.Goals as goal
 
 pub returns-in-Absent : goal.returns-in-Absent

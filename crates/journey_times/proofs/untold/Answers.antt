@@ -1,5 +1,4 @@
 -- `untold` meets its contract.
-use borrow.Author.Rules.{rules}
 use mathlib.Core.Path.{◌∙◌}
 use mathlib.Core.Path.{refl}
 use mir.Facts.{to_z-of_z}
