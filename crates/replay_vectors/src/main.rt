@@ -4,21 +4,20 @@
 // `differential/src/bin/vectors` from the original's answers and the second reading of document 01, and by no call of
 // this program. What a replay tells is proved in `replay_calls`; the functions here read and write, and promise nothing
 // of it.
+#![tactic(auto)]
+
 mod memory;
 
-ghost use Rattle.std.specs.Prelude.{◌≤◌, ◌<◌, length};
+ghost use Rattle.std.specs.Prelude.{◌≤◌, ◌<◌, length, IfOk};
 
 use replay_script::Standing;
-
-const IN: i32 = 0;
-
-const OUT: i32 = 1;
+use std::io;
 
 // How long an overlay is here.
 const ROOM: usize = 16384;
 
-fn write(s: &[u8]) {
-    io::write_all(OUT, s);
+fn write(rt: &impl Print, s: &[u8]) -> io::Result<()> {
+    rt.write_all(s)
 }
 
 fn wide(b: u8) -> usize
@@ -58,27 +57,27 @@ fn past(p: usize, kind: u64, size: usize, end: usize) -> usize
 }
 
 // The numbers of a script's calls, written; and where what was told ends.
-fn write_numbers(s: &[u8], told: &[u8]) -> usize
-    ensures { result ≤ length told.now }
+fn write_numbers(rt: &impl Print, s: &[u8], told: &[u8]) -> io::Result<usize>
+    ensures { IfOk result (λ end. end ≤ length told.now) }
 {
     let Standing::Many(count, start) = replay_script::calls(s) else {
-        return 0;
+        return Ok(0);
     };
     let mut left = count;
     let mut at = start;
     let mut p: usize = 0;
     while 0 < left {
         if told.len() <= p {
-            return p;
+            return Ok(p);
         }
-        write(b" ");
-        io::print_decimal(OUT, wide(told[p]) as u64);
+        write(rt, b" ")?;
+        rt.print(wide(told[p]) as u64)?;
         let q = replay_script::read(s, at);
         p = past(p, q.kind, q.out, told.len());
         at = q.next;
         left -= 1;
     }
-    p
+    Ok(p)
 }
 
 fn replay(s: &[u8], told: &mut [u8]) -> u32 {
@@ -93,54 +92,55 @@ fn replay(s: &[u8], told: &mut [u8]) -> u32 {
 }
 
 // What was told of a script: the numbers, and the sum of all bytes.
-fn write_told(s: &[u8], told: &[u8]) {
-    let end = write_numbers(s, told);
-    write(b", ");
-    io::print_decimal(OUT, sum(told, end) as u64);
+fn write_told(rt: &impl Print, s: &[u8], told: &[u8]) -> io::Result<()> {
+    let end = write_numbers(rt, s, told)?;
+    write(rt, b", ")?;
+    rt.print(sum(told, end) as u64)
 }
 
-fn show(name: &[u8], s: &[u8]) {
+fn show(rt: &impl Print, name: &[u8], s: &[u8]) -> io::Result<()> {
     let mut told = memory::told();
-    write(name);
-    write(b":");
+    write(rt, name)?;
+    write(rt, b":")?;
     if replay(s, &mut told) == 0 {
-        write_told(s, &told);
+        write_told(rt, s, &told)?;
     } else {
-        write(b" no script");
+        write(rt, b" no script")?;
     }
-    write(b"\n");
+    write(rt, b"\n")
 }
 
 // The list that stands at `at`, shown; and the place past it.
-fn show_next(s: &[u8], at: usize) -> usize
+fn show_next(rt: &impl Print, s: &[u8], at: usize) -> io::Result<usize>
     requires { at < length s.now }
-    ensures lower_bound { at < result }
-    ensures upper_bound { result ≤ length s.now }
+    ensures lower_bound { IfOk result (λ next. at < next) }
+    ensures upper_bound { IfOk result (λ next. next ≤ length s.now) }
 {
     if s.len() - at < 4 {
-        return s.len();
+        return Ok(s.len());
     }
     let n = wide(s[at]);
     let m = wide(s[at + 1]) + 256 * wide(s[at + 2]) + 65536 * wide(s[at + 3]);
     let from = at + 4;
     if s.len() - from < n + m {
-        return s.len();
+        return Ok(s.len());
     }
     let middle = from + n;
     let end = middle + m;
-    show(&s[from..middle], &s[middle..end]);
-    end
+    show(rt, &s[from..middle], &s[middle..end])?;
+    Ok(end)
 }
 
-fn show_all(s: &[u8]) {
+fn show_all(rt: &impl Print, s: &[u8]) -> io::Result<()> {
     let mut at: usize = 0;
     while at < s.len() {
-        at = show_next(s, at);
+        at = show_next(rt, s, at)?;
     }
+    Ok(())
 }
 
-fn main() {
+fn main(rt: HostRuntime) -> io::Result<()> {
     let mut lists = memory::lists();
-    let n = io::read_full(IN, &mut lists);
-    show_all(&lists[..n]);
+    let n = program_io::read_full(&mut rt.reader(), &mut lists)?;
+    show_all(&rt, &lists[..n])
 }

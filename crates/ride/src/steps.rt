@@ -3,6 +3,8 @@ use crate::meaning::meaning;
 use crate::memory::ROOM;
 use crate::{memory, words};
 use panel_show::parts::say;
+use std::io;
+use std::rt::Runtime;
 
 // Whether the new overlay counts from now on, and the word at which the next step begins.
 #[derive(Drop)]
@@ -51,16 +53,16 @@ fn later(at: usize, k: usize) -> usize {
 }
 
 // What was called, and what its number says.
-fn tell(call: &[u8], name: &[u8], number: u32) {
-    say(b"\n> ");
-    say(call);
+fn tell(rt: &impl Print, call: &[u8], name: &[u8], number: u32) -> io::Result<()> {
+    say(rt, b"\n> ")?;
+    say(rt, call)?;
     if 0 < name.len() {
-        say(b" ");
-        say(name);
+        say(rt, b" ")?;
+        say(rt, name)?;
     }
-    say(b": ");
-    meaning(number);
-    say(b"\n");
+    say(rt, b": ")?;
+    meaning(rt, number)?;
+    say(rt, b"\n")
 }
 
 fn message_call(old: &[u8], feed: &[u8], s: &[u8], new: &mut [u8]) -> u32 {
@@ -70,62 +72,62 @@ fn message_call(old: &[u8], feed: &[u8], s: &[u8], new: &mut [u8]) -> u32 {
     panel_message::message(ROOM, old, feed, s, new, &mut keys, &mut marks, &mut order)
 }
 
-fn message(at: usize, old: &[u8], new: &mut [u8]) -> Turn {
+fn message(rt: &impl Runtime, at: usize, old: &[u8], new: &mut [u8]) -> io::Result<Turn> {
     let next = later(at, 3);
-    let mut feed = io::buffer();
+    let mut feed = program_io::buffer();
     let mut file = memory::file();
-    let f = words::word(later(at, 1), &mut feed);
-    let m = words::file(later(at, 2), &mut file);
+    let f = words::word(rt, later(at, 1), &mut feed);
+    let m = words::file(rt, later(at, 2), &mut file)?;
     if !m.whole {
-        return Turn { wrote: false, next };
+        return Ok(Turn { wrote: false, next });
     }
     let k = f.count;
     let n = m.count;
     let number = message_call(old, &feed[..k], &file[..n], new);
-    tell(b"message", &feed[..k], number);
-    Turn {
+    tell(rt, b"message", &feed[..k], number)?;
+    Ok(Turn {
         wrote: number == 0,
         next,
-    }
+    })
 }
 
-fn alerts(at: usize, old: &[u8], new: &mut [u8]) -> Turn {
+fn alerts(rt: &impl Runtime, at: usize, old: &[u8], new: &mut [u8]) -> io::Result<Turn> {
     let next = later(at, 3);
-    let mut feed = io::buffer();
+    let mut feed = program_io::buffer();
     let mut file = memory::file();
-    let f = words::word(later(at, 1), &mut feed);
-    let m = words::file(later(at, 2), &mut file);
+    let f = words::word(rt, later(at, 1), &mut feed);
+    let m = words::file(rt, later(at, 2), &mut file)?;
     if !m.whole {
-        return Turn { wrote: false, next };
+        return Ok(Turn { wrote: false, next });
     }
     let k = f.count;
     let n = m.count;
     let number = panel_sheets::alert_sheet(ROOM, old, &feed[..k], &file[..n], new);
-    tell(b"alerts", &feed[..k], number);
-    Turn {
+    tell(rt, b"alerts", &feed[..k], number)?;
+    Ok(Turn {
         wrote: number == 0,
         next,
-    }
+    })
 }
 
-fn vehicles(at: usize, old: &[u8], new: &mut [u8]) -> Turn {
+fn vehicles(rt: &impl Runtime, at: usize, old: &[u8], new: &mut [u8]) -> io::Result<Turn> {
     let next = later(at, 4);
-    let mut feed = io::buffer();
+    let mut feed = program_io::buffer();
     let mut file = memory::file();
-    let f = words::word(later(at, 1), &mut feed);
-    let clock = words::decimal(later(at, 2));
-    let m = words::file(later(at, 3), &mut file);
+    let f = words::word(rt, later(at, 1), &mut feed);
+    let clock = words::decimal(rt, later(at, 2));
+    let m = words::file(rt, later(at, 3), &mut file)?;
     if !m.whole {
-        return Turn { wrote: false, next };
+        return Ok(Turn { wrote: false, next });
     }
     let k = f.count;
     let n = m.count;
     let number = panel_sheets::vehicle_sheet(ROOM, old, &feed[..k], &file[..n], clock, new);
-    tell(b"vehicles", &feed[..k], number);
-    Turn {
+    tell(rt, b"vehicles", &feed[..k], number)?;
+    Ok(Turn {
         wrote: number == 0,
         next,
-    }
+    })
 }
 
 fn card_call(old: &[u8], s: &[u8], out: &mut [u8]) -> u32 {
@@ -146,58 +148,58 @@ fn card_call(old: &[u8], s: &[u8], out: &mut [u8]) -> u32 {
 }
 
 // A card is shown as it arrives, and as it is finished with its status in large.
-fn card(at: usize, old: &[u8]) -> Turn {
+fn card(rt: &impl Runtime, at: usize, old: &[u8]) -> io::Result<Turn> {
     let next = later(at, 2);
     let mut file = memory::file();
     let mut out = memory::card();
-    let m = words::file(later(at, 1), &mut file);
+    let m = words::file(rt, later(at, 1), &mut file)?;
     if !m.whole {
-        return Turn { wrote: false, next };
+        return Ok(Turn { wrote: false, next });
     }
     let n = m.count;
     let number = card_call(old, &file[..n], &mut out);
-    tell(b"card", b"", number);
+    tell(rt, b"card", b"", number)?;
     if number == 0 {
-        say(b"before:\n");
-        panel_show::card::card(&file[..n], false);
-        say(b"now:\n");
-        panel_show::card::card(&out, true);
+        say(rt, b"before:\n")?;
+        panel_show::card::card(rt, &file[..n], false)?;
+        say(rt, b"now:\n")?;
+        panel_show::card::card(rt, &out, true)?;
     }
-    Turn { wrote: false, next }
+    Ok(Turn { wrote: false, next })
 }
 
-fn records(at: usize, old: &[u8]) -> Turn {
-    say(b"\n> records\n");
-    panel_show::state::state(old);
-    Turn {
+fn records(rt: &impl Print, at: usize, old: &[u8]) -> io::Result<Turn> {
+    say(rt, b"\n> records\n")?;
+    panel_show::state::state(rt, old)?;
+    Ok(Turn {
         wrote: false,
         next: later(at, 1),
-    }
+    })
 }
 
 // A word that begins no step is passed over; past the last word there is none.
-fn nothing(at: usize, word: &[u8]) -> Turn {
+fn nothing(rt: &impl Print, at: usize, word: &[u8]) -> io::Result<Turn> {
     if 0 < word.len() {
-        say(b"\n> no step begins with ");
-        say(word);
-        say(b"\n");
+        say(rt, b"\n> no step begins with ")?;
+        say(rt, word)?;
+        say(rt, b"\n")?;
     }
-    Turn {
+    Ok(Turn {
         wrote: false,
         next: later(at, 1),
-    }
+    })
 }
 
 // The step whose first word is the word `at`.
-pub fn step(at: usize, old: &[u8], new: &mut [u8]) -> Turn {
-    let mut word = io::buffer();
-    let n = words::word(at, &mut word).count;
+pub fn step(rt: &impl Runtime, at: usize, old: &[u8], new: &mut [u8]) -> io::Result<Turn> {
+    let mut word = program_io::buffer();
+    let n = words::word(rt, at, &mut word).count;
     match kind_of(&word[..n]) {
-        Kind::Message => message(at, old, new),
-        Kind::Alerts => alerts(at, old, new),
-        Kind::Vehicles => vehicles(at, old, new),
-        Kind::Card => card(at, old),
-        Kind::Records => records(at, old),
-        Kind::Nothing => nothing(at, &word[..n]),
+        Kind::Message => message(rt, at, old, new),
+        Kind::Alerts => alerts(rt, at, old, new),
+        Kind::Vehicles => vehicles(rt, at, old, new),
+        Kind::Card => card(rt, at, old),
+        Kind::Records => records(rt, at, old),
+        Kind::Nothing => nothing(rt, at, &word[..n]),
     }
 }

@@ -1,5 +1,10 @@
 // The command line's words, and the files that they name.
-ghost use Rattle.io.specs.Counts.{IsPrefixLen};
+ghost use Rattle.std.specs.Prelude.{◌≡◌, IfOk};
+ghost use Rattle.program_io.specs.Counts.{IsPrefixLen};
+
+use std::env::{Env, FillError};
+use std::fs::{File, Files};
+use std::io;
 
 // What was put at the start of a buffer: whether it is whole, and how many bytes it has.
 #[derive(Drop)]
@@ -8,40 +13,78 @@ pub struct Filled {
     pub count: usize,
 }
 
+// How many words the command line has, the program's own name among them.
+pub fn count(rt: &impl Env) -> usize {
+    for i in 0..usize::MAX {
+        if let Err(FillError::NotPresent) = rt.arg(i, &mut []) {
+            return i;
+        }
+    }
+    usize::MAX
+}
+
 // The word i, at the start of `buf`.
-pub fn word(i: usize, buf: &mut [u8]) -> Filled
+pub fn word(rt: &impl Env, i: usize, buf: &mut [u8]) -> Filled
     ensures { IsPrefixLen result.count buf.new }
 {
-    let count = os::arg(i, buf);
-    let whole = os::errno() == 0;
-    Filled { whole, count }
+    match rt.arg(i, buf) {
+        Ok(count) => Filled { whole: true, count },
+        Err(_) => Filled {
+            whole: false,
+            count: 0,
+        },
+    }
+}
+
+// Says on standard error what is wrong with a file, of which nothing is read.
+fn not_read(rt: &impl Eprint, what: &str, why: &str) -> io::Result<Filled>
+    ensures { IfOk result (λ f. f.count ≡ 0) }
+{
+    eprintln!(rt; "{what}: {why}")?;
+    Ok(Filled {
+        whole: false,
+        count: 0,
+    })
+}
+
+// The system's words of an error, without its number.
+fn without_number(words: &str) -> &str {
+    match words.split_once(" (os error ") {
+        Some((before, _)) => before,
+        None => words,
+    }
+}
+
+// The bytes of the file of that name, at the start of `buf`. A name that is no text names no file.
+fn named<R: Files + Eprint + Alloc>(rt: &R, name: &[u8], buf: &mut [u8]) -> io::Result<Filled>
+    ensures { IfOk result (λ f. IsPrefixLen f.count buf.new) }
+{
+    let Ok(path) = str::from_utf8(name) else {
+        return not_read(rt, "the name of a file", "Invalid argument");
+    };
+    match File::open(rt, path) {
+        Ok(mut file) => {
+            let count = program_io::read_full(&mut file, buf)?;
+            Ok(Filled { whole: true, count })
+        }
+        Err(e) => {
+            let words = format!(in rt.alloc(); "{e}")?;
+            not_read(rt, path, without_number(words.as_str()))
+        }
+    }
 }
 
 // The bytes of the file that the word i names, at the start of `buf`, as many as have room there. What is wrong with
 // it is said on standard error.
-pub fn file(i: usize, buf: &mut [u8]) -> Filled
-    ensures { IsPrefixLen result.count buf.new }
+pub fn file<R: Env + Files + Eprint + Alloc>(rt: &R, i: usize, buf: &mut [u8]) -> io::Result<Filled>
+    ensures { IfOk result (λ f. IsPrefixLen f.count buf.new) }
 {
-    let mut path = io::buffer();
-    let length = os::arg(i, &mut path);
-    if os::errno() != 0 {
-        os::fail(b"the name of a file");
-        return Filled {
-            whole: false,
-            count: 0,
-        };
+    let mut path = program_io::buffer();
+    match rt.arg(i, &mut path) {
+        Ok(length) => named(rt, &path[..length], buf),
+        Err(FillError::NotPresent) => not_read(rt, "the name of a file", "Invalid argument"),
+        Err(FillError::TooLong) => not_read(rt, "the name of a file", "File name too long"),
     }
-    let fd = os::open_read(&path[..length]);
-    if fd < 0 {
-        os::fail(&path[..length]);
-        return Filled {
-            whole: false,
-            count: 0,
-        };
-    }
-    let count = io::read_full(fd, buf);
-    libc::close(fd);
-    Filled { whole: true, count }
 }
 
 // What a digit counts; a byte that is none ends the number.
@@ -76,9 +119,9 @@ fn number(word: &[u8]) -> u64 {
 }
 
 // The number that the word i is.
-pub fn decimal(i: usize) -> i64 {
-    let mut buf = io::buffer();
-    let count = os::arg(i, &mut buf);
+pub fn decimal(rt: &impl Env, i: usize) -> i64 {
+    let mut buf = program_io::buffer();
+    let count = word(rt, i, &mut buf).count;
     let n = number(&buf[..count]) % 1000000000000000000;
     n as i64
 }

@@ -1,0 +1,9 @@
+-- `replay_vectors::sum` is safe and ends.
+use Rattle.std.proofs.Common.{◌-◌, ◌≤◌}
+use Rattle.replay_vectors.proofs.sum.Given as goal
+
+abbrev pub invariant-loop-i : goal.invariant-loop-i
+invariant-loop-i l = l.i ≤ l.end
+
+abbrev pub decreases-loop-i : goal.decreases-loop-i
+decreases-loop-i l = l.end - l.i
