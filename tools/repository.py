@@ -46,8 +46,9 @@ def files(folder, *suffixes):
 
 
 def papers():
-    """The pages that speak of the tree as it is. Landing notes are history and not among them."""
-    return ["README.md", "CONTRIBUTING.md"] + [f"docs/{name}" for name in names_in("docs") if name.endswith(".md")]
+    """The pages that speak of the tree as it is. Landing notes and PORT.md are history and not among them."""
+    pages = [name for name in names_in("docs") if name.endswith(".md") and name != "PORT.md"]
+    return ["README.md", "CONTRIBUTING.md"] + [f"docs/{name}" for name in pages]
 
 
 def digest(text):

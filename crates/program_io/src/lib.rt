@@ -3,7 +3,7 @@
 
 ghost use Rattle.std.specs.Prelude.{◌≡◌, ◌<◌, length, take, IfOk};
 ghost use Rattle.std.specs.Io.KnownBytes.{Consumes, IsAtEnd};
-ghost use Rattle.program_io.specs.Counts.{IsPrefixLen};
+ghost use Rattle.program_io.specs.Promises.Counts.{IsPrefixLen};
 
 use std::io;
 use std::io::Read;

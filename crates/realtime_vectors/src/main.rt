@@ -13,7 +13,7 @@
 #![tactic(auto)]
 
 ghost use Rattle.std.specs.Prelude.{◌+◌, ◌≤◌, ◌<◌, length};
-ghost use Rattle.program_io.specs.Counts.{IsPrefixLen};
+ghost use Rattle.program_io.specs.Promises.Counts.{IsPrefixLen};
 
 use realtime::Verdict;
 use realtime_read::{FEED_MESSAGE, ID_LIMIT};

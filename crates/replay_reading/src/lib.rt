@@ -1,4 +1,6 @@
 // The calls of a script that write no overlay, each with its number before its output: a card, and a report.
+#![tactic(auto)]
+
 ghost use Rattle.std.specs.Prelude.{◌≡◌, ◌≤◌, ◌<◌, length};
 ghost use Rattle.decode.specs.Sizes.{most_old};
 ghost use Rattle.panel.specs.Calls as calls;

@@ -1,6 +1,6 @@
 // The command line's words, and the files that they name.
 ghost use Rattle.std.specs.Prelude.{◌≡◌, IfOk};
-ghost use Rattle.program_io.specs.Counts.{IsPrefixLen};
+ghost use Rattle.program_io.specs.Promises.Counts.{IsPrefixLen};
 
 use std::env::{Env, FillError};
 use std::fs::{File, Files};

@@ -1,4 +1,4 @@
--- A count of the bytes at the start of a buffer.
+-- Promise. A count of the bytes at the start of a buffer.
 use Rattle.std.specs.Prelude.{◌≡◌, ℕ, ◌≤◌, List, length, take}
 
 -- `&xs[..n]` is in bounds and has n bytes
