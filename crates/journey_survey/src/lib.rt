@@ -1,4 +1,6 @@
 // The first pass over the legs of a card: what decides its head, and the labels of the alerts that apply.
+#![tactic(auto)]
+
 ghost use Rattle.std.specs.Prelude.{◌≡◌, length};
 ghost use Rattle.overlay_noted.specs.Promises.Noted.{Noted};
 ghost use Rattle.journey_labels.specs.Promises.Labels.{labels_length, SoundLabels};

@@ -1,5 +1,7 @@
 // A card's call, with the overlay's length as a parameter: its questions in their order and the finished card, then
 // zeros behind what was written and in the working buffers.
+#![tactic(auto)]
+
 use formats_judge::Judge;
 use formats_write::Put;
 use journey_card::Survey;

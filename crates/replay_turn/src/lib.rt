@@ -1,5 +1,7 @@
 // A call of a script, run on the call itself: two overlays take turns, and of each call its number is told, and of a
 // card or a report its output.
+#![tactic(auto)]
+
 ghost use Rattle.std.specs.Prelude.{◌≡◌, cond, [], ◌∷◌, ◌≤◌, length, take};
 ghost use Rattle.decode.specs.Sizes.{most_old};
 ghost use Rattle.panel.specs.Lengths.{sized};
