@@ -27,7 +27,8 @@ use Rattle.alerts_sheet.proofs.Progress.{Progress, begins, goes_on, is_done, sti
 
 -- the alerts of the entities in z that are kept, are left
 pub record Kept (name l : List ℕ) (r : Put) (m : List ℕ) (q : Put) (t : Tree) (z : List Tree) : Type 0 where
-  pub progress : Progress (write alert) l r m q (map (alert_in name) (kept_in t)) (map (alert_in name) (filter has_alert z))
+  pub progress : Progress (write alert) l r m q (map (alert_in name) (kept_in t))
+      (map (alert_in name) (filter has_alert z))
   pub fair : all few (kept_in t) ≡ true → all few (filter has_alert z) ≡ true
 
 -- THE INVARIANT

@@ -118,11 +118,13 @@ found_room p s i n r e h g = rw g (go (find p s) refl (sym e ∙ h))
     go none eo x = absurd (let z : ◌≡◌ {A = ℕ} 0 1 = cc in omega arith)
     go (some k) eo x = omega (arith, find_room p s k eo, un_at x)
 
-pub near_found : (p s : List ℕ) (i n : ℕ) (r : Occurrence) (t : Bool) → r ≡ found_of (find p s) → r ≡ At i → n ≡ length p
+pub near_found : (p s : List ℕ) (i n : ℕ) (r : Occurrence) (t : Bool) → r ≡ found_of (find p s) → r ≡ At i
+    → n ≡ length p
     → t ≡ any_marker advice_markers (window s i n) → t ≡ near_marker s p
 near_found p s i n r t e h g x = x ∙ go (find p s) (sym e ∙ h)
   where
-    go : (o : Option ℕ) → found_of o ≡ At i → any_marker advice_markers (window s i n) ≡ marker_near advice_markers s p o
+    go : (o : Option ℕ) → found_of o ≡ At i
+        → any_marker advice_markers (window s i n) ≡ marker_near advice_markers s p o
     go none x = absurd (let z : ◌≡◌ {A = ℕ} 0 1 = cc in omega arith)
     go (some k) x = rw (un_at x, g) refl
 

@@ -106,7 +106,8 @@ module _ (e : Tree) (F : FineEntity e) where
       (fine_sub feed rules trip_update 1 trip_descriptor refl (sub 3 e)
       (fine_sub feed rules feed_entity 3 trip_update refl e F)))
 
-  pub entity_fine : (s : List ℕ) (i l : ℕ) → tree feed feed_entity (take l (drop i s)) ≡ some e → entity.FineEntity s i l
+  pub entity_fine : (s : List ℕ) (i l : ℕ) → tree feed feed_entity (take l (drop i s)) ≡ some e
+      → entity.FineEntity s i l
   entity_fine s i l p = record { entity = e; read = p; id = short 1; date = short 3; time = short 2; route = short 5 }
 
 -- ---- an entity's entries with their place stand for its record
@@ -153,7 +154,8 @@ module _ (s : List ℕ) (i l : ℕ) (e : Tree) (r : tree feed feed_entity (take 
         ∙ ap (λ x. puts texts x (map_values (held_at s o) m)) (go (deleted e))
       where
         go : (b : Bool)
-            → map_values (held_at s o) (placed_at (i, i + l) (cond b [] (inserts name (trip e).id (trip_in e)))) ≡ cond b
+            → map_values (held_at s o) (placed_at (i, i + l) (cond b [] (inserts name (trip e).id (trip_in e))))
+            ≡ cond b
             [] (inserts name (trip e).id (trip_in e))
         go true = refl
         go false = placed_inserts (held_at s o) (i, i + l) (trip_in e) (stands_for o) name (trip e).id

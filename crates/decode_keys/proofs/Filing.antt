@@ -66,7 +66,8 @@ module _ (feed : List ℕ) (u : held.Trip) where
   inserts_incomplete [] z h = rw (nonempty (held.route_of u) h)
   inserts_incomplete (b ∷ raw) z h = absurd (omega arith)
 
-  inserts_base : (raw : List ℕ) → (length raw ≡ 0 → ⊥) → length (held.date_of u) ≡ 0 → inserts feed raw u ≡ (raw, u) ∷ []
+  inserts_base : (raw : List ℕ) → (length raw ≡ 0 → ⊥) → length (held.date_of u) ≡ 0
+      → inserts feed raw u ≡ (raw, u) ∷ []
   inserts_base [] z h = absurd (z refl)
   inserts_base (b ∷ raw) z h = rw (nothing (held.date_of u) h)
 

@@ -71,7 +71,8 @@ pub record Standing (o : List ℕ) : Type 0 where
 
 unfailed_zero : (o : List ℕ) (x : Option (Trips × List ℕ)) → read (list 2048 trip_entry) o ≡ x
     → unfailed (judged (verdict (list 2048 trip_entry)) o x) ≡ true
-    → (end : ℕ) × Here (list 2048 trip_entry) o 0 end (trips_read x) × (verdict (list 2048 trip_entry) (trips_read x) ≡ 0)
+    → (end : ℕ) × Here (list 2048 trip_entry) o 0 end (trips_read x)
+    × (verdict (list 2048 trip_entry) (trips_read x) ≡ 0)
 unfailed_zero o none e u = false_true u
 unfailed_zero o (some x) e u = (
   _,

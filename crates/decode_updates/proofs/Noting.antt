@@ -260,7 +260,8 @@ module _ (u : List ℕ) (n : ℕ) (L : Lined u n) (q from to : ℕ) where
       let z = get_or u (3 * n + 2) 0 in
       let back : drop (3 * n) u ≡ x ∷ y ∷ z ∷ drop (3 * n + 3) u =
       drop_three u (3 * n) l in
-      let other : rank < length (laid n u) → is_same (lex_of (q ∷ []) ((get_or (laid n u) rank nothing).0 ∷ [])) ≡ false =
+      let other : rank < length (laid n u)
+      → is_same (lex_of (q ∷ []) ((get_or (laid n u) rank nothing).0 ∷ [])) ≡ false =
       λ k.
       let k' : rank < n = omega (arith, laid_length n u) in
       ap (λ x. is_same (lex_of (q ∷ []) (x.0 ∷ []))) (laid_at n u rank k')

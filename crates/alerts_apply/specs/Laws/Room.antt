@@ -7,6 +7,7 @@ use Rattle.alerts_ids.specs.Laws.Ends.{trim_shorter}
 use Rattle.alerts_apply.specs.Promises.Hits.{Room}
 
 pub room : (a : Alert) (short : List ℕ) (n : ℕ) → length (or_empty_text (header a)) ≤ 512
-    → length (or_empty_text (description a)) ≤ 2048 → length (or_empty_text (cause a)) ≤ 64 → length short ≤ 64 → 2626 ≤ n
+    → length (or_empty_text (description a)) ≤ 2048 → length (or_empty_text (cause a)) ≤ 64 → length short ≤ 64
+    → 2626 ≤ n
     → Room a (trim short) n
 room a short n h d c s l = record { road = omega arith; name = omega (arith, trim_shorter short) }

@@ -49,7 +49,8 @@ id_adds name s t h a b c d =
 
 -- no list of a fair entity has more than 32 ids
 module _ (e : Tree) (h : few e ≡ true) where
-  few_trips : (leb (length (ids_in 4 e)) 32 ≡ true) × (leb (length (ids_in 2 e)) 32 && leb (length (ids_in 5 e)) 32 ≡ true)
+  few_trips : (leb (length (ids_in 4 e)) 32 ≡ true)
+      × (leb (length (ids_in 2 e)) 32 && leb (length (ids_in 5 e)) 32 ≡ true)
   few_trips = and_true h
 
   few_others : (leb (length (ids_in 2 e)) 32 ≡ true) × (leb (length (ids_in 5 e)) 32 ≡ true)

@@ -13,7 +13,8 @@ pub fits_alert : (a : Alert) (short : List ℕ)
     → fits_of (or_empty_text (header a)) (or_empty_text (description a)) short ≡ text_fits a short
 fits_alert a short = refl
 
-pub road_alert : (a : Alert) → road_of (or_empty_text (header a)) (or_empty_text (description a)) (or_empty_text (cause a)) ≡
+pub road_alert : (a : Alert)
+    → road_of (or_empty_text (header a)) (or_empty_text (description a)) (or_empty_text (cause a)) ≡
     road (road_blob a)
 road_alert a = refl
 

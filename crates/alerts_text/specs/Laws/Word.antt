@@ -102,7 +102,8 @@ module _ {marks : List ℕ} {word k : ℕ} (G : Gathering marks word k) where
     long = G.long;
     is =
         let n : suc (k - 1) ≡ k = omega arith in
-        e ∙ ap (λ w. cond (eqb (get_or marks (k - 1) 0) 1) 1 0 + 2 * w) (G.is ∙ sym (ap (λ j. word_of (drop j marks)) n))
+        e ∙ ap (λ w. cond (eqb (get_or marks (k - 1) 0) 1) 1 0 + 2 * w)
+        (G.is ∙ sym (ap (λ j. word_of (drop j marks)) n))
         ∙ sym (ap word_of (drop-cons marks (k - 1) 0 (omega (arith, G.within, G.long))));
   }
 
@@ -123,7 +124,8 @@ marks_back [] k = refl
 marks_back (b ∷ l) k = go (eqb b 1) refl k (marks_back l)
   where
     go : (t : Bool) → eqb b 1 ≡ t → (k : ℕ) → ((k : ℕ) → on (bits_of (length l) (word_of l)) k ≡ on l k)
-        → eqb (get_or (bit_of (cond t 1 0 + 2 * word_of l) ∷ bits_of (length l) ((cond t 1 0 + 2 * word_of l) / 2)) k 0) 1
+        → eqb (get_or (bit_of (cond t 1 0 + 2 * word_of l) ∷ bits_of (length l) ((cond t 1 0 + 2 * word_of l) / 2)) k 0)
+        1
         ≡ eqb (get_or (b ∷ l) k 0) 1
     go t e zero ih = rw (halves t (word_of l)).0 (bit t e)
       where
@@ -132,7 +134,8 @@ marks_back (b ∷ l) k = go (eqb b 1) refl k (marks_back l)
         bit false e = sym e
     go t e (suc k) ih = rw (halves t (word_of l)).1 (ih k)
 
-pub kept_lines : (f : ℕ → Bool) (l : List ℕ) (w : ℕ) → length l ≡ 32 → w ≡ word_of l → Lines f l → Lines f (bits_of 32 w)
+pub kept_lines : (f : ℕ → Bool) (l : List ℕ) (w : ℕ) → length l ≡ 32 → w ≡ word_of l → Lines f l
+    → Lines f (bits_of 32 w)
 kept_lines f l w long e L = record {
   each = λ k h.
       ap (λ n. on (bits_of n w) k) (sym long) ∙ ap (λ x. on (bits_of (length l) x) k) e ∙ marks_back l k ∙ L.each k h;

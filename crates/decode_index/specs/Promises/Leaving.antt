@@ -48,4 +48,5 @@ pub record Leaves (feed s o : List ℕ) (at : ℕ) (keys marks order : List ℕ)
   pub calm : {n next : ℕ} → r ≡ Left.Trips n next → any_crowded (held s o (index keys marks order n)) ≡ false
   pub passes : {n next : ℕ} → r ≡ Left.Trips n next → Passes (list most_trips trip_entry) o at next
   pub of : (v : Trips) (q : ℕ) → Here (list most_trips trip_entry) o at q v
-      → view_left (λ n. held s o (index keys marks order n)) r ≡ leaving (leaves feed (message_tree s) (puts texts v []))
+      → view_left (λ n. held s o (index keys marks order n)) r
+      ≡ leaving (leaves feed (message_tree s) (puts texts v []))

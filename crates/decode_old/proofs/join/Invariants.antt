@@ -10,7 +10,8 @@ use Rattle.decode_old.proofs.join.Given as goal
 
 abbrev pub invariant-loop-left : goal.invariant-loop-left
 invariant-loop-left l =
-    (length l.keys ≡ length l.initial.keys) × (length l.marks ≡ length l.initial.marks) × (length l.order ≡ length l.initial.order)
+    (length l.keys ≡ length l.initial.keys) × (length l.marks ≡ length l.initial.marks)
+    × (length l.order ≡ length l.initial.order)
     × Walk trip_entry l.old l.initial.p l.initial.left l.p l.left (Filled l.old l.keys l.marks l.order l.n)
 
 abbrev pub decreases-loop-left : goal.decreases-loop-left

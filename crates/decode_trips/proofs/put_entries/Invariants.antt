@@ -18,7 +18,9 @@ use Rattle.decode_trips.proofs.put_entries.Given as goal
 
 abbrev pub invariant-loop-i : goal.invariant-loop-i
 invariant-loop-i l =
-    (l.i ≤ l.n) × Adds l.initial.out l.initial.q l.out l.q (many_w (write trip_entry) (held l.message l.old (index l.keys l.marks l.order l.i)))
+    (l.i ≤ l.n)
+    × Adds l.initial.out l.initial.q l.out l.q
+    (many_w (write trip_entry) (held l.message l.old (index l.keys l.marks l.order l.i)))
     × Ready l.message l.old l.out l.q l.last
 
 abbrev pub decreases-loop-i : goal.decreases-loop-i

@@ -18,7 +18,8 @@ pub overflow_add-slot : goal.overflow_add-slot
 overflow_add-slot c = omega (arith, slot_below c.loop-i.invariant c.loop-i-test.true c.word-slot.ensures)
 
 pub word-a-requires : goal.word-a-requires
-word-a-requires c = omega (arith, slot_below c.loop-i.invariant c.loop-i-test.true c.word-slot.ensures, c.requires.marks_len.0)
+word-a-requires c = omega
+    (arith, slot_below c.loop-i.invariant c.loop-i-test.true c.word-slot.ensures, c.requires.marks_len.0)
 
 pub overflow_mul-slot-in-loop-i : goal.overflow_mul-slot-in-loop-i
 overflow_mul-slot-in-loop-i c = omega (arith, slot_below c.loop-i.invariant c.loop-i-test.true c.word-slot.ensures)
@@ -27,7 +28,8 @@ pub overflow_add-slot-in-loop-i : goal.overflow_add-slot-in-loop-i
 overflow_add-slot-in-loop-i c = omega (arith, slot_below c.loop-i.invariant c.loop-i-test.true c.word-slot.ensures)
 
 pub word-e-requires : goal.word-e-requires
-word-e-requires c = omega (arith, slot_below c.loop-i.invariant c.loop-i-test.true c.word-slot.ensures, c.requires.marks_len.0)
+word-e-requires c = omega
+    (arith, slot_below c.loop-i.invariant c.loop-i-test.true c.word-slot.ensures, c.requires.marks_len.0)
 
 pub place_crowded-requires-clause-message_len_bound : goal.place_crowded-requires-clause-message_len_bound
 place_crowded-requires-clause-message_len_bound c = c.requires.n_le_most_trips.1

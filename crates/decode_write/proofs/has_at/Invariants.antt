@@ -10,7 +10,9 @@ use Rattle.decode_write.proofs.has_at.Given as goal
 
 abbrev pub invariant-loop-i : goal.invariant-loop-i
 invariant-loop-i l =
-    (l.i ≤ l.to) × (has_byte 64 (take (l.to - l.from) (drop l.from l.message)) ≡ has_byte 64 (take (l.to - l.i) (drop l.i l.message)))
+    (l.i ≤ l.to)
+    × (has_byte 64 (take (l.to - l.from) (drop l.from l.message))
+    ≡ has_byte 64 (take (l.to - l.i) (drop l.i l.message)))
 
 abbrev pub decreases-loop-i : goal.decreases-loop-i
 decreases-loop-i l = l.to - l.i

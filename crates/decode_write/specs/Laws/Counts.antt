@@ -46,7 +46,8 @@ plain_more (d ∷ m) e = go (has_byte 64 d.0) (has_byte 64 e.0) (plain_more m e)
     go false false i = omega arith
 
 module _ (keys marks order : List ℕ) (i : ℕ) (h : i < length order) where
-  plain_index : plain_keys (index keys marks order (i + 1)) ≡ cond (has_byte 64 (slot_key keys marks (get_or order i 0)))
+  plain_index : plain_keys (index keys marks order (i + 1))
+      ≡ cond (has_byte 64 (slot_key keys marks (get_or order i 0)))
       (plain_keys (index keys marks order i)) (plain_keys (index keys marks order i) + 1)
   plain_index =
       ap plain_keys (index_more keys marks order i h)

@@ -45,7 +45,8 @@ text_adds s t h a b =
     (sym (slice_is t.start (t.start + t.len) s (omega arith) h) ∙ ap (λ k. take k (drop t.start s)) d))
 
 -- a flag
-pub flag_yes : {l m : List ℕ} {r q : Put} (b : Bool) → Adds l r m q (1 ∷ []) → b ≡ true → Adds l r m q (number_w (bit b))
+pub flag_yes : {l m : List ℕ} {r q : Put} (b : Bool) → Adds l r m q (1 ∷ []) → b ≡ true
+    → Adds l r m q (number_w (bit b))
 flag_yes b a e = rw e a
 
 pub flag_no : {l m : List ℕ} {r q : Put} (b : Bool) → Adds l r m q (0 ∷ []) → b ≡ false
@@ -129,7 +130,8 @@ module _ (s u : List ℕ) where
       ∙ map_append (update_at s) (laid i u) (line_of u i ∷ []))))
 
   pub update_readable : {n : ℕ} → All (λ x. Readable stop_time_update s x.1) (laid n u) → (i : ℕ) → i < n
-      → {from to : ℕ} → from ≡ get_or u (3 * i + 1) 0 → to ≡ get_or u (3 * i + 2) 0 → Readable stop_time_update s (from, to)
+      → {from to : ℕ} → from ≡ get_or u (3 * i + 1) 0 → to ≡ get_or u (3 * i + 2) 0
+      → Readable stop_time_update s (from, to)
   update_readable {n} a i h e f = rw (e, f) (laid_all (λ x. Readable stop_time_update s x.1) n u a i h)
 
   pub updates_done : {l m : List ℕ} {r q : Put} {i n : ℕ} → i ≤ n → n ≤ i → Adds l r m q (updates_w i)

@@ -9,8 +9,11 @@ use Rattle.journey_alerts.proofs.each_candidate.Given as goal
 
 abbrev pub invariant-loop-k : goal.invariant-loop-k
 invariant-loop-k l =
-    (length l.text ≡ length l.initial.text) × (length l.known ≡ length l.initial.known) × (length l.froms ≡ length l.initial.froms)
-    × (length l.tos ≡ length l.initial.tos) × EachMet l.card l.t l.old l.candidates l.n l.places l.k (length l.initial.text) l.initial.froms l.initial.tos l.initial.r l.froms l.tos l.r l.known
+    (length l.text ≡ length l.initial.text) × (length l.known ≡ length l.initial.known)
+    × (length l.froms ≡ length l.initial.froms)
+    × (length l.tos ≡ length l.initial.tos)
+    × EachMet l.card l.t l.old l.candidates l.n l.places l.k (length l.initial.text) l.initial.froms l.initial.tos
+    l.initial.r l.froms l.tos l.r l.known
 
 abbrev pub decreases-loop-k : goal.decreases-loop-k
 decreases-loop-k l = l.n - l.k

@@ -57,7 +57,8 @@ module _ (S : Survey) (R : LegRealtime) (x : Bool) (d a : OptionalSigned) where
       → given_signed old ≡ taken live (to_z w64 (of_z w64 R.departs.time)) (given_signed d)
       → first ≡ cond S.began S.first old
       → b1 ≡ (S.cancel || R.cancels) → b2 ≡ (S.delay || late) → b3 ≡ (S.alert || x) → b4 ≡ (S.told || live)
-      → gathered_of (record { cancel = b1; delay = b2; alert = b3; told = b4; began = true; first = first; last = last })
+      → gathered_of
+      (record { cancel = b1; delay = b2; alert = b3; told = b4; began = true; first = first; last = last })
       ≡ meets (gathered_of S) R x (given_signed d) (given_signed a)
   met last old f g i j k l m n o p q =
       rw (n, o, p, q, m, given_cond S.began S.first old, j, k, l, to_z-of_z g, to_z-of_z f, i) refl

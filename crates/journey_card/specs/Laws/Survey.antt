@@ -77,7 +77,8 @@ module _ (B : Feeds) where
   behind_none [] = refl
   behind_none (t ∷ ts) = refl
 
-  pub last_is : (l : List (Value leg)) → (foldl (look B) nothing l).last ≡ last_arrival (transits (map (enrich_leg B) l))
+  pub last_is : (l : List (Value leg))
+      → (foldl (look B) nothing l).last ≡ last_arrival (transits (map (enrich_leg B) l))
   last_is l = last_from nothing l ∙ behind_none (transits (map (enrich_leg B) l))
 
   -- a leg by what look-ups gave for it

@@ -9,7 +9,8 @@ use Rattle.journey_enrich.proofs.each_header.Given as goal
 
 abbrev pub invariant-loop-i : goal.invariant-loop-i
 invariant-loop-i l =
-    (length l.out ≡ length l.initial.out) × (l.i ≤ l.n) × HeadersUpTo l.i l.old l.froms l.tos l.n l.initial.out l.initial.k l.out l.k
+    (length l.out ≡ length l.initial.out) × (l.i ≤ l.n)
+    × HeadersUpTo l.i l.old l.froms l.tos l.n l.initial.out l.initial.k l.out l.k
 
 abbrev pub decreases-loop-i : goal.decreases-loop-i
 decreases-loop-i l = l.n - l.i

@@ -27,7 +27,8 @@ abbrev pub nothing : List ℕ × Unit {0}
 nothing = ([], tt)
 
 -- what stands at a rank
-pub places_at : (n : ℕ) (f t : List ℕ) (i : ℕ) → i < n → get_or (places_in n f t) i nowhere ≡ (get_or f i 0, get_or t i 0)
+pub places_at : (n : ℕ) (f t : List ℕ) (i : ℕ) → i < n
+    → get_or (places_in n f t) i nowhere ≡ (get_or f i 0, get_or t i 0)
 places_at zero f t i h = absurd (omega arith)
 places_at (suc n) f t zero h = refl
 places_at (suc n) f t (suc i) h =

@@ -50,7 +50,8 @@ module _ (d a : StopRealtime) {x y : ℤ} {l m n o q : List ℕ} {r i j k h : Pu
       → Adds l r q h (told_w d a)
   all_told e f g t u v X Y A B C D =
       then (same A (ap given_w (to_z-of_z e))) (then (same B (ap given_w (to_z-of_z f)))
-      (then (same C (ap given_w (to_z-of_z u ∙ X ∙ to_z-of_z g))) (same D (ap given_w (to_z-of_z v ∙ Y ∙ to_z-of_z t)))))
+      (then (same C (ap given_w (to_z-of_z u ∙ X ∙ to_z-of_z g)))
+      (same D (ap given_w (to_z-of_z v ∙ Y ∙ to_z-of_z t)))))
 
 module _ {b : Bool} {s : List ℕ} {p t : ℕ} {l m : List ℕ} {w r : Put} where
   pub times_told : (d a : StopRealtime) → b ≡ true → Adds l w m r (told_w d a) → PutsTimes b d a s p t l w m r

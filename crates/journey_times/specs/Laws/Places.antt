@@ -48,7 +48,8 @@ module _ {s : List ℕ} {p : ℕ} where
   delay_absent e h = record { is = λ {q} {v} R. sym (ap given_signed e) ∙ h _ _ v q R.here }
 
   pub delay_present : {r : OptionalSigned} {z d : ℤ} → r ≡ signeds.Present z → SFits w64 z → SFits w32 d
-      → d ≡ wrap32 (to_z w64 (of_z w64 z) -ℤ pos 0) → Signed s p r → ReadsDelay s p (delays.Present (to_z w32 (of_z w32 d)))
+      → d ≡ wrap32 (to_z w64 (of_z w64 z) -ℤ pos 0) → Signed s p r
+      → ReadsDelay s p (delays.Present (to_z w32 (of_z w32 d)))
   delay_present {r} {z} {d} e f g k h = record {
     is = λ {q} {v} R. ap inr (to_z-of_z g)
         ∙ present (k ∙ ap (λ y. wrap32 (y -ℤ pos 0)) (to_z-of_z f)) v

@@ -64,7 +64,8 @@ module _ {s : List ℕ} {p a e r : ℕ} (K : ReadsText s p a e) (P : Passes vehi
               ∙ ap (λ k. above texts k ys) (sym d);
         }
 
-    pub climb_on : {t : Bool} → t ≡ is_less (lex_of (slice b f s) (slice a e s)) → t ≡ true → Climb s x n a e r (left - 1)
+    pub climb_on : {t : Bool} → t ≡ is_less (lex_of (slice b f s) (slice a e s)) → t ≡ true
+        → Climb s x n a e r (left - 1)
     climb_on d t = record {
       forward = K.forward;
       within = K.within;

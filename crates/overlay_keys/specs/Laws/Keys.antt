@@ -66,7 +66,8 @@ module _ {s : List ℕ} {y at e : ℕ} where
     direction_none z I =
         record {
           moves = moves_none I;
-          on = λ w u q. found (λ (w : Way) u. Piece (direction_text w) s at e (At at)) (sym opening ∙ q) (piece_empty I);
+          on = λ w u q. found (λ (w : Way) u. Piece (direction_text w) s at e (At at)) (sym opening ∙ q)
+              (piece_empty I);
         }
       where
         opening : read (optional number32) (drop y s) ≡ some (inl tt, drop (y + 1) s)

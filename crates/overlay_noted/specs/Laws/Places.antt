@@ -10,7 +10,8 @@ use Rattle.overlay_noted.specs.Promises.Noted.{TripsAt, FeedNoted, FeedsNoted}
 -- numbers that agree from j on
 module _ (s old new : List ℕ) where
   pub trips_kept : (j : ℕ) (vs : Trips)
-      → ((i : ℕ) → j ≤ i → i < j + length vs → get_or new i 0 ≡ get_or old i 0) → TripsAt s old j vs → TripsAt s new j vs
+      → ((i : ℕ) → j ≤ i → i < j + length vs → get_or new i 0 ≡ get_or old i 0) → TripsAt s old j vs
+      → TripsAt s new j vs
   trips_kept j [] a h = tt
   trips_kept j (e ∷ vs) a h =
       let k = a j (omega arith) (omega arith) in

@@ -16,7 +16,8 @@ use Rattle.overlay_open.proofs.feeds_from.Given as goal
 
 abbrev pub invariant-loop-left : goal.invariant-loop-left
 invariant-loop-left l =
-    (l.p ≤ length l.old) × (l.b ≤ l.d) × (l.d ≤ length l.old) × (l.r + l.left ≡ l.n) × (length l.noted ≡ length l.initial.noted)
+    (l.p ≤ length l.old) × (l.b ≤ l.d) × (l.d ≤ length l.old) × (l.r + l.left ≡ l.n)
+    × (length l.noted ≡ length l.initial.noted)
     × Climbing 16 token entry_good weightless (whatever l.n) l.n l.old l.at (known l.first l.old l.b l.d) 0 l.left l.p
     × Feeding l.old l.at l.n l.p l.left l.r l.noted
 

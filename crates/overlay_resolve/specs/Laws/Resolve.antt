@@ -127,5 +127,6 @@ module _ (trip route : List ℕ) (d : OptionalNumber) (date : List ℕ) {b : Lis
 
 -- the date that a call works out
 pub dated : (trip route : List ℕ) (d : OptionalNumber) {date e b : List ℕ} {r : Resolved} → date ≡ e
-    → Resolves (record_for trip route (given_number d) date) b r → Resolves (record_for trip route (given_number d) e) b r
+    → Resolves (record_for trip route (given_number d) date) b r
+    → Resolves (record_for trip route (given_number d) e) b r
 dated trip route d w R = rw w at R

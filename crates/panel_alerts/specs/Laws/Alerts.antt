@@ -73,7 +73,8 @@ module _ (f : List ℕ) (k : Tree → Outcome) where
   chain_refused false o n e z = ap refused e
   chain_refused true none n e z = ap refused e
   chain_refused true (some t) n e z =
-      verdict_refused (texts_fine (texts_of f) alert_message t) (numbers_fine (texts_of f) alert_message t) (feed_ok f) (k t)
+      verdict_refused (texts_fine (texts_of f) alert_message t) (numbers_fine (texts_of f) alert_message t) (feed_ok f)
+      (k t)
       n e z
 
 pub record Passed (f m : List ℕ) : Type 0 where
@@ -92,7 +93,8 @@ passed f m e = go (leb (length m) 1048576) refl (tree feed alert_message m) refl
     go true i none j e = absurd (omega (arith, e))
     go true i (some t) j e =
         let y =
-        verdict_fine (texts_fine (texts_of f) alert_message t) (numbers_fine (texts_of f) alert_message t) (feed_ok f) e in
+        verdict_fine (texts_fine (texts_of f) alert_message t) (numbers_fine (texts_of f) alert_message t) (feed_ok f) e
+        in
         record { short = i; message = t; read = j; texts = y.texts; named = y.named }
 
 -- ---- the number, by the tests that the code makes

@@ -196,5 +196,6 @@ pub too_long : (f m : List ℕ) → 1048576 < length m → 3 ≡ message_number 
 too_long f m h = rw (lt-leb (length m) 1048576 h) refl
 
 pub asked_number : (f m : List ℕ) {v : Verdict} {b : Bool} {n : ℕ} → length m ≤ 1048576
-    → v ≡ asked rules feed_message (tree feed feed_message m) → b ≡ feed_ok f → n ≡ number_by v b → n ≡ message_number f m
+    → v ≡ asked rules feed_message (tree feed feed_message m) → b ≡ feed_ok f → n ≡ number_by v b
+    → n ≡ message_number f m
 asked_number f m h i j e = e ∙ rw (le-leb (length m) 1048576 h, i, j) refl

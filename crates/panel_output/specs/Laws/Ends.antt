@@ -11,7 +11,8 @@ use Rattle.panel_output.specs.Promises.Ends.{Ends, Zeros}
 
 -- number, output and working buffers, each by itself
 given : {L : Lengths} {old : List ℕ} {c : Call} {r : ℕ} {out : List ℕ} {work : List (List ℕ)}
-    → r ≡ number_of (ends L old c) → out ≡ bytes_of (out_of c) (ends L old c) → work ≡ map (λ n. replicate n 0) (work_of c)
+    → r ≡ number_of (ends L old c) → out ≡ bytes_of (out_of c) (ends L old c)
+    → work ≡ map (λ n. replicate n 0) (work_of c)
     → Given L old c r out work
 given e f g = record { is = rw (e, f, g) refl }
 

@@ -39,7 +39,8 @@ module _ (z : ℤ) (f : SFits w64 z) where
   clock_above h = above (to_z w64 (of_z w64 z)) h
 
   pub clock_within : {n : ℕ} → lt_z (to_z w64 (of_z w64 z)) (pos 0) ≡ false
-      → lt_z (pos 4102444800) (to_z w64 (of_z w64 z)) ≡ false → zag n ≡ to_z w64 (of_z w64 z) -ℤ pos 900 → ClockIs z true n
+      → lt_z (pos 4102444800) (to_z w64 (of_z w64 z)) ≡ false → zag n ≡ to_z w64 (of_z w64 z) -ℤ pos 900
+      → ClockIs z true n
   clock_within h k e = record {
     six = within z (rw (to_z-of_z f) at h) (rw (to_z-of_z f) at k);
     limited = λ t. e ∙ ap (λ z. z -ℤ pos 900) (to_z-of_z f);

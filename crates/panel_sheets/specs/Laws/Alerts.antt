@@ -117,7 +117,8 @@ module _ (L : Lengths) (old f sheet : List ℕ) (new : ℕ) (work : List ℕ)
 
     -- accepted, or without room
     pub alerts_accepted : {l m : List ℕ} {q : Put} {r : Ending} → n ≡ 0 → new ≡ length l
-        → ((vs : List Alert) → AlertsIn sheet vs → ok 7 (list 256 alert) vs ≡ true → Changes l m q (after_alerts f vs s))
+        → ((vs : List Alert) → AlertsIn sheet vs → ok 7 (list 256 alert) vs ≡ true
+        → Changes l m q (after_alerts f vs s))
         → r ≡ put_ending q → outcome_of m r ≡ alert_sheet_of L old f sheet new work
     alerts_accepted {m} z k C e =
         let S = alerts_asked z in

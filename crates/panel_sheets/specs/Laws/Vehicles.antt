@@ -134,7 +134,8 @@ module _ (L : Lengths) (old f sheet : List ℕ) (clock : ℤ) (new : ℕ) (work 
         go : (b : Bool) (o : Option (Value vehicle_sheet)) → vehicles_in sheet ≡ o
             → 0 ≡ cond b
             (formed o (λ v. cond (feed_ok f) (timed (verdict vehicle_sheet v) (ok 6 instant clock)) 5)) 3
-            → vehicle_sheet_of L old f sheet clock new work ≡ need b 3 (need_some o 4 (vehicles_outcome L old f clock s))
+            → vehicle_sheet_of L old f sheet clock new work
+            ≡ need b 3 (need_some o 4 (vehicles_outcome L old f clock s))
             → Sheet
         go false o w e k = absurd (omega (arith, e))
         go true none w e k = absurd (omega (arith, e))

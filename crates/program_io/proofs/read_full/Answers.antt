@@ -8,7 +8,8 @@ use borrow.Rule.Slice.PartMut.{put_mid, post_of}
 use Rattle.program_io.proofs.read_full.Goals as goal
 
 -- n bytes of a part that begins at a
-longer : (a k n : ℕ) (xs ys : List ℕ) → a ≤ length xs → n ≤ length ys → take a xs ++ take n ys ≡ take (a + n) (put_mid a k xs ys)
+longer : (a k n : ℕ) (xs ys : List ℕ) → a ≤ length xs → n ≤ length ys
+    → take a xs ++ take n ys ≡ take (a + n) (put_mid a k xs ys)
 longer a k n xs ys within fits =
     let rest = ys ++ post_of a k xs in
     let front : length (take a xs) ≡ a = length-take-le a xs within in

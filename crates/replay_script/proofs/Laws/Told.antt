@@ -100,7 +100,8 @@ told L cs {l} e =
       size = ap length e ∙ tells_long L b cs;
       history = ap (seen_in cs) e ∙ seen_told L b cs ∙ ap (here cs) (history L cs)
           ∙ sym (said_here_all no_book cs (numbers_given (run L b cs)))
-          ∙ ap (said_in no_book cs) (sym (numbers_told L b cs)) ∙ ap (λ l. said_in no_book cs (numbers_in cs l)) (sym e);
+          ∙ ap (said_in no_book cs) (sym (numbers_told L b cs))
+          ∙ ap (λ l. said_in no_book cs (numbers_in cs l)) (sym e);
     }
 
 -- ---- added fields

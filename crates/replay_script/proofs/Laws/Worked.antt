@@ -55,6 +55,7 @@ no_kind = refl
 
 -- what is told: both are accepted, and the report is of version 0, count 0 and no timestamp
 two_told : replay_of small lent two ≡ accepted (0 ∷ 0 ∷ replicate 25 0)
-unfolding replay_of calls_in whole calls_of size_of tells tell_all run fresh_asks report_asks filled room state_of valid within
+unfolding replay_of calls_in whole calls_of size_of tells tell_all run fresh_asks report_asks filled room state_of valid
+    within
     report_on feed_at
 two_told = refl

@@ -84,7 +84,8 @@ writes_below : (L : Lengths) (k : ℕ) (f b : List ℕ) (t : ℤ) (o : ℕ) (w :
     → writes (call_by L k f b t o w) ≡ true
 writes_below L k f b t o w h = go (eqb k 0) (eqb k 1) (eqb k 2) (eqb k 3) refl refl refl refl
   where
-    go : (x y z u : Bool) → eqb k 0 ≡ x → eqb k 1 ≡ y → eqb k 2 ≡ z → eqb k 3 ≡ u → writes (call_by L k f b t o w) ≡ true
+    go : (x y z u : Bool) → eqb k 0 ≡ x → eqb k 1 ≡ y → eqb k 2 ≡ z → eqb k 3 ≡ u
+        → writes (call_by L k f b t o w) ≡ true
     go true y z u a c d e = rw a refl
     go false true z u a c d e = rw (a, c) refl
     go false false true u a c d e = rw (a, c, d) refl

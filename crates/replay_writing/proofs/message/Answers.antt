@@ -19,4 +19,5 @@ returns-then-is_lent-q c =
 
 pub returns : goal.returns
 returns c =
-    message_unlent c.message_work-w.ensures (lent_so (leb c.args.q.out c.args.lent) c.is_lent.ensures c.if-is_lent-q.false)
+    message_unlent c.message_work-w.ensures
+    (lent_so (leb c.args.q.out c.args.lent) c.is_lent.ensures c.if-is_lent-q.false)

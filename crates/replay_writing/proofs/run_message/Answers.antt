@@ -20,4 +20,5 @@ slice_bounds-message-end-10 c = sym (length-take-le c.args.w.order c.args.order.
 
 pub returns : goal.returns
 returns c =
-    message_run c.args.n (sized c.args.n) c.args.old.now c.args.s.now c.args.new.now c.args.q c.requires.sound c.args.keys.now c.args.marks.now c.args.order.now c.requires.fits c.message.ensures
+    message_run c.args.n (sized c.args.n) c.args.old.now c.args.s.now c.args.new.now c.args.q c.requires.sound
+    c.args.keys.now c.args.marks.now c.args.order.now c.requires.fits c.message.ensures

@@ -16,7 +16,8 @@ slice_bounds-vehicle_sheet-end-4 c = sym (length-take-le c.args.q.out c.args.new
 
 pub returns : goal.returns
 returns c =
-    λ z e h. vehicles_ran (sized c.args.n) c.args.old.now c.args.s.now c.args.new.now c.args.q c.requires.spans c.if-lent-out.false c.requires.lent_in_bounds z (to_z-of_z {w = w64} (record {
+    λ z e h. vehicles_ran (sized c.args.n) c.args.old.now c.args.s.now c.args.new.now c.args.q c.requires.spans
+    c.if-lent-out.false c.requires.lent_in_bounds z (to_z-of_z {w = w64} (record {
       sfits
           = c.signed-clock.type_inv;
     }) ∙ c.signed-clock.ensures _ _ z e h) c.vehicle_sheet.ensures
