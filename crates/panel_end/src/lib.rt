@@ -1,4 +1,6 @@
 // Where a card or a sheet ends that stands in front of bytes: read by the tables that question 4 goes by.
+#![tactic(auto)]
+
 ghost use Rattle.std.specs.Prelude.{◌≡◌};
 ghost use Rattle.formats_judge.specs.Judged.{judge_to};
 ghost use Rattle.panel.specs.End.{form_of, end};

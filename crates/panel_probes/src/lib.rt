@@ -1,5 +1,7 @@
 // For a C host: whether a buffer is an overlay, and the calls over overlays of any length up to the published one, so
 // that tests need not run at that length.
+#![tactic(auto)]
+
 ghost use Rattle.std.specs.Prelude.{◌≡◌, [], ◌∷◌, length};
 ghost use Rattle.overlay.specs.Image.{state_of};
 ghost use Rattle.panel.specs.Calls as calls;

@@ -1,4 +1,6 @@
 // A script of calls, replayed on the calls themselves: from a fresh overlay on, one call after the other.
+#![tactic(auto)]
+
 ghost use Rattle.std.specs.Prelude.{◌≡◌, true, ◌≤◌, min, length, take};
 ghost use Rattle.decode.specs.Sizes.{most_old};
 ghost use Rattle.panel.specs.Calls.{fresh_overlay};

@@ -6,8 +6,14 @@ use borrow.Author.Rules.{rules}
 use Rattle.journey_survey.proofs.each_leg.Goals as goal
 
 pub loop-left-init : goal.loop-left-init
-loop-left-init c =
-    (refl, refl, refl, refl, refl, walk_start (sound_none c.requires.froms_len.0 c.requires.froms_len.1) c.requires.froms_len.2)
+loop-left-init c = (
+  refl,
+  refl,
+  refl,
+  refl,
+  refl,
+  walk_start (sound_none c.requires.froms_len.0 c.requires.froms_len.1) c.requires.froms_len.2,
+)
 
 pub leg-c-requires-clause-noted : goal.leg-c-requires-clause-noted
 leg-c-requires-clause-noted c = c.requires.noted

@@ -7,7 +7,8 @@ use Rattle.journey_survey.proofs.each_leg.Given as goal
 
 abbrev pub invariant-loop-left : goal.invariant-loop-left
 invariant-loop-left l =
-    (length l.candidates ≡ length l.initial.candidates) × (length l.met ≡ length l.initial.met) × (length l.known ≡ length l.initial.known)
+    (length l.candidates ≡ length l.initial.candidates) × (length l.met ≡ length l.initial.met)
+    × (length l.known ≡ length l.initial.known)
     × (length l.froms ≡ length l.initial.froms) × (length l.tos ≡ length l.initial.tos)
     × Walking l.card l.at l.n l.p l.left l.old l.initial.froms l.initial.tos l.initial.c l.froms l.tos l.c l.known
 

@@ -9,7 +9,8 @@ use Rattle.basics.specs.Lists.{all}
 use Rattle.formats.specs.Format.{read, write}
 use Rattle.formats.specs.Laws.Format.{read_write, write_read}
 use Rattle.formats_judge.specs.Judged.{ok}
-use Rattle.formats_capacity.specs.Laws.Capacity.{capacity, capacity_bounds}
+use Rattle.formats_capacity.specs.Laws.Capacity.{capacity}
+use Rattle.formats_capacity.proofs.Laws.Capacity.{capacity_bounds}
 use Rattle.basics.specs.Laws.Booleans.{both_true}
 use Rattle.overlay.proofs.Laws.Within.{Judged56, formed_of, keeps, both}
 use Rattle.maps.specs.Map.{ascending}

@@ -5,7 +5,8 @@ use Rattle.formats.specs.Class.{Class, in_class}
 use Rattle.basics.specs.Lists.{all}
 use Rattle.formats.specs.Format.{Format, number, text, list, optional, ◌&◌, Value, write, takes, Fits}
 use Rattle.formats_judge.specs.Judged.{ok}
-use Rattle.formats_capacity.specs.Laws.Capacity.{Keeps, capacity, size, size_mono, attained, capacity_met}
+use Rattle.formats_capacity.specs.Laws.Capacity.{Keeps, capacity, size, attained}
+use Rattle.formats_capacity.proofs.Laws.Capacity.{size_mono, capacity_met}
 use Rattle.overlay.proofs.Laws.Within.{keeps, both}
 use Rattle.overlay.proofs.Laws.Table.{table, table_length, table_all, table_every, table_many}
 

@@ -8,7 +8,8 @@ use Rattle.formats.specs.Format.{Value, takes, Fits}
 use Rattle.formats_judge.specs.Judged.{ok}
 use Rattle.basics.specs.Laws.Booleans.{both_true}
 use Rattle.formats_capacity.specs.Laws.Capacity.{Keeps}
-use Rattle.formats_capacity.specs.Laws.Fitting.{Formed, sensible, keeps_fits}
+use Rattle.formats_capacity.specs.Laws.Fitting.{Formed, sensible}
+use Rattle.formats_capacity.proofs.Laws.Fitting.{keeps_fits}
 
 pub both : {a b : Bool} → a ≡ true → b ≡ true → (a && b) ≡ true
 both p q = rw (p, q) refl

@@ -1,0 +1,2 @@
+-- The laws of the largest writing.
+pub mod Laws

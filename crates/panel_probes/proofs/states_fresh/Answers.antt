@@ -1,0 +1,7 @@
+-- `panel_probes::states_fresh` meets its contract.
+use borrow.Author.Rules.{rules}
+use Rattle.panel_probes.specs.Laws.Lengths.{given_at}
+use Rattle.panel_probes.proofs.states_fresh.Goals as goal
+
+pub returns : goal.returns
+returns c = given_at c.length_of.ensures c.fresh.ensures
