@@ -1,5 +1,7 @@
 // THE PANEL'S CALLS, for hosts in C and Rust, at the published lengths. Each answers document 01's number: 0 where it
 // is accepted, else that of the first question whose answer is no.
+#![tactic(auto)]
+
 ghost use Rattle.std.specs.Prelude.{◌≡◌, [], ◌∷◌, length, get_or};
 ghost use Rattle.panel.specs.Calls as calls;
 ghost use Rattle.panel.specs.Lengths.{lengths, published_lengths};
