@@ -1,7 +1,7 @@
 #!/usr/bin/env python3
 """Brings the repository's own definitions and lemmas to today's spelling: snake case, and modules in upper camel case.
 
-usage: python3 tools/port_names.py            at the top of the repository: rewrites crates/ in place; a second run changes
+usage: python3 tools/port_names.py            at the top: rewrites crates/ in place; a second run changes
                                               nothing
        python3 tools/port_names.py --table    prints old name, tab, new name, of all that were ever turned
 

@@ -142,6 +142,11 @@ class Spec:
         self.uses, self.items = [], []
         self.parse(self.text.rstrip("\n").split("\n"))
 
+    def take_in(self, other):
+        """The theorems in proofs/ of a file of laws whose notions stand in specs/ belong to it."""
+        if other is not self:
+            self.text, self.uses, self.items = self.text + other.text, self.uses + other.uses, self.items + other.items
+
     def parse(self, lines):
         outer, module, nested, current, known, at = [], [], 0, None, {}, 0  # nested: the column of declarations
         while at < len(lines):
@@ -203,7 +208,8 @@ def specs():
                 at = os.path.normpath(os.path.join("crates", crate, part, folder))
                 for name in names_in(at):
                     if name.endswith(".antt") and name[:-5] not in ("Lib", PROMISE, LAW):
-                        found[crate, folder, name[:-5]] = Spec(crate, folder, name[:-5], f"{at}/{name}")
+                        spec = Spec(crate, folder, name[:-5], f"{at}/{name}")
+                        found.setdefault((crate, folder, name[:-5]), spec).take_in(spec)
     return found
 
 
