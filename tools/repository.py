@@ -143,9 +143,9 @@ class Spec:
         self.parse(self.text.rstrip("\n").split("\n"))
 
     def take_in(self, other):
-        """The theorems in proofs/ of a file of laws whose notions stand in specs/ belong to it."""
+        """The theorems in proofs/ of a file of laws whose notions stand in specs/ belong to it; their head line is its."""
         if other is not self:
-            self.text, self.uses, self.items = self.text + other.text, self.uses + other.uses, self.items + other.items
+            self.text, self.uses, self.items = other.text + self.text, self.uses + other.uses, self.items + other.items
 
     def parse(self, lines):
         outer, module, nested, current, known, at = [], [], 0, None, {}, 0  # nested: the column of declarations
