@@ -143,7 +143,7 @@ class Spec:
         self.parse(self.text.rstrip("\n").split("\n"))
 
     def take_in(self, other):
-        """The theorems in proofs/ of a file of laws whose notions stand in specs/ belong to it; their head line is its."""
+        """Takes in the theorems in proofs/ of a file of laws whose notions stand in specs/, with their head line."""
         if other is not self:
             self.text, self.uses, self.items = other.text + self.text, self.uses + other.uses, self.items + other.items
 
