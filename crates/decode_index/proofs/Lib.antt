@@ -1,3 +1,4 @@
 -- Lemmas on plain values.
+pub mod Laws
 mod Entities
 mod Leaves

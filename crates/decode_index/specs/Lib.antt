@@ -1,4 +1,3 @@
 pub mod Message
 pub mod Leaving
 pub mod Promises
-pub mod Laws

@@ -24,7 +24,7 @@ use Rattle.decode_slots.specs.Index.{index}
 use Rattle.decode_slots.specs.Places.{or_end, held, crowded}
 use Rattle.decode_index.specs.Leaving.{trips, leaving}
 use Rattle.decode_index.specs.declared.Left.{Left}
-use Rattle.decode_index.specs.Laws.Seven.{is_trips, leaving_seven, leaving_yes}
+use Rattle.decode_index.proofs.Laws.Seven.{is_trips, leaving_seven, leaving_yes}
 use Rattle.decode_index.specs.Promises.Leaving.{Leaves, Old, view_left}
 use Rattle.decode_write.specs.Promises.Slots.{Writable}
 use Rattle.overlay.specs.Change.{after_message, feed_at, put_feed}
