@@ -11,4 +11,5 @@ pub mod StaysValid
 pub mod Entered
 pub mod Table
 pub mod Fills
+pub mod Dates
 pub mod Largest

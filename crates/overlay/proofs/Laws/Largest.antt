@@ -22,6 +22,7 @@ use Rattle.overlay.proofs.Laws.Within.{both}
 use Rattle.overlay.specs.Buffer.{published}
 use Rattle.overlay.proofs.Laws.Buffer.{parts_valid, published_capacity}
 use Rattle.overlay.proofs.Laws.Table.{table, table_length, table_all, table_ascending}
+use Rattle.overlay.proofs.Laws.Dates.{day}
 use Rattle.overlay.proofs.Laws.Fills.{Fills, most, most_fills, number_fills, greatest_fills, text_fills}
 use Rattle.overlay.proofs.Laws.Fills.{given_fills, pair_fills, table_fills}
 
@@ -96,10 +97,6 @@ unfolding updates
 updates_ascend =
     table_ascending numbers full_update (λ j. cons_before (4294967168 + j) (4294967168 + suc j) [] [] (omega arith)) 0
     128
-
--- a start date, and a start time
-abbrev pub day : List ℕ
-day = replicate 16 97
 
 -- the trip of route i; and at its incomplete key in feed k
 abbrev pub full_trip : ℕ → Trip
