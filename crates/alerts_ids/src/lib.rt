@@ -13,13 +13,6 @@ ghost use Rattle.alerts.specs.Applies.{is_code, rfind, segment, tails_match, rou
 ghost use Rattle.alerts.specs.Applies.{by_name, rail_modes, is_rail_like_mode, stop_tail};
 ghost use Rattle.alerts_ids.specs.Promises.Cuts.{LastOf, cuts, LastPiece, takes, FirstPiece, Coded};
 
-// Where the product code of an id stands: from, and up to.
-#[derive(Drop)]
-pub enum Token {
-    At(usize, usize),
-    Nothing,
-}
-
 fn capital(b: u8) -> u8
     ensures { result ≡ upper_byte b }
 {
@@ -264,17 +257,17 @@ fn run_end(x: &[u8], a: usize) -> usize
     e
 }
 
-pub fn product_code_token(x: &[u8]) -> Token
+pub fn product_code_token(x: &[u8]) -> Option<(usize, usize)>
     ensures { Coded x.now result }
 {
     let mut a = 0;
     loop {
         let e = run_end(x, a);
         if is_code(&x[a..e]) {
-            return Token::At(a, e);
+            return Some((a, e));
         }
         if x.len() <= e {
-            return Token::Nothing;
+            return None;
         }
         a = e + 1;
     }
@@ -303,10 +296,10 @@ pub fn route_refs_match(leg: &[u8], informed: &[u8]) -> bool
     if slices::same(leg, informed) {
         return true;
     }
-    let Token::At(a, b) = product_code_token(leg) else {
+    let Some((a, b)) = product_code_token(leg) else {
         return tails_match(leg, informed);
     };
-    let Token::At(c, d) = product_code_token(informed) else {
+    let Some((c, d)) = product_code_token(informed) else {
         return tails_match(leg, informed);
     };
     same_ignoring_case(&leg[a..b], &informed[c..d])
@@ -338,8 +331,8 @@ pub fn by_name(short: &[u8], x: &[u8]) -> bool
         return false;
     }
     match product_code_token(x) {
-        Token::At(_, _) => false,
-        Token::Nothing => true,
+        Some((_, _)) => false,
+        None => true,
     }
 }
 

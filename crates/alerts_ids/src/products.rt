@@ -4,13 +4,6 @@ ghost use Rattle.alerts.specs.Text.{upper};
 ghost use Rattle.alerts.specs.Applies.{name_of, products, decimal_value, code_number, line_name, idfm_product_to_short};
 ghost use Rattle.alerts_ids.specs.Promises.Products.{rows, Wrote, name_in, Named};
 
-// A line's name: how many bytes of the output it takes.
-#[derive(Drop)]
-pub enum Line {
-    Short(usize),
-    Unknown,
-}
-
 fn write_name(out: &mut [u8], name: &[u8]) -> usize
     requires { length name.now ≤ length out.old }
     ensures { Wrote name.now result out.old out.new }
@@ -30,7 +23,7 @@ fn row_name(table: &[u8], at: usize, out: &mut [u8]) -> usize
 }
 
 // The line of a code, by a table of n rows: six bytes of code, and three of name filled with spaces.
-fn line_of(table: &[u8], n: usize, code: &[u8], out: &mut [u8]) -> Line
+fn line_of(table: &[u8], n: usize, code: &[u8], out: &mut [u8]) -> Option<usize>
     requires { (9 * n ≤ length table.now) × (3 ≤ length out.old) }
     ensures { Named (name_of (upper code.now) (rows n table.now)) result out.old
         out.new }
@@ -40,12 +33,12 @@ fn line_of(table: &[u8], n: usize, code: &[u8], out: &mut [u8]) -> Line
     while 0 < left {
         let e = at + 6;
         if crate::same_ignoring_case(code, &table[at..e]) {
-            return Line::Short(row_name(table, at, out));
+            return Some(row_name(table, at, out));
         }
         at += 9;
         left -= 1;
     }
-    Line::Unknown
+    None
 }
 
 // A line's number in decimal.
@@ -106,7 +99,7 @@ fn code_number(code: &[u8]) -> u64
 }
 
 // By the table, where the code's number is none of those that are worked out.
-fn listed(code: &[u8], out: &mut [u8]) -> Line
+fn listed(code: &[u8], out: &mut [u8]) -> Option<usize>
     requires { 3 ≤ length out.old }
     ensures { Named (name_of (upper code.now) products) result out.old out.new }
 {
@@ -119,14 +112,14 @@ fn listed(code: &[u8], out: &mut [u8]) -> Line
 }
 
 // C01371 to C01384 are the lines 1 to 14, without a gap.
-pub fn idfm_product_to_short(code: &[u8], out: &mut [u8]) -> Line
+pub fn idfm_product_to_short(code: &[u8], out: &mut [u8]) -> Option<usize>
     requires { 3 ≤ length out.old }
     ensures { Named (idfm_product_to_short code.now) result out.old out.new }
 {
     let n = code_number(code);
     if 1371 <= n {
         if n <= 1384 {
-            return Line::Short(number_name(n - 1370, out));
+            return Some(number_name(n - 1370, out));
         }
     }
     listed(code, out)

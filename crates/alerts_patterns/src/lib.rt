@@ -8,13 +8,6 @@ ghost use Rattle.alerts_patterns.specs.Promises.Occurrence.{found_of, Skips, Ski
 ghost use Rattle.alerts_patterns.specs.Promises.Occurrence.{any_pair};
 ghost use Rattle.alerts_patterns.specs.Promises.Tables.{up_to, name_filled, any_in, any_at};
 
-// Where a text first occurs.
-#[derive(Drop)]
-pub enum Occurrence {
-    At(usize),
-    Nowhere,
-}
-
 // Whether p stands in s at i.
 pub fn begins_at(s: &[u8], i: usize, p: &[u8]) -> bool
     ensures { result ≡ begins p.now (drop i s.now) }
@@ -246,26 +239,26 @@ fn skip_around(s: &[u8], i: usize, before: &[u8], name: &[u8], after: &[u8]) -> 
 }
 
 // Where the three parts first stand in s.
-pub fn find_around(s: &[u8], before: &[u8], name: &[u8], after: &[u8]) -> Occurrence
+pub fn find_around(s: &[u8], before: &[u8], name: &[u8], after: &[u8]) -> Option<usize>
     ensures { result ≡
         found_of (find (before.now ++ name.now ++ after.now) s.now) }
 {
     let mut i = skip_around(s, 0, before, name, after);
     while i < s.len() {
         if around_at(s, i, before, name, after) {
-            return Occurrence::At(i);
+            return Some(i);
         }
         let from = i + 1;
         i = skip_around(s, from, before, name, after);
     }
     if around_at(s, i, before, name, after) {
-        return Occurrence::At(i);
+        return Some(i);
     }
-    Occurrence::Nowhere
+    None
 }
 
 // Where a pattern, with the name in its place, first stands in s.
-pub fn find_filled(s: &[u8], name: &[u8], pattern: &[u8]) -> Occurrence
+pub fn find_filled(s: &[u8], name: &[u8], pattern: &[u8]) -> Option<usize>
     ensures { result ≡ found_of (find (name_filled name.now pattern.now) s.now) }
 {
     let h = next(pattern, 0, b'#');
@@ -282,8 +275,8 @@ pub fn contains_filled(s: &[u8], name: &[u8], pattern: &[u8]) -> bool
     ensures { result ≡ contains (name_filled name.now pattern.now) s.now }
 {
     match find_filled(s, name, pattern) {
-        Occurrence::At(_) => true,
-        Occurrence::Nowhere => false,
+        Some(_) => true,
+        None => false,
     }
 }
 

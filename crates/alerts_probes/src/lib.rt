@@ -3,9 +3,7 @@
 #![tactic(auto)]
 
 use alerts_apply::known::applies_known;
-use alerts_ids::products::Line;
 use formats::Span;
-use formats_judge::Judge;
 
 mod table;
 
@@ -56,7 +54,7 @@ pub extern "C" fn alerts_text_fits(
 }
 
 // An alert's end, and the first of the questions 5 to 7 that it fails.
-fn judge_alert(s: &[u8]) -> Judge
+fn judge_alert(s: &[u8]) -> Option<(usize, u32)>
     ensures { result ≡ judge_to alert s.now 0 }
 {
     formats_judge::judge_value(&ALERT, ALERT_DEPTH, AN_ALERT, s, 0)
@@ -66,7 +64,7 @@ fn judge_alert(s: &[u8]) -> Judge
 fn stands(s: &[u8]) -> bool
     ensures { result ≡ is_fine (read alert s.now) }
 {
-    let Judge::At(_, n) = judge_alert(s) else {
+    let Some((_, n)) = judge_alert(s) else {
         return false;
     };
     n == 0
@@ -158,7 +156,7 @@ pub extern "C" fn alerts_line(out: &mut [u8], code: &[u8]) -> usize
     if out.len() < 3 {
         return 4;
     }
-    let Line::Short(n) = alerts_ids::products::idfm_product_to_short(code, out) else {
+    let Some(n) = alerts_ids::products::idfm_product_to_short(code, out) else {
         return 0;
     };
     n

@@ -1,4 +1,5 @@
 -- `write_alerts` on plain values: the alerts so far and those of the entities that are left. Assumes nothing.
+use Rattle.std.specs.Prelude.{Option}
 use Prim.Native.Nat.{ℕ, ◌+◌, ◌≤◌, ◌<◌}
 use mathlib.Core.Path.{◌≡◌, refl, sym, ap, subst, ◌∙◌}
 use mathlib.Core.Bool.{Bool, true, false}
@@ -10,7 +11,6 @@ use lib.Seq.{take-length}
 use Rattle.basics.specs.Lists.{all, filter}
 use Rattle.basics.specs.Laws.Booleans.{and_true}
 use Rattle.formats.specs.Format.{write}
-use Rattle.formats_write.specs.declared.Put.{Put}
 use Rattle.realtime.specs.Tree.{Tree, tree, rep}
 use Rattle.realtime.specs.Schema.{feed, alert_message, alert_entity}
 use Rattle.realtime_views.specs.Laws.Turns as turns
@@ -26,13 +26,13 @@ use Rattle.alerts_sheet.specs.Promises.Written.{Fair, WrittenAlert, WrittenAlert
 use Rattle.alerts_sheet.proofs.Progress.{Progress, begins, goes_on, is_done, still}
 
 -- the alerts of the entities in z that are kept, are left
-pub record Kept (name l : List ℕ) (r : Put) (m : List ℕ) (q : Put) (t : Tree) (z : List Tree) : Type 0 where
+pub record Kept (name l : List ℕ) (r : Option ℕ) (m : List ℕ) (q : Option ℕ) (t : Tree) (z : List Tree) : Type 0 where
   pub progress : Progress (write alert) l r m q (map (alert_in name) (kept_in t))
       (map (alert_in name) (filter has_alert z))
   pub fair : all few (kept_in t) ≡ true → all few (filter has_alert z) ≡ true
 
 -- THE INVARIANT
-pub record Keeping (name s l : List ℕ) (r : Put) (m : List ℕ) (q : Put) (w : Walk) : Type 0 where
+pub record Keeping (name s l : List ℕ) (r : Option ℕ) (m : List ℕ) (q : Option ℕ) (w : Walk) : Type 0 where
   pub walked : turns.Walked feed alert_message 0 alert_message 2 alert_message s 0 (length s) (Kept name l r m q) w
 
 -- a message is its own front
@@ -45,7 +45,7 @@ Whole s t = tree feed alert_message (take (length s) (drop 0 s)) ≡ some t
 as_whole : (s : List ℕ) (t : Tree) → tree feed alert_message s ≡ some t → Whole s t
 as_whole s t e = ap (tree feed alert_message) (take-length s) ∙ e
 
-pub keeping : (name s : List ℕ) {l : List ℕ} {r : Put} {w : Walk} → w ≡ at_plain s → Keeping name s l r l r w
+pub keeping : (name s : List ℕ) {l : List ℕ} {r : Option ℕ} {w : Walk} → w ≡ at_plain s → Keeping name s l r l r w
 keeping name s {w} e =
     let z : length s ≡ 0 + length s = omega arith in
     let i : 0 + length s ≤ length s = omega arith in
@@ -68,7 +68,7 @@ kept_none y z h = rw h refl
 fair_both : (y : Tree) (z : List Tree) → all few (y ∷ z) ≡ true → (few y ≡ true) × (all few z ≡ true)
 fair_both y z h = and_true h
 
-module _ {name s l : List ℕ} {r : Put} {m : List ℕ} {q : Put} {w : Walk} (K : Keeping name s l r m q w) where
+module _ {name s l : List ℕ} {r : Option ℕ} {m : List ℕ} {q : Option ℕ} {w : Walk} (K : Keeping name s l r m q w) where
   pub keeps_sound : SoundWalk s w.outer w.end w.at
   keeps_sound = turns.walks K.walked (front_whole s)
 
@@ -110,7 +110,7 @@ module _ {name s l : List ℕ} {r : Put} {m : List ℕ} {q : Put} {w : Walk} (K 
             }
 
         -- it is written
-        pub keeps_on : {m' : List ℕ} {q' : Put} → b ≡ true → WrittenAlert name s i k m q m' q'
+        pub keeps_on : {m' : List ℕ} {q' : Option ℕ} → b ≡ true → WrittenAlert name s i k m q m' q'
             → Keeping name s l r m' q' w'
         keeps_on h A = record {
           walked = turns.walks_on K.walked (front_whole s) N a (λ t y z f g H.

@@ -1,26 +1,26 @@
 -- A loop that writes values one after the other: those that are written and those that are left. Assumes nothing.
+use Rattle.std.specs.Prelude.{Option}
 use Prim.Native.Nat.{ℕ}
 use mathlib.Core.Path.{◌≡◌, refl, sym, ap, ◌∙◌}
 use mathlib.Core.List.{List, [], ◌∷◌, ◌++◌, append_assoc, append-nil}
 use Rattle.formats.specs.Readers.{many_w}
-use Rattle.formats_write.specs.declared.Put.{Put}
 use Rattle.formats_write.specs.Laws.Adds.{none, then, same}
 use Rattle.formats_write.specs.Promises.Adds.{Adds}
 use Rattle.formats_read.specs.Laws.Progress.{one_more}
 
 -- of all the values, those in `left` are not yet written
-pub record Progress {A : Type 0} (w : A → List ℕ) (l : List ℕ) (r : Put) (m : List ℕ) (q : Put) (all left : List A) :
+pub record Progress {A : Type 0} (w : A → List ℕ) (l : List ℕ) (r : Option ℕ) (m : List ℕ) (q : Option ℕ) (all left : List A) :
     Type 0 where
   pub written : List A
   pub adds : Adds l r m q (many_w w written)
   pub whole : written ++ left ≡ all
 
-module _ {A : Type 0} {w : A → List ℕ} {l : List ℕ} {r : Put} {all : List A} where
+module _ {A : Type 0} {w : A → List ℕ} {l : List ℕ} {r : Option ℕ} {all : List A} where
   pub begins : Progress w l r l r all all
   begins = record { written = []; adds = none; whole = refl }
 
-  module _ {m : List ℕ} {q : Put} where
-    pub goes_on : {a : A} {left : List A} {m' : List ℕ} {q' : Put} → Progress w l r m q all (a ∷ left)
+  module _ {m : List ℕ} {q : Option ℕ} where
+    pub goes_on : {a : A} {left : List A} {m' : List ℕ} {q' : Option ℕ} → Progress w l r m q all (a ∷ left)
         → Adds m q m' q' (w a) → Progress w l r m' q' all left
     goes_on {a} {left} P b = record {
       written = P.written ++ (a ∷ []);

@@ -2,8 +2,7 @@
 // ids of its selectors, which have the feed's prefix.
 #![tactic(auto)]
 
-ghost use Rattle.std.specs.Prelude.{length};
-ghost use Rattle.formats_write.specs.declared.Put.TheVariants.{At};
+ghost use Rattle.std.specs.Prelude.{length, Some};
 ghost use Rattle.formats_write.specs.Promises.Adds.{Adds};
 ghost use Rattle.formats_write.specs.Promises.Given.{text_w};
 ghost use Rattle.realtime_views.specs.Promises.Views.{PartInside, part_in};
@@ -11,12 +10,11 @@ ghost use Rattle.alerts_views.specs.Promises.Views.{Writable};
 ghost use Rattle.alerts_sheet.specs.Promises.Written.{Fair, ListedIds, Sheetable, Short, WrittenAlert};
 ghost use Rattle.alerts_sheet.specs.Promises.Written.{WrittenAlerts, WrittenIds, WrittenSheet, named};
 
-use formats_write::Put;
 use realtime_read::fields::entity_selector;
 use realtime_views::{Item, TextPart};
 
 // The feed's id, ':' and an id of the message, as a text.
-fn write_id(out: &mut [u8], w: Put, feed: &[u8], message: &[u8], id: TextPart) -> Put
+fn write_id(out: &mut [u8], w: Option<usize>, feed: &[u8], message: &[u8], id: TextPart) -> Option<usize>
     requires short { Short feed.now message.now }
     requires part_inside { PartInside (length message.now) id }
     ensures { Adds out.old w out.new result
@@ -31,14 +29,14 @@ fn write_id(out: &mut [u8], w: Put, feed: &[u8], message: &[u8], id: TextPart) -
 // The place behind ids that were written one after the other, and how many they are.
 #[derive(Drop)]
 struct Ids {
-    next: Put,
+    next: Option<usize>,
     count: u8,
 }
 
 // The ids that an entity's selectors have at the field `kind`. An empty one is passed over.
 fn list_ids(
     out: &mut [u8],
-    w: Put,
+    w: Option<usize>,
     feed: &[u8],
     message: &[u8],
     start: usize,
@@ -76,13 +74,13 @@ fn list_ids(
 // The same with their count in front: a byte, for they are few. It is known last, and put over the 0 in its place.
 fn write_ids(
     out: &mut [u8],
-    w: Put,
+    w: Option<usize>,
     feed: &[u8],
     message: &[u8],
     start: usize,
     len: usize,
     kind: u64,
-) -> Put
+) -> Option<usize>
     requires short { Short feed.now message.now }
     requires writable { Writable message.now start len }
     ensures { WrittenIds kind feed.now message.now start len
@@ -96,7 +94,7 @@ fn write_ids(
 }
 
 // The alert of an entity: header, description, no cause; trips, routes and stops.
-fn write_alert(out: &mut [u8], w: Put, feed: &[u8], message: &[u8], start: usize, len: usize) -> Put
+fn write_alert(out: &mut [u8], w: Option<usize>, feed: &[u8], message: &[u8], start: usize, len: usize) -> Option<usize>
     requires short { Short feed.now message.now }
     requires writable { Writable message.now start len }
     ensures { WrittenAlert feed.now message.now start len
@@ -121,7 +119,7 @@ fn write_alert(out: &mut [u8], w: Put, feed: &[u8], message: &[u8], start: usize
 }
 
 // The alerts of a message that are kept.
-fn write_alerts(out: &mut [u8], w: Put, feed: &[u8], message: &[u8]) -> Put
+fn write_alerts(out: &mut [u8], w: Option<usize>, feed: &[u8], message: &[u8]) -> Option<usize>
     requires short { Short feed.now message.now }
     requires fair { Fair message.now }
     ensures { WrittenAlerts feed.now message.now
@@ -147,13 +145,13 @@ fn write_alerts(out: &mut [u8], w: Put, feed: &[u8], message: &[u8]) -> Put
 }
 
 // The sheet of a message of which n alerts are kept.
-pub fn write_sheet(out: &mut [u8], feed: &[u8], message: &[u8], n: usize) -> Put
+pub fn write_sheet(out: &mut [u8], feed: &[u8], message: &[u8], n: usize) -> Option<usize>
     requires short { Short feed.now message.now }
     requires sheetable { Sheetable message.now n }
     ensures { WrittenSheet feed.now message.now
-        out.old (At 0) out.new result }
+        out.old (Some 0) out.new result }
 {
-    let w1 = formats_write::byte(out, Put::At(0), 1);
+    let w1 = formats_write::byte(out, Some(0), 1);
     let w2 = formats_write::number(out, w1, n as u64);
     write_alerts(out, w2, feed, message)
 }

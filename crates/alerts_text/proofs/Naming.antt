@@ -1,7 +1,8 @@
 -- Whether a text is about a line: each return of the functions of lines.rt, over plain variables.
+use Rattle.std.specs.Prelude.{Option, Some, None}
 use mathlib.Core.Path.{◌≡◌, refl, sym, ap, ◌∙◌}
 use mathlib.Core.List.{List, [], ◌∷◌, ◌++◌}
-use mathlib.Core.Option.{Option, none, some}
+use mathlib.Core.Option.{Option as LogicOption, none, some}
 use mathlib.Core.Bool.{Bool, true, false, cond, not, ◌&&◌, ◌||◌}
 use Prim.Native.Nat.{ℕ, suc, ◌+◌, ◌-◌, ◌≤◌, ◌<◌}
 use native.Mathlib.Omega.{arith}
@@ -18,8 +19,6 @@ use Rattle.alerts.specs.Applies.{commercial_lines_in_text, any_marker, window, m
 use Rattle.alerts.specs.Promises.Reduced.{advice_markers, primary, secondary, text_ok, road}
 use Rattle.alerts_patterns.specs.Promises.Tables.{up_to, name_filled, patterns, any_in}
 use Rattle.alerts_patterns.specs.Promises.Occurrence.{found_of}
-use Rattle.alerts_patterns.specs.declared.Occurrence.{Occurrence}
-use Rattle.alerts_patterns.specs.declared.Occurrence.TheVariants.{At, Nowhere}
 use Rattle.alerts_patterns.specs.Laws.Patterns.{filled_none, filled_here, tail_whole}
 use Rattle.alerts_lines.specs.Promises.Lines.{all_lines, IsLine, mentions, named_of, subject_of, other_subject}
 use Rattle.alerts_lines.specs.Promises.Marks.{Lines, Marked, any_from, picks}
@@ -90,7 +89,7 @@ filled_length name p h e g =
 find_room : (p s : List ℕ) (i : ℕ) → find p s ≡ some i → i + length p ≤ length s
 find_room [] [] i e = omega (arith, ap size e)
   where
-    size : Option ℕ → ℕ
+    size : LogicOption ℕ → ℕ
     size none = 0
     size (some k) = k
 find_room (a ∷ p) [] i e = none_some e
@@ -99,7 +98,7 @@ find_room p (b ∷ s) i e = go (begins p (b ∷ s)) refl (find p s) refl e (find
     unsome : {x y : ℕ} → some x ≡ some y → x ≡ y
     unsome e = cc
 
-    go : (t : Bool) → begins p (b ∷ s) ≡ t → (o : Option ℕ) → find p s ≡ o → cond t (some 0) (later o) ≡ some i
+    go : (t : Bool) → begins p (b ∷ s) ≡ t → (o : LogicOption ℕ) → find p s ≡ o → cond t (some 0) (later o) ≡ some i
         → ((k : ℕ) → find p s ≡ some k → k + length p ≤ length s) → i + length p ≤ suc (length s)
     go true h o eo e ih =
         let (y, g) = begins_true p (b ∷ s) h in
@@ -107,31 +106,31 @@ find_room p (b ∷ s) i e = go (begins p (b ∷ s)) refl (find p s) refl e (find
     go false h none eo e ih = none_some e
     go false h (some k) eo e ih = omega (arith, unsome e, ih k eo)
 
-un_at : {x y : ℕ} → At x ≡ At y → x ≡ y
+un_at : {x y : ℕ} → Some x ≡ Some y → x ≡ y
 un_at e = cc
 
-pub found_room : (p s : List ℕ) (i n : ℕ) (r : Occurrence) → r ≡ found_of (find p s) → r ≡ At i → n ≡ length p
+pub found_room : (p s : List ℕ) (i n : ℕ) (r : Option ℕ) → r ≡ found_of (find p s) → r ≡ Some i → n ≡ length p
     → i + n ≤ length s
 found_room p s i n r e h g = rw g (go (find p s) refl (sym e ∙ h))
   where
-    go : (o : Option ℕ) → find p s ≡ o → found_of o ≡ At i → i + length p ≤ length s
+    go : (o : LogicOption ℕ) → find p s ≡ o → found_of o ≡ Some i → i + length p ≤ length s
     go none eo x = absurd (let z : ◌≡◌ {A = ℕ} 0 1 = cc in omega arith)
     go (some k) eo x = omega (arith, find_room p s k eo, un_at x)
 
-pub near_found : (p s : List ℕ) (i n : ℕ) (r : Occurrence) (t : Bool) → r ≡ found_of (find p s) → r ≡ At i
+pub near_found : (p s : List ℕ) (i n : ℕ) (r : Option ℕ) (t : Bool) → r ≡ found_of (find p s) → r ≡ Some i
     → n ≡ length p
     → t ≡ any_marker advice_markers (window s i n) → t ≡ near_marker s p
 near_found p s i n r t e h g x = x ∙ go (find p s) (sym e ∙ h)
   where
-    go : (o : Option ℕ) → found_of o ≡ At i
+    go : (o : LogicOption ℕ) → found_of o ≡ Some i
         → any_marker advice_markers (window s i n) ≡ marker_near advice_markers s p o
     go none x = absurd (let z : ◌≡◌ {A = ℕ} 0 1 = cc in omega arith)
     go (some k) x = rw (un_at x, g) refl
 
-pub near_nowhere : (p s : List ℕ) (r : Occurrence) → r ≡ found_of (find p s) → r ≡ Nowhere → false ≡ near_marker s p
+pub near_nowhere : (p s : List ℕ) (r : Option ℕ) → r ≡ found_of (find p s) → r ≡ None → false ≡ near_marker s p
 near_nowhere p s r e h = go (find p s) (sym e ∙ h)
   where
-    go : (o : Option ℕ) → found_of o ≡ Nowhere → false ≡ marker_near advice_markers s p o
+    go : (o : LogicOption ℕ) → found_of o ≡ None → false ≡ marker_near advice_markers s p o
     go none x = refl
     go (some k) x = absurd (let z : ◌≡◌ {A = ℕ} 0 1 = cc in omega arith)
 

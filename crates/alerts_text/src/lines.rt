@@ -60,11 +60,11 @@ fn near_marker(s: &[u8], name: &[u8], pattern: &[u8]) -> bool
     ensures { result ≡ near_filled s.now name.now pattern.now }
 {
     match alerts_patterns::find_filled(s, name, pattern) {
-        alerts_patterns::Occurrence::At(i) => {
+        Some(i) => {
             let n = filled_len(name, pattern);
             marked_near(s, i, n)
         }
-        alerts_patterns::Occurrence::Nowhere => false,
+        None => false,
     }
 }
 

@@ -1,4 +1,5 @@
 -- The words of an entity's alerts, on plain values: the first string that has a translation decides. Assumes nothing.
+use Rattle.std.specs.Prelude.{Option, Some, None}
 use Prim.Native.Nat.{ℕ, ◌+◌, ◌≤◌}
 use mathlib.Core.Path.{◌≡◌, refl, sym, ap, subst, ◌∙◌}
 use mathlib.Core.List.{List, [], ◌++◌}
@@ -7,7 +8,6 @@ use mathlib.Core.Option.{some}
 use native.Mathlib.Omega.{arith}
 use lib.ListN.{length, take, drop}
 use Rattle.basics.specs.Lists.{concat_map}
-use Rattle.formats.specs.declared.OptionalText.{OptionalText}
 use Rattle.formats_write.specs.Promises.Given.{given_text, Inside}
 use Rattle.realtime.specs.Tree.{Tree, tree, sub, rep}
 use Rattle.realtime.specs.Schema.{field_rows, feed, alert_entity, alert, header_text, header_translation, description_text}
@@ -25,12 +25,13 @@ use Rattle.realtime_views.specs.Laws.Turns.{Walked, front_length, starts, ends, 
 use Rattle.alerts_feed.specs.Sheet.{text_given, first_text, translated}
 use Rattle.alerts_views.specs.Promises.Views.{WordsRead}
 use Rattle.alerts_views.specs.Promises.Words.{Worded, First, ItemInside, FirstRead, TextRead}
+use Rattle.formats.specs.declared.Span.{Span}
 
 -- a translation's text, by its scalar
-abbrev pub to_text : Scalar → OptionalText
-to_text (Scalar.Number n) = OptionalText.Absent
-to_text (Scalar.Text i l) = OptionalText.Present (record { from = i; to = i + l })
-to_text Scalar.Nothing = OptionalText.Absent
+abbrev pub to_text : Scalar → Option Span
+to_text (Scalar.Number n) = None
+to_text (Scalar.Text i l) = Some (record { from = i; to = i + l })
+to_text Scalar.Nothing = None
 
 text_says : (s : List ℕ) (x : Scalar) → Lying (length s) x → given_text s (to_text x) ≡ text_given (said s x)
 text_says s (Scalar.Number n) h = refl
@@ -48,7 +49,7 @@ module _ {s : List ℕ} {i l : ℕ} {x : Scalar} (S : OneRead 1 s i l x) where
   unfolding feed field_rows
   inside = (S header_translation refl).within
 
-  pub text_read : {r : OptionalText} → r ≡ to_text x → TextRead s i l r
+  pub text_read : {r : Option Span} → r ≡ to_text x → TextRead s i l r
   text_read e = subst (TextRead s i l) (sym e) (record {
     of = λ t p m q. text_says s x inside ∙ ap text_given ((S t p).of m q);
     inside = text_inside s x inside;
@@ -105,7 +106,7 @@ module _ {s : List ℕ} {start len k : ℕ} {w : Walk} (W : Wording s start len 
   strings_of N = record { of = N.of alert_entity alert D.string (λ z. refl) (λ z. D.strings); lying = N.lying }
 
   module _ (N : Yields feed alert_entity 5 alert k D.string x w r) where
-    pub wordless : r ≡ Item.Done → WordsRead s start len k OptionalText.Absent
+    pub wordless : r ≡ Item.Done → WordsRead s start len k None
     wordless d = record { of = λ e q. ends W X N d e q; inside = tt }
 
     module _ {i l : ℕ} {w' : Walk} {c : Item} (a : r ≡ Item.At i l w') (F : FirstRead 1 s i l c) where
@@ -120,7 +121,7 @@ module _ {s : List ℕ} {start len k : ℕ} {w : Walk} (W : Wording s start len 
           let n : rep 1 y ≡ [] = subst (First D.translation s (rep 1 y)) d (first_of y o) in
           ap (λ v. first_text (v ++ concat_map (rep 1) z)) (sym n) ∙ p)
 
-      pub worded : {j m : ℕ} {w'' : Walk} {out : OptionalText} → c ≡ Item.At j m w'' → TextRead s j m out
+      pub worded : {j m : ℕ} {w'' : Walk} {out : Option Span} → c ≡ Item.At j m w'' → TextRead s j m out
           → WordsRead s start len k out
       worded {j} {m} {w''} {out} g T = record {
         of = λ e q. ((walks_on W X N a {Q = λ e z. given_text s out ≡ translated (sub k (sub 5 e))} (λ e y z q o p.

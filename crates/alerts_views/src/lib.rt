@@ -7,11 +7,8 @@ ghost use Rattle.alerts_views.specs.Promises.Views.{CountRead, FewRead, IdRead, 
 ghost use Rattle.alerts_views.specs.Promises.Walks.{AlertCounted, NextEntity, NextSelector, SelectorsCounted};
 ghost use Rattle.alerts_views.specs.Promises.Words.{DeletedRead, FirstRead, TextRead, Worded};
 
-use formats::{OptionalText, Span};
-use realtime_read::fields::{
-    alert, alert_entity, entity_selector, feed_entity, feed_message, translated_string,
-    translation, trip_descriptor,
-};
+use formats::Span;
+use realtime_read::fields::{alert, alert_entity, entity_selector, feed_entity, feed_message, translated_string, translation, trip_descriptor};
 use realtime_views::{Item, NO_FIELD, Scalar, TextPart, Walk};
 
 // An alert has at most so many ids of a kind.
@@ -61,23 +58,23 @@ pub fn is_left(message: &[u8], start: usize, len: usize) -> bool
 }
 
 // The text of a translation. A text may be given and empty.
-fn text_of(message: &[u8], start: usize, len: usize) -> OptionalText
+fn text_of(message: &[u8], start: usize, len: usize) -> Option<Span>
     requires { start + len ≤ length message.now }
     ensures { TextRead message.now start len result }
 {
     match realtime_views::scalar_at(message, start, len, translation::TEXT) {
-        Scalar::Text { start, len } => OptionalText::Present(Span {
+        Scalar::Text { start, len } => Some(Span {
             from: start,
             to: start + len,
         }),
-        Scalar::Number(_) => OptionalText::Absent,
-        Scalar::Nothing => OptionalText::Absent,
+        Scalar::Number(_) => None,
+        Scalar::Nothing => None,
     }
 }
 
 // The text of the first translation, of all the strings at field `k` of all the alerts of an entity, merged: the first
 // string that has a translation decides.
-fn words(message: &[u8], start: usize, len: usize, k: u64) -> OptionalText
+fn words(message: &[u8], start: usize, len: usize, k: u64) -> Option<Span>
     requires len_in_bounds { start + len ≤ length message.now }
     requires worded { Worded k }
     ensures { WordsRead message.now start len k result }
@@ -97,7 +94,7 @@ fn words(message: &[u8], start: usize, len: usize, k: u64) -> OptionalText
             walk: rest,
         } = found
         else {
-            return OptionalText::Absent;
+            return None;
         };
         match first_item(message, i, l, translated_string::TRANSLATION) {
             Item::At {
@@ -113,7 +110,7 @@ fn words(message: &[u8], start: usize, len: usize, k: u64) -> OptionalText
 }
 
 // The words of an entity's header.
-pub fn header_of(message: &[u8], start: usize, len: usize) -> OptionalText
+pub fn header_of(message: &[u8], start: usize, len: usize) -> Option<Span>
     requires { start + len ≤ length message.now }
     ensures { WordsRead message.now start len 10 result }
 {
@@ -121,7 +118,7 @@ pub fn header_of(message: &[u8], start: usize, len: usize) -> OptionalText
 }
 
 // And those of its description.
-pub fn description_of(message: &[u8], start: usize, len: usize) -> OptionalText
+pub fn description_of(message: &[u8], start: usize, len: usize) -> Option<Span>
     requires { start + len ≤ length message.now }
     ensures { WordsRead message.now start len 11 result }
 {

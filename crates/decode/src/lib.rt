@@ -11,7 +11,7 @@ ghost use Rattle.decode.specs.Sizes.{key_bytes, most_feed, most_id, most_date, m
 ghost use Rattle.decode.specs.Promises.Written.{Added};
 ghost use Rattle.decode.specs.Promises.Keyed.{Room, Short, Keyed};
 
-use realtime_views::{Direction, TextPart, Trip};
+use realtime_views::{TextPart, Trip};
 use sizes::KEY_BYTES;
 
 // All of x goes in at `at`.
@@ -94,14 +94,14 @@ fn write_route(keys: &mut [u8], at: usize, feed: &[u8], message: &[u8], route: T
 }
 
 // A direction has 10 digits at most.
-fn write_direction(keys: &mut [u8], at: usize, direction: Direction) -> usize
+fn write_direction(keys: &mut [u8], at: usize, direction: Option<u32>) -> usize
     requires { at + 10 ≤ length keys.old }
     ensures { Added keys.old at
         (direction_text (maybe (view_direction direction))) keys.new result }
 {
     match direction {
-        Direction::Given(d) => decimal(10, keys, at, d),
-        Direction::Absent => at,
+        Some(d) => decimal(10, keys, at, d),
+        None => at,
     }
 }
 

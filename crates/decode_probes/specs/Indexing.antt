@@ -1,12 +1,11 @@
 -- Believe: the probes' answers. What `trips_index` answers: the first question with the answer no, or what a message
 -- leaves.
-use Rattle.std.specs.Prelude.{ℕ, zero, suc, ◌-◌, Bool, false, ◌&&◌, cond, List, [], eqb, leb, ltb, length}
-use Rattle.std.proofs.Math.Option.{Option, none, some}
+use Rattle.std.specs.Prelude.{ℕ, zero, suc, ◌-◌, Bool, false, ◌&&◌, cond, List, [], eqb, leb, ltb, length, Option, Some, None}
+use Rattle.std.proofs.Math.Option.{Option as LogicOption, none, some}
 use Rattle.decode.specs.Sizes.{most_trips, most_updates, most_feed, most_message}
 use Rattle.decode.specs.Sizes.{keys_length, marks_length, order_length, most_old}
 use Rattle.formats.specs.Format.{list, read}
 use Rattle.formats_judge.specs.Judged.{judge_to}
-use Rattle.formats_judge.specs.declared.Judge.{Judge}
 use Rattle.realtime.specs.Tree.{tree}
 use Rattle.realtime.specs.Schema.{feed_message, feed_entity}
 use Rattle.realtime.specs.Schema as schema
@@ -24,12 +23,12 @@ use Rattle.decode_probes.specs.Answers.{question_of, of_whole}
 abbrev pub sized : ℕ → ℕ → ℕ → Bool
 sized keys marks order = (eqb keys keys_length && eqb marks marks_length) && eqb order order_length
 
-abbrev pub unfailed : Judge → Bool
-unfailed Judge.Broken = false
-unfailed (Judge.At p x) = eqb x 0
+abbrev pub unfailed : Option (ℕ × ℕ) → Bool
+unfailed None = false
+unfailed (Some (p, x)) = eqb x 0
 
 -- the trips with which bytes begin
-abbrev pub trips_read : Option (Trips × List ℕ) → Trips
+abbrev pub trips_read : LogicOption (Trips × List ℕ) → Trips
 trips_read none = []
 trips_read (some x) = x.0
 

@@ -29,17 +29,11 @@ ghost use Rattle.decode_probes.specs.Answers.{stop_numbers, stop_numbers_of, no_
 ghost use Rattle.decode_probes.specs.Promises.Answers.{is_whole};
 ghost use Rattle.basics.specs.Options.{is_some};
 
-use decode::sizes::{
-    KEYS_LENGTH, MARKS_LENGTH, MOST_FEED, MOST_MESSAGE, MOST_OLD, MOST_UPDATES, ORDER_LENGTH,
-    UPDATES_LENGTH,
-};
+use decode::sizes::{KEYS_LENGTH, MARKS_LENGTH, MOST_FEED, MOST_MESSAGE, MOST_OLD, MOST_UPDATES, ORDER_LENGTH, UPDATES_LENGTH};
 use decode_index::Left;
-use formats_judge::Judge;
 use realtime::Verdict;
 use realtime_read::{FEED_ENTITY, FEED_MESSAGE, ID_LIMIT, STOP_TIME_UPDATE};
-use realtime_views::{
-    Delay, Direction, Event, Header, StopUpdate, TextPart, Time, Timestamp, Trip,
-};
+use realtime_views::{Event, Header, StopUpdate, TextPart, Trip};
 use table::{DEPTH, LIST, TRIPS};
 
 // Answers below this are the number of a question; from it on, it and a count.
@@ -76,75 +70,75 @@ fn is_whole(s: &[u8], message: u64) -> bool
     }
 }
 
-fn has_timestamp(t: Timestamp) -> bool
+fn has_timestamp(t: Option<u64>) -> bool
     ensures { result ≡ is_some (view_timestamp t) }
 {
     match t {
-        Timestamp::Given(_) => true,
-        Timestamp::Absent => false,
+        Some(_) => true,
+        None => false,
     }
 }
 
-fn timestamp_or_zero(t: Timestamp) -> u64
+fn timestamp_or_zero(t: Option<u64>) -> u64
     ensures { result ≡ or_zero (view_timestamp t) }
 {
     match t {
-        Timestamp::Given(n) => n,
-        Timestamp::Absent => 0,
+        Some(n) => n,
+        None => 0,
     }
 }
 
-fn has_direction(d: Direction) -> bool
+fn has_direction(d: Option<u32>) -> bool
     ensures { result ≡ is_some (view_direction d) }
 {
     match d {
-        Direction::Given(_) => true,
-        Direction::Absent => false,
+        Some(_) => true,
+        None => false,
     }
 }
 
-fn direction_or_zero(d: Direction) -> u32
+fn direction_or_zero(d: Option<u32>) -> u32
     ensures { result ≡ or_zero (view_direction d) }
 {
     match d {
-        Direction::Given(n) => n,
-        Direction::Absent => 0,
+        Some(n) => n,
+        None => 0,
     }
 }
 
-fn has_delay(d: Delay) -> bool
+fn has_delay(d: Option<i32>) -> bool
     ensures { result ≡ is_some (view_delay d) }
 {
     match d {
-        Delay::Given(_) => true,
-        Delay::Absent => false,
+        Some(_) => true,
+        None => false,
     }
 }
 
-fn delay_or_zero(d: Delay) -> i32
+fn delay_or_zero(d: Option<i32>) -> i32
     ensures { result ≡ or_nought (view_delay d) }
 {
     match d {
-        Delay::Given(n) => n,
-        Delay::Absent => 0,
+        Some(n) => n,
+        None => 0,
     }
 }
 
-fn has_time(t: Time) -> bool
+fn has_time(t: Option<i64>) -> bool
     ensures { result ≡ is_some (view_time t) }
 {
     match t {
-        Time::Given(_) => true,
-        Time::Absent => false,
+        Some(_) => true,
+        None => false,
     }
 }
 
-fn time_or_zero(t: Time) -> i64
+fn time_or_zero(t: Option<i64>) -> i64
     ensures { result ≡ or_nought (view_time t) }
 {
     match t {
-        Time::Given(n) => n,
-        Time::Absent => 0,
+        Some(n) => n,
+        None => 0,
     }
 }
 
@@ -350,18 +344,18 @@ pub extern "C" fn trips_updates(updates: &mut [u32], e: &[u8]) -> usize
 }
 
 // The end of the trips with which old begins, and the first of the questions 5 to 7 that they fail.
-fn judge_old(old: &[u8]) -> Judge
+fn judge_old(old: &[u8]) -> Option<(usize, u32)>
     ensures { result ≡ judge_to (list most_trips trip_entry) old.now 0 }
 {
     formats_judge::judge_value(&TRIPS, DEPTH, LIST, old, 0)
 }
 
-fn is_unfailed(j: Judge) -> bool
+fn is_unfailed(j: Option<(usize, u32)>) -> bool
     ensures { result ≡ unfailed j }
 {
     match j {
-        Judge::Broken => false,
-        Judge::At(_, x) => x == 0,
+        None => false,
+        Some((_, x)) => x == 0,
     }
 }
 

@@ -8,8 +8,8 @@ use lib.ListN.{length, get_or, take}
 use lib.Seq.{get_or-take, length-take-le}
 use Rattle.basics.specs.Lists.{All}
 use Rattle.slices.specs.Lists.{lex_of}
-use Rattle.slices.specs.declared.Order.{Order}
-use Rattle.slices.specs.declared.Order.TheVariants.{Less, Same, More}
+use Rattle.std.specs.declared.cmp.Ordering.{Ordering}
+use Rattle.std.specs.declared.cmp.Ordering.TheVariants.{Less, Equal, Greater}
 use Rattle.maps.specs.Map.{Ordered, is_less, by_order, above, ascending}
 use Rattle.maps.specs.Promises.Order.{is_more}
 use Rattle.maps.specs.Order.{texts}
@@ -20,10 +20,10 @@ use Rattle.decode_slots.specs.Index.{Place, slot_key, slot_entry, slotted, index
 use Rattle.decode_slots.specs.Promises.Index.{SoundIndex, rank_of}
 use Rattle.decode_slots.specs.Laws.Slots.{index_length}
 
-pub is_more_means : (o : Order) → is_more o ≡ true → o ≡ More
+pub is_more_means : (o : Ordering) → is_more o ≡ true → o ≡ Greater
 is_more_means Less e = absurd (let z : ◌≡◌ {A = ℕ} 0 1 = cc in omega arith)
-is_more_means Same e = absurd (let z : ◌≡◌ {A = ℕ} 0 1 = cc in omega arith)
-is_more_means More e = refl
+is_more_means Equal e = absurd (let z : ◌≡◌ {A = ℕ} 0 1 = cc in omega arith)
+is_more_means Greater e = refl
 
 module _ {K : Type 0} (O : Ordered K) {A : Type 0} (d : K × A) where
   -- the key at a place
@@ -51,19 +51,19 @@ module _ {K : Type 0} {O : Ordered K} (W : Lawful O) {A : Type 0} (d : K × A) w
   rank_length k [] = omega arith
   rank_length k (e ∷ m) = go (O.compare k e.0) (rank_length k m)
     where
-      go : (o : Order) → rank_of O k m ≤ length m → by_order o 0 0 (suc (rank_of O k m)) ≤ suc (length m)
+      go : (o : Ordering) → rank_of O k m ≤ length m → by_order o 0 0 (suc (rank_of O k m)) ≤ suc (length m)
       go Less h = omega arith
-      go Same h = omega arith
-      go More h = omega arith
+      go Equal h = omega arith
+      go Greater h = omega arith
 
   -- behind a key that is less
   pub rank_behind : (k : K) (m : List (K × A)) (i : ℕ) → ascending O m ≡ true → i < length m
-      → O.compare k (at O d m i) ≡ More → i < rank_of O k m
+      → O.compare k (at O d m i) ≡ Greater → i < rank_of O k m
   rank_behind k [] i h l g = absurd (omega arith)
   rank_behind k (e ∷ m) zero h l g = rw g (omega arith)
   rank_behind k (e ∷ m) (suc i) h l g =
       let before : O.compare e.0 (at O d m i) ≡ Less = above_at e.0 m i h (omega arith) in
-      let more : O.compare k e.0 ≡ More = W.more e.0 k
+      let more : O.compare k e.0 ≡ Greater = W.more e.0 k
       (W.through e.0 (at O d m i) k before (W.less k (at O d m i) g)) in
       rw more (omega (arith, rank_behind k m i (rest_ascending W e m h) (omega arith) g))
 
@@ -73,16 +73,16 @@ module _ {K : Type 0} {O : Ordered K} (W : Lawful O) {A : Type 0} (d : K × A) w
   rank_before k [] i l g = absurd (omega arith)
   rank_before k (e ∷ m) zero l g = go (O.compare k e.0) g
     where
-      go : (o : Order) → is_more o ≡ false → by_order o 0 0 (suc (rank_of O k m)) ≤ 0
+      go : (o : Ordering) → is_more o ≡ false → by_order o 0 0 (suc (rank_of O k m)) ≤ 0
       go Less p = omega arith
-      go Same p = omega arith
-      go More p = absurd (let z : ◌≡◌ {A = ℕ} 0 1 = cc in omega arith)
+      go Equal p = omega arith
+      go Greater p = absurd (let z : ◌≡◌ {A = ℕ} 0 1 = cc in omega arith)
   rank_before k (e ∷ m) (suc i) l g = go (O.compare k e.0) (rank_before k m i (omega arith) g)
     where
-      go : (o : Order) → rank_of O k m ≤ i → by_order o 0 0 (suc (rank_of O k m)) ≤ suc i
+      go : (o : Ordering) → rank_of O k m ≤ i → by_order o 0 0 (suc (rank_of O k m)) ≤ suc i
       go Less p = omega arith
-      go Same p = omega arith
-      go More p = omega arith
+      go Equal p = omega arith
+      go Greater p = omega arith
 
 -- each is so, and the one at a place
 pub all_at : (P : ℕ → Type 0) (l : List ℕ) (i : ℕ) → All P l → i < length l → P (get_or l i 0)

@@ -10,8 +10,8 @@ use lib.Seq.{get_or-take, length-take-le, get_or-set_same, get_or-set_other, ext
 use borrow.Author.Tests.{ltb-true, ltb-false, eqb-true, eqb-false, lt-ltb}
 use Rattle.basics.specs.Lists.{All}
 use Rattle.slices.specs.Lists.{lex_of}
-use Rattle.slices.specs.declared.Order.{Order}
-use Rattle.slices.specs.declared.Order.TheVariants.{Less, Same, More}
+use Rattle.std.specs.declared.cmp.Ordering.{Ordering}
+use Rattle.std.specs.declared.cmp.Ordering.TheVariants.{Less, Equal, Greater}
 use Rattle.maps.specs.Map.{Ordered, by_order, put, ascending}
 use Rattle.maps.specs.Promises.Order.{is_same}
 use Rattle.maps.specs.Order.{texts}
@@ -25,10 +25,10 @@ use Rattle.slices.proofs.Gaps.{gap_front, gap_length}
 use Rattle.decode_slots.specs.Laws.Slots.{slotted_length, index_length}
 use Rattle.decode_slots.proofs.Ranks.{at, ascending_at, slotted_at, index_at, slot_below, rank_within, nowhere}
 
-pub is_same_means : (o : Order) → is_same o ≡ true → o ≡ Same
+pub is_same_means : (o : Ordering) → is_same o ≡ true → o ≡ Equal
 is_same_means Less e = absurd (let z : ◌≡◌ {A = ℕ} 0 1 = cc in omega arith)
-is_same_means Same e = refl
-is_same_means More e = absurd (let z : ◌≡◌ {A = ℕ} 0 1 = cc in omega arith)
+is_same_means Equal e = refl
+is_same_means Greater e = absurd (let z : ◌≡◌ {A = ℕ} 0 1 = cc in omega arith)
 
 module _ {K : Type 0} (O : Ordered K) {A : Type 0} (d : K × A) where
   -- a put is a store at the rank, or goes in there
@@ -37,17 +37,17 @@ module _ {K : Type 0} (O : Ordered K) {A : Type 0} (d : K × A) where
   put_over k v [] l h = absurd (omega arith)
   put_over k v (e ∷ m) l h = go (O.compare k e.0) refl l h (put_over k v m)
     where
-      go : (o : Order) → O.compare k e.0 ≡ o → by_order o 0 0 (suc (rank_of O k m)) < suc (length m)
+      go : (o : Ordering) → O.compare k e.0 ≡ o → by_order o 0 0 (suc (rank_of O k m)) < suc (length m)
           → is_same (O.compare k (at O d (e ∷ m) (by_order o 0 0 (suc (rank_of O k m))))) ≡ true
           → (rank_of O k m < length m → is_same (O.compare k (at O d m (rank_of O k m))) ≡ true → put O k v m ≡ set m
           (rank_of O k m) (k, v))
           → by_order o ((k, v) ∷ e ∷ m) ((k, v) ∷ m) (e ∷ put O k v m) ≡ set (e ∷ m)
           (by_order o 0 0 (suc (rank_of O k m))) (k, v)
       go Less p l h i =
-          absurd (let z : Less ≡ Same = sym p
+          absurd (let z : Less ≡ Equal = sym p
           ∙ is_same_means (O.compare k e.0) h in let z : ◌≡◌ {A = ℕ} 0 1 = cc in omega arith)
-      go Same p l h i = refl
-      go More p l h i = ap (λ x. e ∷ x) (i (omega arith) h)
+      go Equal p l h i = refl
+      go Greater p l h i = ap (λ x. e ∷ x) (i (omega arith) h)
 
   pub put_into : (k : K) (v : A) (m : List (K × A))
       → (rank_of O k m < length m → is_same (O.compare k (at O d m (rank_of O k m))) ≡ false)
@@ -55,7 +55,7 @@ module _ {K : Type 0} (O : Ordered K) {A : Type 0} (d : K × A) where
   put_into k v [] h = refl
   put_into k v (e ∷ m) h = go (O.compare k e.0) refl h (put_into k v m)
     where
-      go : (o : Order) → O.compare k e.0 ≡ o
+      go : (o : Ordering) → O.compare k e.0 ≡ o
           → (by_order o 0 0 (suc (rank_of O k m)) < suc (length m) → is_same
           (O.compare k (at O d (e ∷ m) (by_order o 0 0 (suc (rank_of O k m))))) ≡ false)
           → ((rank_of O k m < length m → is_same (O.compare k (at O d m (rank_of O k m))) ≡ false) → put O k v m ≡ take
@@ -64,10 +64,10 @@ module _ {K : Type 0} (O : Ordered K) {A : Type 0} (d : K × A) where
           ≡ take (by_order o 0 0 (suc (rank_of O k m))) (e ∷ m) ++ (k, v) ∷ drop (by_order o 0 0 (suc (rank_of O k m)))
           (e ∷ m)
       go Less p h i = refl
-      go Same p h i =
+      go Equal p h i =
           absurd (let z : true ≡ false = sym (ap is_same p)
           ∙ h (omega arith) in let z : ◌≡◌ {A = ℕ} 0 1 = cc in omega arith)
-      go More p h i = ap (λ x. e ∷ x) (i (λ l. h (omega arith)))
+      go Greater p h i = ap (λ x. e ∷ x) (i (λ l. h (omega arith)))
 
 -- the length of a key stays, and the place of another slot
 pub length_kept : (marks : List ℕ) (j slot from to : ℕ)
@@ -164,9 +164,9 @@ module _ (keys marks order : List ℕ) (n len from to : ℕ) (S : SoundIndex key
       let s : at texts nowhere map i ≡ at texts nowhere map j =
       ap (λ x. x.0) (index_at keys marks order n S i (omega arith)) ∙ ap (slot_key keys marks) e
       ∙ ap (λ x. x.0) (sym (index_at keys marks order n S j g)) in
-      let t : lex_of (at texts nowhere map i) (at texts nowhere map j) ≡ Same = ap
+      let t : lex_of (at texts nowhere map i) (at texts nowhere map j) ≡ Equal = ap
       (λ x. lex_of x (at texts nowhere map j)) s ∙ lex_itself (at texts nowhere map j) in
-      let z : Less ≡ Same = sym l ∙ t in
+      let z : Less ≡ Equal = sym l ∙ t in
       let z : ◌≡◌ {A = ℕ} 0 1 = cc in omega arith
 
   -- another place for the slot at rank r

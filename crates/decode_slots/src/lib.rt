@@ -10,31 +10,31 @@ ghost use Rattle.decode.specs.Sizes.{most_trips, key_bytes, marks_length, order_
 ghost use Rattle.decode_slots.specs.Index.{slot_key, index};
 ghost use Rattle.decode_slots.specs.Promises.Index.{key_in, SoundIndex, Settled, rank_of, remarked};
 
+use std::cmp::Ordering;
 use decode::sizes::KEY_BYTES;
-use slices::Order;
 
-pub fn is_more(o: Order) -> bool
+pub fn is_more(o: Ordering) -> bool
     ensures { result ≡ is_more o }
 {
     match o {
-        Order::Less => false,
-        Order::Same => false,
-        Order::More => true,
+        Ordering::Less => false,
+        Ordering::Equal => false,
+        Ordering::Greater => true,
     }
 }
 
-pub fn is_same(o: Order) -> bool
+pub fn is_same(o: Ordering) -> bool
     ensures { result ≡ is_same o }
 {
     match o {
-        Order::Less => false,
-        Order::Same => true,
-        Order::More => false,
+        Ordering::Less => false,
+        Ordering::Equal => true,
+        Ordering::Greater => false,
     }
 }
 
 // The order of the key that stands in slot n, `len` long, and the key of a slot.
-fn key_order(keys: &[u8], marks: &[u32], n: usize, len: usize, slot: usize) -> Order
+fn key_order(keys: &[u8], marks: &[u32], n: usize, len: usize, slot: usize) -> Ordering
     requires len_in_bounds { key_bytes * n + len ≤ length keys.now }
     requires slot_in_bounds { 3 * slot < length marks.now }
     requires slot_in_bounds_2 { key_bytes * slot + get_or marks.now (3 * slot) 0 ≤ length keys.now }

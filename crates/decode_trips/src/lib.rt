@@ -15,7 +15,6 @@ ghost use Rattle.decode_write.specs.Promises.Slots.{GoodSlot, Writable};
 ghost use Rattle.decode_trips.specs.Promises.Again.{place_of, Ready, IsLast, Again, EntryPut};
 
 use decode::sizes::KEY_BYTES;
-use formats_write::Put;
 
 // The record that was written last: its place in the index, and from where to where it stands in the output.
 #[derive(Clone, Copy)]
@@ -26,12 +25,12 @@ struct Last {
     end: usize,
 }
 
-fn place(w: Put) -> usize
+fn place(w: Option<usize>) -> usize
     ensures { result ≡ place_of w }
 {
     match w {
-        Put::At(p) => p,
-        Put::Full => 0,
+        Some(p) => p,
+        None => 0,
     }
 }
 
@@ -52,44 +51,44 @@ fn is_last(last: Last, from: usize, to: usize) -> bool
 }
 
 // What stands in the output from `from` up to `to`, once more: through a local array.
-fn again(out: &mut [u8], w: Put, from: usize, to: usize) -> Put
+fn again(out: &mut [u8], w: Option<usize>, from: usize, to: usize) -> Option<usize>
     ensures { Again out.old w out.new result from to }
 {
-    let Put::At(at) = w else {
-        return Put::Full;
+    let Some(at) = w else {
+        return None;
     };
     if to < from {
-        return Put::Full;
+        return None;
     }
     if out.len() < to {
-        return Put::Full;
+        return None;
     }
     let n = to - from;
     if 1024 < n {
-        return Put::Full;
+        return None;
     }
     if out.len() < at {
-        return Put::Full;
+        return None;
     }
     if out.len() - at < n {
-        return Put::Full;
+        return None;
     }
     let mut block = [0u8; 1024];
     slices::copy(&mut block, 0, &out[from..to]);
     slices::copy(out, at, &block[..n]);
-    Put::At(at + n)
+    Some(at + n)
 }
 
 // The record at a place, copied where it was written last: a dated trip has two keys, one after the other as a rule.
 fn write_next(
     out: &mut [u8],
-    w: Put,
+    w: Option<usize>,
     message: &[u8],
     old: &[u8],
     from: usize,
     to: usize,
     last: Last,
-) -> Put
+) -> Option<usize>
     requires message_len_bound { length message.now ≤ most_message }
     requires fit { Fit message.now old.now (from, to)
         × (crowded (held_at message.now old.now (from, to)) ≡ false) }
@@ -106,14 +105,14 @@ fn write_next(
 // The next place, and what was written last.
 #[derive(Drop)]
 struct Entered {
-    put: Put,
+    put: Option<usize>,
     last: Last,
 }
 
 // A slot's key and record.
 fn write_entry(
     out: &mut [u8],
-    w: Put,
+    w: Option<usize>,
     keys: &[u8],
     marks: &[u32],
     slot: usize,
@@ -149,14 +148,14 @@ fn write_entry(
 // The keys and records of the first n slots, in the order of the keys.
 fn put_entries(
     out: &mut [u8],
-    w: Put,
+    w: Option<usize>,
     keys: &[u8],
     marks: &[u32],
     order: &[u32],
     n: usize,
     message: &[u8],
     old: &[u8],
-) -> Put
+) -> Option<usize>
     requires message_len_bound { length message.now ≤ most_message }
     requires n_in_bounds { n ≤ length order.now }
     requires all { All (GoodSlot message.now old.now keys.now marks.now) (take n order.now) }
@@ -164,11 +163,11 @@ fn put_entries(
         (many_w (write trip_entry) (held message.now old.now
         (index keys.now marks.now order.now n))) }
 {
-    let Put::At(at) = w else {
-        return Put::Full;
+    let Some(at) = w else {
+        return None;
     };
     if out.len() < at {
-        return Put::Full;
+        return None;
     }
     let mut q = w;
     let mut last = Last {
@@ -192,14 +191,14 @@ fn put_entries(
 // The trips that an index holds.
 pub fn write_trips(
     out: &mut [u8],
-    w: Put,
+    w: Option<usize>,
     keys: &[u8],
     marks: &[u32],
     order: &[u32],
     n: usize,
     message: &[u8],
     old: &[u8],
-) -> Put
+) -> Option<usize>
     requires message_len_bound { length message.now ≤ most_message }
     requires writable { Writable message.now old.now keys.now marks.now order.now n }
     ensures { Adds out.old w out.new result

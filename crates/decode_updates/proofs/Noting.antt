@@ -10,8 +10,8 @@ use lib.ListN.{length, get_or, take, drop, set, length-set, length-append, lengt
 use lib.Seq.{get_or-drop, ext_get_or, get_or-set_same, get_or-set_other, drop-drop, drop-cons, take_at, drop_at, length-take-le}
 use borrow.Author.Tests.{lt-ltb, le-ltb, ltb-true, eqb-true, eqb-false}
 use Rattle.slices.specs.Lists.{lex_of}
-use Rattle.slices.specs.declared.Order.{Order}
-use Rattle.slices.specs.declared.Order.TheVariants.{Less, Same, More}
+use Rattle.std.specs.declared.cmp.Ordering.{Ordering}
+use Rattle.std.specs.declared.cmp.Ordering.TheVariants.{Less, Equal, Greater}
 use Rattle.maps.specs.Map.{put, ascending}
 use Rattle.maps.specs.Promises.Order.{is_same, is_more}
 use Rattle.maps.specs.Order.{numbers}
@@ -47,7 +47,7 @@ not_more : (x y : ℕ) → x ≤ y → is_more (lex_of (x ∷ []) (y ∷ [])) �
 unfolding lex_of
 not_more x y h = go (ltb x y) (ltb y x) (le-ltb y x h)
   where
-    go : (a b : Bool) → b ≡ false → is_more (cond a Less (cond b More Same)) ≡ false
+    go : (a b : Bool) → b ≡ false → is_more (cond a Less (cond b Greater Equal)) ≡ false
     go true b e = refl
     go false b e = rw e
 
@@ -57,10 +57,10 @@ same_number x y e = rw e (ap is_same (lex_itself (y ∷ [])))
 pub other_number : (x y : ℕ) → (x ≡ y → ⊥) → is_same (lex_of (x ∷ []) (y ∷ [])) ≡ false
 other_number x y h = go (lex_of (x ∷ []) (y ∷ [])) refl
   where
-    go : (o : Order) → lex_of (x ∷ []) (y ∷ []) ≡ o → is_same o ≡ false
+    go : (o : Ordering) → lex_of (x ∷ []) (y ∷ []) ≡ o → is_same o ≡ false
     go Less e = refl
-    go Same e = absurd (h (heads (lex_same (x ∷ []) (y ∷ []) e)))
-    go More e = refl
+    go Equal e = absurd (h (heads (lex_same (x ∷ []) (y ∷ []) e)))
+    go Greater e = refl
 
 module _ (u : List ℕ) (n : ℕ) (L : Lined u n) (q : ℕ) where
   abbrev rank : ℕ

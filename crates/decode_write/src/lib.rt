@@ -2,14 +2,13 @@
 // keys count.
 #![tactic(auto)]
 
-ghost use Rattle.std.specs.Prelude.{◌≡◌, false, List, ℕ, ◌+◌, ◌-◌, ◌≤◌, ◌<◌, length, take, drop};
+ghost use Rattle.std.specs.Prelude.{◌≡◌, false, List, ℕ, ◌+◌, ◌-◌, ◌≤◌, ◌<◌, length, take, drop, Some};
 ghost use Rattle.basics.specs.Lists.{All};
 ghost use Rattle.basics.specs.Options.{maybe};
 ghost use Rattle.formats.specs.Number.{groups_w, number_w};
 ghost use Rattle.formats.specs.Promises.Number.{top};
 ghost use Rattle.formats.specs.Readers.{many_w};
 ghost use Rattle.formats.specs.Format.{◌&◌, write};
-ghost use Rattle.formats_write.specs.declared.Put.TheVariants.{At};
 ghost use Rattle.formats_write.specs.Promises.Adds.{Adds};
 ghost use Rattle.formats_write.specs.Promises.Given.{given_number, given_signed, optional_w, text_w};
 ghost use Rattle.realtime.specs.Schema.{feed_entity, stop_time_update};
@@ -30,14 +29,12 @@ ghost use Rattle.decode_write.specs.Promises.Slots.{KeyLies, plain_keys};
 ghost use Rattle.decode_write.specs.Promises.Written.{TextsLie, event_w, head_w, signed_w, update_of};
 
 use decode::sizes::{BEYOND, KEY_BYTES, UPDATES_LENGTH};
-use formats::{OptionalNumber, OptionalSigned};
-use formats_write::Put;
-use realtime_views::{Delay, Direction, Event, StopUpdate, TextPart, Time, Trip};
+use realtime_views::{Event, StopUpdate, TextPart, Trip};
 
 // A number of at most k + 1 groups, where there is room for them: the next place.
 fn add_groups(k: u32, out: &mut [u8], at: usize, n: u64) -> usize
     requires { (n < top k) × (at + k < length out.old) }
-    ensures { Adds out.old (At at) out.new (At result) (groups_w k n) }
+    ensures { Adds out.old (Some at) out.new (Some result) (groups_w k n) }
 {
     if n < 128 {
         out[at] = n as u8;
@@ -50,7 +47,7 @@ fn add_groups(k: u32, out: &mut [u8], at: usize, n: u64) -> usize
 // A number of five groups, as times have: no test stands between them.
 fn add_five(out: &mut [u8], at: usize, n: u64) -> usize
     requires { (268435456 ≤ n) × (n < 34359738368) × (at + 9 < length out.old) }
-    ensures { Adds out.old (At at) out.new (At result) (number_w n) }
+    ensures { Adds out.old (Some at) out.new (Some result) (number_w n) }
 {
     let a = n / 128;
     let b = a / 128;
@@ -67,7 +64,7 @@ fn add_five(out: &mut [u8], at: usize, n: u64) -> usize
 // The number at `at`, where there is room for ten bytes.
 fn add_number(out: &mut [u8], at: usize, n: u64) -> usize
     requires { at + 9 < length out.old }
-    ensures { Adds out.old (At at) out.new (At result) (number_w n) }
+    ensures { Adds out.old (Some at) out.new (Some result) (number_w n) }
 {
     if n < 128 {
         out[at] = n as u8;
@@ -83,11 +80,11 @@ fn add_number(out: &mut [u8], at: usize, n: u64) -> usize
 }
 
 // A number takes ten bytes at most: where there are so many, its groups are not tested for room one by one.
-fn put_number(out: &mut [u8], w: Put, n: u64) -> Put
+fn put_number(out: &mut [u8], w: Option<usize>, n: u64) -> Option<usize>
     ensures { Adds out.old w out.new result (number_w n) }
 {
-    let Put::At(at) = w else {
-        return Put::Full;
+    let Some(at) = w else {
+        return None;
     };
     if out.len() < 10 {
         return formats_write::number(out, w, n);
@@ -95,11 +92,11 @@ fn put_number(out: &mut [u8], w: Put, n: u64) -> Put
     if out.len() - 10 < at {
         return formats_write::number(out, w, n);
     }
-    Put::At(add_number(out, at, n))
+    Some(add_number(out, at, n))
 }
 
 // A text of s. An absent one is empty.
-fn put_text(out: &mut [u8], w: Put, message: &[u8], t: TextPart) -> Put
+fn put_text(out: &mut [u8], w: Option<usize>, message: &[u8], t: TextPart) -> Option<usize>
     requires { PartInside (length message.now) t }
     ensures { Adds out.old w out.new result (text_w (part_in message.now t)) }
 {
@@ -107,7 +104,7 @@ fn put_text(out: &mut [u8], w: Put, message: &[u8], t: TextPart) -> Put
     formats_write::stretch(out, q, message, t.start, t.start + t.len)
 }
 
-fn put_flag(out: &mut [u8], w: Put, b: bool) -> Put
+fn put_flag(out: &mut [u8], w: Option<usize>, b: bool) -> Option<usize>
     ensures { Adds out.old w out.new result (number_w (bit b)) }
 {
     if b {
@@ -117,65 +114,65 @@ fn put_flag(out: &mut [u8], w: Put, b: bool) -> Put
 }
 
 // What was read, as what is written.
-fn from_delay(d: Delay) -> OptionalSigned
+fn from_delay(d: Option<i32>) -> Option<i64>
     ensures { given_signed result ≡ maybe (view_delay d) }
 {
     match d {
-        Delay::Given(z) => OptionalSigned::Present(z as i64),
-        Delay::Absent => OptionalSigned::Absent,
+        Some(z) => Some(z as i64),
+        None => None,
     }
 }
 
-fn from_time(t: Time) -> OptionalSigned
+fn from_time(t: Option<i64>) -> Option<i64>
     ensures { given_signed result ≡ maybe (view_time t) }
 {
     match t {
-        Time::Given(z) => OptionalSigned::Present(z),
-        Time::Absent => OptionalSigned::Absent,
+        Some(z) => Some(z),
+        None => None,
     }
 }
 
-fn from_direction(d: Direction) -> OptionalNumber
+fn from_direction(d: Option<u32>) -> Option<u64>
     ensures { given_number result ≡ maybe (view_direction d) }
 {
     match d {
-        Direction::Given(n) => OptionalNumber::Present(n as u64),
-        Direction::Absent => OptionalNumber::Absent,
+        Some(n) => Some(n as u64),
+        None => None,
     }
 }
 
-fn put_signed(out: &mut [u8], w: Put, v: OptionalSigned) -> Put
+fn put_signed(out: &mut [u8], w: Option<usize>, v: Option<i64>) -> Option<usize>
     ensures { Adds out.old w out.new result (optional_w signed_w (given_signed v)) }
 {
     match v {
-        OptionalSigned::Absent => formats_write::byte(out, w, 0),
-        OptionalSigned::Present(z) => {
+        None => formats_write::byte(out, w, 0),
+        Some(z) => {
             let q = formats_write::byte(out, w, 1);
             put_number(out, q, integers::to_zigzag(z))
         }
     }
 }
 
-fn put_delay(out: &mut [u8], w: Put, d: Delay) -> Put
+fn put_delay(out: &mut [u8], w: Option<usize>, d: Option<i32>) -> Option<usize>
     ensures { Adds out.old w out.new result (optional_w signed_w (maybe (view_delay d))) }
 {
     put_signed(out, w, from_delay(d))
 }
 
-fn put_time(out: &mut [u8], w: Put, t: Time) -> Put
+fn put_time(out: &mut [u8], w: Option<usize>, t: Option<i64>) -> Option<usize>
     ensures { Adds out.old w out.new result (optional_w signed_w (maybe (view_time t))) }
 {
     put_signed(out, w, from_time(t))
 }
 
-fn put_direction(out: &mut [u8], w: Put, d: Direction) -> Put
+fn put_direction(out: &mut [u8], w: Option<usize>, d: Option<u32>) -> Option<usize>
     ensures { Adds out.old w out.new result (optional_w number_w (maybe (view_direction d))) }
 {
     formats_write::optional_number(out, w, from_direction(d))
 }
 
 // Delay and time of an arrival or a departure.
-fn put_event(out: &mut [u8], w: Put, e: Event) -> Put
+fn put_event(out: &mut [u8], w: Option<usize>, e: Event) -> Option<usize>
     ensures { Adds out.old w out.new result (event_w (view_event e)) }
 {
     let delay = e.delay;
@@ -185,7 +182,7 @@ fn put_event(out: &mut [u8], w: Put, e: Event) -> Put
 }
 
 // A stop update that was read, at its sequence.
-fn put_update(out: &mut [u8], w: Put, sequence: u32, message: &[u8], u: StopUpdate) -> Put
+fn put_update(out: &mut [u8], w: Option<usize>, sequence: u32, message: &[u8], u: StopUpdate) -> Option<usize>
     requires { PartInside (length message.now) u.stop }
     ensures { Adds out.old w out.new result
         (write (number32 & stop_update) (sequence, update_of (view_stop message.now u))) }
@@ -203,12 +200,12 @@ fn put_update(out: &mut [u8], w: Put, sequence: u32, message: &[u8], u: StopUpda
 // The stop update of the message that stands from `from` up to `to`, at its sequence.
 fn write_update(
     out: &mut [u8],
-    w: Put,
+    w: Option<usize>,
     sequence: u32,
     message: &[u8],
     from: usize,
     to: usize,
-) -> Put
+) -> Option<usize>
     requires { Readable stop_time_update message.now (from, to) }
     ensures { Adds out.old w out.new result
         (write (number32 & stop_update) (sequence, update_at message.now (from, to))) }
@@ -218,7 +215,7 @@ fn write_update(
 }
 
 // A trip's record up to its updates: delay, cancelled, start date, route, direction, start time.
-fn put_head(out: &mut [u8], w: Put, message: &[u8], t: Trip) -> Put
+fn put_head(out: &mut [u8], w: Option<usize>, message: &[u8], t: Trip) -> Option<usize>
     requires { TextsLie (length message.now) t }
     ensures { Adds out.old w out.new result (head_w (view_trip message.now t)) }
 {
@@ -236,7 +233,7 @@ fn put_head(out: &mut [u8], w: Put, message: &[u8], t: Trip) -> Put
 }
 
 // The updates of the first n lines.
-fn put_updates(out: &mut [u8], w: Put, updates: &[u32], n: usize, message: &[u8]) -> Put
+fn put_updates(out: &mut [u8], w: Option<usize>, updates: &[u32], n: usize, message: &[u8]) -> Option<usize>
     requires n_le_most_updates { (n ≤ most_updates) × (length updates.now ≡ updates_length) }
     requires all { All (λ x. Readable stop_time_update message.now x.1) (laid n updates.now) }
     ensures { Adds out.old w out.new result
@@ -255,7 +252,7 @@ fn put_updates(out: &mut [u8], w: Put, updates: &[u32], n: usize, message: &[u8]
 }
 
 // The record of the message's entity that stands from `from` up to `to`.
-fn write_record(out: &mut [u8], w: Put, message: &[u8], from: usize, to: usize) -> Put
+fn write_record(out: &mut [u8], w: Option<usize>, message: &[u8], from: usize, to: usize) -> Option<usize>
     requires message_len_bound { length message.now ≤ most_message }
     requires readable { Readable feed_entity message.now (from, to)
         × (crowded (record_at message.now (from, to)) ≡ false) }
@@ -272,7 +269,7 @@ fn write_record(out: &mut [u8], w: Put, message: &[u8], from: usize, to: usize) 
 }
 
 // The record at a place: made from the message, or copied from the old overlay.
-pub fn write_held(out: &mut [u8], w: Put, message: &[u8], old: &[u8], from: usize, to: usize) -> Put
+pub fn write_held(out: &mut [u8], w: Option<usize>, message: &[u8], old: &[u8], from: usize, to: usize) -> Option<usize>
     requires message_len_bound { length message.now ≤ most_message }
     requires fit { Fit message.now old.now (from, to)
         × (crowded (held_at message.now old.now (from, to)) ≡ false) }

@@ -1,8 +1,9 @@
 -- The groups of a number that follow the first, by the tests that the code makes. Assumes nothing.
+use Rattle.std.specs.Prelude.{Option, Some, None}
 use mathlib.Core.Bool.{Bool, true, false, cond}
 use mathlib.Core.Path.{◌≡◌, refl, sym, ap, ◌∙◌}
 use mathlib.Core.List.{List, [], ◌∷◌}
-use mathlib.Core.Option.{Option, none, some}
+use mathlib.Core.Option.{Option as LogicOption, none, some}
 use Prim.Native.Nat.{ℕ, zero, suc, ◌+◌, ◌-◌, ◌*◌, ◌^◌, ◌≤◌, ◌<◌}
 use native.Mathlib.Omega.{arith}
 use native.Mathlib.Nat.{mul-one, mul_assoc, mul-add, mul-le-mul_left}
@@ -15,8 +16,6 @@ use Rattle.formats.specs.Readers.{bind}
 use Rattle.formats.specs.Number.{groups_r}
 use Rattle.formats.specs.Promises.Number.{top, more_r, Rest}
 use Rattle.formats.specs.Promises.Outcome.{numbered}
-use Rattle.formats.specs.declared.Numeral.{Numeral}
-use Rattle.formats.specs.declared.Numeral.TheVariants.{Got, Bad}
 use Rattle.formats.proofs.Numbers.{place, opened}
 
 top_two : (k : ℕ) → 2 ≤ top k
@@ -36,9 +35,9 @@ onward k b n unit s l u = rw (le-ltb b 128 l, lt-ltb b 256 u) (go (groups_r k s)
         ≡ cond t none (some (n + unit * (b - 128) + unit * 128 * h, v))
     by true h v e = refl
     by false h v e = rw (ne_eqb (b - 128 + 128 * h) 0 (let z = eqb-false h 0 e in λ y. z (omega arith)))
-        (ap {B = Option (ℕ × List ℕ)} (λ x. some (x, v)) (value h))
+        (ap {B = LogicOption (ℕ × List ℕ)} (λ x. some (x, v)) (value h))
 
-    go : (o : Option (ℕ × List ℕ))
+    go : (o : LogicOption (ℕ × List ℕ))
         → bind (bind o (λ h t. cond (eqb h 0) none (some (b - 128 + 128 * h, t))))
         (λ h t. cond (eqb h 0) none (some (n + unit * h, t)))
         ≡ bind o (λ h t. cond (eqb h 0) none (some (n + unit * (b - 128) + unit * 128 * h, t)))
@@ -53,10 +52,10 @@ nothing zero n unit = refl
 nothing (suc k) n unit = refl
 
 module _ {s : List ℕ} {at low p n unit left : ℕ} (R : Rest s at low p n unit left) where
-  abbrev Answer : Numeral → Type 0
+  abbrev Answer : Option (ℕ × ℕ) → Type 0
   Answer r = r ≡ numbered s (more_r 8 low 128 (drop at s))
 
-  pub ends : length s ≤ p → Answer Bad
+  pub ends : length s ≤ p → Answer None
   ends h = rw (R.same, drop_of_length-le s h, nothing left n unit) refl
 
   -- all that is reckoned fits
@@ -99,21 +98,21 @@ module _ {s : List ℕ} {at low p n unit left : ℕ} (R : Rest s at low p n unit
 
   -- a byte is there
   module _ (h : p < length s) {b : ℕ} (e : b ≡ get_or s p 0) where
-    answers : {r : Numeral} → r ≡ numbered s (more_r left n unit (b ∷ drop (p + 1) s)) → Answer r
+    answers : {r : Option (ℕ × ℕ)} → r ≡ numbered s (more_r left n unit (b ∷ drop (p + 1) s)) → Answer r
     answers f = f ∙ sym (ap (numbered s) (R.same ∙ ap (more_r left n unit) (opened s p b h e)))
 
-    got_it : (m : ℕ) → Got m (p + 1) ≡ numbered s (some (m, drop (p + 1) s))
+    got_it : (m : ℕ) → Some (m, p + 1) ≡ numbered s (some (m, drop (p + 1) s))
     got_it m = rw (place s (p + 1) (omega arith)) refl
 
     -- the tenth
     module _ (z : left ≡ 0) where
-      pub last_good : b ≡ 1 → Answer (Got (n + unit) (p + 1))
+      pub last_good : b ≡ 1 → Answer (Some (n + unit, p + 1))
       last_good i = answers (rw (z, i, mul-one unit) (got_it (n + unit)))
 
-      pub last_bad : (b ≡ 1 → ⊥) → Answer Bad
+      pub last_bad : (b ≡ 1 → ⊥) → Answer None
       last_bad i = answers (rw z (go (eqb b 0) refl))
         where
-          go : (t : Bool) → eqb b 0 ≡ t → Bad ≡ numbered s (more_r 0 n unit (b ∷ drop (p + 1) s))
+          go : (t : Bool) → eqb b 0 ≡ t → None ≡ numbered s (more_r 0 n unit (b ∷ drop (p + 1) s))
           go true f = let j : b ≡ 0 = eqb-true b 0 f in rw j refl
           go false f = let j = eqb-false b 0 f in rw (le-ltb b 2 (omega arith)) refl
 
@@ -122,10 +121,10 @@ module _ {s : List ℕ} {at low p n unit left : ℕ} (R : Rest s at low p n unit
       earlier : left ≡ suc (left - 1)
       earlier = omega arith
 
-      pub zero_bad : b ≡ 0 → Answer Bad
+      pub zero_bad : b ≡ 0 → Answer None
       zero_bad i = answers (rw (earlier, i) refl)
 
-      pub one_good : b < 128 → (b ≡ 0 → ⊥) → Answer (Got (n + unit * b) (p + 1))
+      pub one_good : b < 128 → (b ≡ 0 → ⊥) → Answer (Some (n + unit * b, p + 1))
       one_good l i = answers (rw (earlier, lt-ltb b 128 l, ne_eqb b 0 i) (got_it (n + unit * b)))
 
       pub goes_on : 128 ≤ b → b < 256 → Rest s at low (p + 1) (n + unit * (b - 128)) (unit * 128) (left - 1)

@@ -1,7 +1,9 @@
 -- What the readers of numbers find, by the tests that the code makes.
+use Rattle.std.specs.Prelude.{Option, Some, None}
 use mathlib.Core.Path.{◌≡◌, refl, sym, ap, ◌∙◌}
+use Rattle.std.proofs.lemmas.Option.{some_pair_parts}
 use mathlib.Core.List.{List, ◌∷◌}
-use mathlib.Core.Option.{Option, none, some}
+use mathlib.Core.Option.{Option as LogicOption, none, some}
 use Prim.Native.Nat.{ℕ, zero, suc, ◌+◌, ◌-◌, ◌*◌, ◌^◌, ◌≤◌, ◌<◌}
 use native.Mathlib.Omega.{arith}
 use native.Mathlib.Nat.{pow-le-pow_right}
@@ -16,18 +18,16 @@ use Rattle.formats.specs.Promises.Number.{more_r}
 use Rattle.formats.specs.Laws.Number.{little_law}
 use Rattle.formats.specs.Laws.Outcome.{suffix}
 use Rattle.formats.specs.Promises.Outcome.{numbered}
-use Rattle.formats.specs.declared.Numeral.{Numeral}
-use Rattle.formats.specs.declared.Numeral.TheVariants.{Got, Bad}
 
 -- the place of a part is where it starts
 pub place : (s : List ℕ) (at : ℕ) → at ≤ length s → length s - length (drop at s) ≡ at
 place s at h = rw length-drop (omega arith)
 
 -- an answer taken apart
-bad_got : {C : Type 0} {n q : ℕ} → Bad ≡ Got n q → C
+bad_got : {C : Type 0} {n q : ℕ} → ◌≡◌ {A = Option (ℕ × ℕ)} None (Some (n, q)) → C
 bad_got e = absurd (let z : ◌≡◌ {A = ℕ} 0 1 = cc in omega arith)
 
-pub bad_none : (s : List ℕ) (o : Option (ℕ × List ℕ)) (r : Numeral) → r ≡ numbered s o → r ≡ Bad → o ≡ none
+pub bad_none : (s : List ℕ) (o : LogicOption (ℕ × List ℕ)) (r : Option (ℕ × ℕ)) → r ≡ numbered s o → r ≡ None → o ≡ none
 bad_none s none r e h = refl
 bad_none s (some x) r e h = bad_got (sym h ∙ e)
 
@@ -37,36 +37,37 @@ pub record NumberGot (r : Reader ℕ) (s : List ℕ) (at n q : ℕ) : Type 0 whe
   pub within : q ≤ length s
 
 module _ {w : ℕ → List ℕ} {r : Reader ℕ} {ok : ℕ → Type 0} (l : Law w r ok) (s : List ℕ) (at : ℕ) where
-  got_go : (o : Option (ℕ × List ℕ)) → r (drop at s) ≡ o → (n q : ℕ) → Got n q ≡ numbered s o → NumberGot r s at n q
+  got_go : (o : LogicOption (ℕ × List ℕ)) → r (drop at s) ≡ o → (n q : ℕ) → Some (n, q) ≡ numbered s o → NumberGot r s at n q
   got_go none e n q h = bad_got (sym h)
   got_go (some x) e n q h =
-      let i : n ≡ x.0 = cc in
-      let j : q ≡ length s - length x.1 = cc in
+      let k = some_pair_parts n x.0 q (length s - length x.1) h in
+      let i : n ≡ x.0 = k.0 in
+      let j : q ≡ length s - length x.1 = k.1 in
       record {
         reads = e
             ∙ rw (i, j)
-            (ap {B = Option (ℕ × List ℕ)} (λ t. some (x.0, t))
+            (ap {B = LogicOption (ℕ × List ℕ)} (λ t. some (x.0, t))
             (suffix at s (w x.0) x.1 (l.back (drop at s) x.0 x.1 e).0));
         within = rw j (omega arith);
       }
 
-  pub got : (n q : ℕ) (o : Numeral) → o ≡ numbered s (r (drop at s)) → o ≡ Got n q → NumberGot r s at n q
+  pub got : (n q : ℕ) (o : Option (ℕ × ℕ)) → o ≡ numbered s (r (drop at s)) → o ≡ Some (n, q) → NumberGot r s at n q
   got n q o e h = got_go (r (drop at s)) refl n q (sym h ∙ e)
 
   got_fits : (n q : ℕ) → NumberGot r s at n q → ok n
   got_fits n q f = (l.back (drop at s) n (drop q s) f.reads).1
 
-pub at_end : (s : List ℕ) (at : ℕ) → length s ≤ at → Bad ≡ numbered s (number_r (drop at s))
+pub at_end : (s : List ℕ) (at : ℕ) → length s ≤ at → None ≡ numbered s (number_r (drop at s))
 at_end s at h = rw (drop_of_length-le s h) refl
 
-pub little_end : (k : ℕ) (s : List ℕ) (at : ℕ) → (k ≡ 0 → ⊥) → length s ≤ at → Bad ≡ numbered s (little_r k (drop at s))
+pub little_end : (k : ℕ) (s : List ℕ) (at : ℕ) → (k ≡ 0 → ⊥) → length s ≤ at → None ≡ numbered s (little_r k (drop at s))
 little_end zero s at z h = absurd (z refl)
 little_end (suc k) s at z h = rw (drop_of_length-le s h) refl
 
-pub float_end : (s : List ℕ) (at : ℕ) → length s ≤ at → Bad ≡ numbered s (little_r 8 (drop at s))
+pub float_end : (s : List ℕ) (at : ℕ) → length s ≤ at → None ≡ numbered s (little_r 8 (drop at s))
 float_end s at h = little_end 8 s at (λ z. omega arith) h
 
-pub little_none : (k : ℕ) (s : List ℕ) (at : ℕ) → k ≡ 0 → at ≤ length s → Got 0 at ≡ numbered s (little_r k (drop at s))
+pub little_none : (k : ℕ) (s : List ℕ) (at : ℕ) → k ≡ 0 → at ≤ length s → Some (0, at) ≡ numbered s (little_r k (drop at s))
 little_none k s at z h = rw (z, place s at h) refl
 
 -- a byte is there
@@ -74,13 +75,13 @@ module _ (s : List ℕ) (at b : ℕ) (h : at < length s) (e : b ≡ get_or s at 
   pub opened : drop at s ≡ b ∷ drop (at + 1) s
   opened = rw (add-one, e) (drop-cons s at 0 h)
 
-  alone : Got b (at + 1) ≡ numbered s (some (b, drop (at + 1) s))
+  alone : Some (b, at + 1) ≡ numbered s (some (b, drop (at + 1) s))
   alone = rw (place s (at + 1) (omega arith)) refl
 
-  pub front_good : b < 128 → Got b (at + 1) ≡ numbered s (number_r (drop at s))
+  pub front_good : b < 128 → Some (b, at + 1) ≡ numbered s (number_r (drop at s))
   front_good l = rw (opened, lt-ltb b 128 l) alone
 
-  pub front_more : 128 ≤ b → b < 256 → (r : Numeral) → r ≡ numbered s (more_r 8 (b - 128) 128 (drop (at + 1) s))
+  pub front_more : 128 ≤ b → b < 256 → (r : Option (ℕ × ℕ)) → r ≡ numbered s (more_r 8 (b - 128) 128 (drop (at + 1) s))
       → r ≡ numbered s (number_r (drop at s))
   front_more l u r f =
       let g : number_r (drop at s) ≡ more_r 8 (b - 128) 128 (drop (at + 1) s) =
@@ -88,20 +89,20 @@ module _ (s : List ℕ) (at b : ℕ) (h : at < length s) (e : b ≡ get_or s at 
       f ∙ sym (ap (numbered s) g)
 
   -- another byte follows
-  module _ (k : ℕ) (z : k ≡ 0 → ⊥) (u : b < 256) (o : Numeral)
+  module _ (k : ℕ) (z : k ≡ 0 → ⊥) (u : b < 256) (o : Option (ℕ × ℕ))
       (r : o ≡ numbered s (little_r (k - 1) (drop (at + 1) s))) where
     next : little_r k (drop at s) ≡ bind (little_r (k - 1) (drop (at + 1) s)) (λ h t. some (b + 256 * h, t))
     next = let i : k ≡ suc (k - 1) = omega arith in ap (λ k. little_r k (drop at s)) i
         ∙ rw (opened, lt-ltb b 256 u) refl
 
-    pub little_bad : o ≡ Bad → Bad ≡ numbered s (little_r k (drop at s))
+    pub little_bad : o ≡ None → None ≡ numbered s (little_r k (drop at s))
     little_bad f = rw (next, bad_none s (little_r (k - 1) (drop (at + 1) s)) o r f) refl
 
-    module _ (n q : ℕ) (f : o ≡ Got n q) where
+    module _ (n q : ℕ) (f : o ≡ Some (n, q)) where
       others : NumberGot (little_r (k - 1)) s (at + 1) n q
       others = got (little_law (k - 1)) s (at + 1) n q o r f
 
-      pub little_good : Got (b + 256 * n) q ≡ numbered s (little_r k (drop at s))
+      pub little_good : Some (b + 256 * n, q) ≡ numbered s (little_r k (drop at s))
       little_good = rw (next, others.reads, place s q others.within) refl
 
       pub little_below : k ≤ 8 → n < 2 ^ 56

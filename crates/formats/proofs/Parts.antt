@@ -1,5 +1,6 @@
 -- What is read at a node, by the tests that an interpreter makes. It is said of the reading itself, so that each
 -- interpreter cites it, whatever it answers. Assumes nothing.
+use Rattle.std.specs.Prelude.{Option, Some, None}
 use mathlib.Core.Path.{◌≡◌, refl, ap}
 use mathlib.Core.List.{List, ◌∷◌}
 use mathlib.Core.Option.{none, some}
@@ -16,8 +17,6 @@ use Rattle.formats.specs.Laws.Number.{number_law}
 use Rattle.formats.specs.Format.{Format, choice, Value, write, read}
 use Rattle.formats.specs.Promises.Outcome.{element, numbered, format_at, leaf_format, tag_at}
 use Rattle.formats.specs.Laws.Format.{law, count_over}
-use Rattle.formats.specs.declared.Numeral.{Numeral}
-use Rattle.formats.specs.declared.Numeral.TheVariants.{Got, Bad}
 use Rattle.formats.proofs.Numbers.{opened, NumberGot, got, bad_none}
 use Rattle.formats.proofs.Nodes.{node_list, node_choice, node_pair, node_never, node_none}
 
@@ -33,11 +32,11 @@ pub tag_within : (s : List ℕ) (at c : ℕ) → c ≡ tag_at s at → c < 2 →
 tag_within s at c e l = omega (arith, (tag_at_fits s at c e l).0)
 
 -- a number was got
-pub count : (s : List ℕ) (at n p : ℕ) (o : Numeral) → o ≡ numbered s (number_r (drop at s)) → o ≡ Got n p
+pub count : (s : List ℕ) (at n p : ℕ) (o : Option (ℕ × ℕ)) → o ≡ numbered s (number_r (drop at s)) → o ≡ Some (n, p)
     → NumberGot number_r s at n p
 count s at n p o r e = got number_law s at n p o r e
 
-pub count_within : (s : List ℕ) (at n p : ℕ) (o : Numeral) → o ≡ numbered s (number_r (drop at s)) → o ≡ Got n p
+pub count_within : (s : List ℕ) (at n p : ℕ) (o : Option (ℕ × ℕ)) → o ≡ numbered s (number_r (drop at s)) → o ≡ Some (n, p)
     → p ≤ length s
 count_within s at n p o r e = (count s at n p o r e).within
 
@@ -54,11 +53,11 @@ module _ (kind a b : ℕ) (s : List ℕ) (at : ℕ) where
   pub no_value : kind ≡ 0 → read (leaf_format kind a b) (drop at s) ≡ none
   no_value e = rw e refl
 
-  pub no_float : kind ≡ 6 → (o : Numeral) → o ≡ numbered s (little_r 8 (drop at s)) → o ≡ Bad
+  pub no_float : kind ≡ 6 → (o : Option (ℕ × ℕ)) → o ≡ numbered s (little_r 8 (drop at s)) → o ≡ None
       → read (leaf_format kind a b) (drop at s) ≡ none
   no_float e o r h = rw (e, bad_none s (little_r 8 (drop at s)) o r h) refl
 
-module _ (a b : ℕ) (s : List ℕ) (at : ℕ) (o : Numeral) (r : o ≡ numbered s (number_r (drop at s))) where
+module _ (a b : ℕ) (s : List ℕ) (at : ℕ) (o : Option (ℕ × ℕ)) (r : o ≡ numbered s (number_r (drop at s))) where
   number_go : (kind : ℕ) → number_r (drop at s) ≡ none → 2 ≤ kind → kind ≤ 5
       → read (leaf_format kind a b) (drop at s) ≡ none
   number_go zero e l h = absurd (omega arith)
@@ -69,10 +68,10 @@ module _ (a b : ℕ) (s : List ℕ) (at : ℕ) (o : Numeral) (r : o ≡ numbered
   number_go (suc (suc (suc (suc (suc zero))))) e l h = rw e refl
   number_go (suc (suc (suc (suc (suc (suc k)))))) e l h = absurd (omega arith)
 
-  pub no_number : (kind : ℕ) → o ≡ Bad → Numbered kind → read (leaf_format kind a b) (drop at s) ≡ none
+  pub no_number : (kind : ℕ) → o ≡ None → Numbered kind → read (leaf_format kind a b) (drop at s) ≡ none
   no_number kind e k = number_go kind (bad_none s (number_r (drop at s)) o r e) k.low k.high
 
-  pub too_large : (n p : ℕ) → o ≡ Got n p → (kind : ℕ) → kind ≡ 4 → a < n
+  pub too_large : (n p : ℕ) → o ≡ Some (n, p) → (kind : ℕ) → kind ≡ 4 → a < n
       → read (leaf_format kind a b) (drop at s) ≡ none
   too_large n p e kind k l = rw (k, (count s at n p o r e).reads, lt-leb n a l) refl
 
@@ -125,11 +124,11 @@ module _ (depth : ℕ) (t : List ℕ) (n : ℕ) (s : List ℕ) (at : ℕ) where
 
   module _ (z : depth ≡ 0 → ⊥) (kind a b : ℕ)
       (ek : kind ≡ get_or t (4 * n + 0) 0) (ea : a ≡ get_or t (4 * n + 1) 0) (eb : b ≡ get_or t (4 * n + 2) 0) where
-    module _ (k : kind ≡ 8) (o : Numeral) (r : o ≡ numbered s (number_r (drop at s))) where
-      pub no_count : o ≡ Bad → read (format_at depth t n) (drop at s) ≡ none
+    module _ (k : kind ≡ 8) (o : Option (ℕ × ℕ)) (r : o ≡ numbered s (number_r (drop at s))) where
+      pub no_count : o ≡ None → read (format_at depth t n) (drop at s) ≡ none
       no_count e = rw (node_list depth t n z kind a b ek ea eb k, bad_none s (number_r (drop at s)) o r e) refl
 
-      pub too_many : (m p : ℕ) → o ≡ Got m p → length s - p < m → read (format_at depth t n) (drop at s) ≡ none
+      pub too_many : (m p : ℕ) → o ≡ Some (m, p) → length s - p < m → read (format_at depth t n) (drop at s) ≡ none
       too_many m p e l =
           rw (
             node_list depth t n z kind a b ek ea eb k,

@@ -1,7 +1,8 @@
 -- What the interpreter finds at each kind of node, by the tests that the code makes.
+use Rattle.std.specs.Prelude.{Option, Some, None}
 use mathlib.Core.Path.{◌≡◌, refl, sym, ap, ◌∙◌}
 use mathlib.Core.List.{List, ◌∷◌}
-use mathlib.Core.Option.{Option, none, some}
+use mathlib.Core.Option.{Option as LogicOption, none, some}
 use mathlib.Core.Logic.{inl, inr}
 use Prim.Native.Nat.{ℕ, zero, suc, ◌+◌, ◌-◌, ◌*◌, ◌≤◌, ◌<◌}
 use native.Mathlib.Omega.{arith}
@@ -15,10 +16,6 @@ use Rattle.formats.specs.Promises.Outcome.{element, numbered, skipped, skip_to, 
 use Rattle.formats.specs.Promises.Outcome.{tag_at}
 use Rattle.formats.specs.Laws.Format.{law}
 use Rattle.formats.specs.Laws.Outcome.{broken, at_place}
-use Rattle.formats.specs.declared.Numeral.{Numeral}
-use Rattle.formats.specs.declared.Numeral.TheVariants.{Got, Bad}
-use Rattle.formats.specs.declared.Skip.{Skip}
-use Rattle.formats.specs.declared.Skip.TheVariants.{At, Broken}
 use Rattle.formats.proofs.Numbers.{place, opened, NumberGot, got}
 use Rattle.formats.proofs.Parts.{count, Numbered, no_value, no_float, no_number, too_large, no_element, no_bytes}
 use Rattle.formats.proofs.Parts.{an_element, the_one, the_other, no_depth, no_count, too_many, no_tag, no_first}
@@ -26,27 +23,27 @@ use Rattle.formats.proofs.Parts.{no_kind}
 use Rattle.formats.proofs.Nodes.{node_leaf, node_list, node_choice, node_pair}
 
 -- nothing was read
-pub nothing : {A : Type 0} (s : List ℕ) {o : Option (A × List ℕ)} → o ≡ none → Broken ≡ skipped s o
+pub nothing : {A : Type 0} (s : List ℕ) {o : LogicOption (A × List ℕ)} → o ≡ none → None ≡ skipped s o
 nothing s e = sym (ap (skipped s) e)
 
 -- n bytes
 pub raw_good : (s : List ℕ) (at n : ℕ) → at ≤ length s
-    → n ≤ length s - at → At (at + n) ≡ skipped s (bytes_r n (drop at s))
+    → n ≤ length s - at → Some (at + n) ≡ skipped s (bytes_r n (drop at s))
 raw_good s at n h l =
-    rw (le-leb n (length (drop at s)) (rw length-drop l)) (ap At (rw (length-drop, length-drop) (omega arith)))
+    rw (le-leb n (length (drop at s)) (rw length-drop l)) (ap Some (rw (length-drop, length-drop) (omega arith)))
 
-pub raw_bad : (s : List ℕ) (at n : ℕ) → length s - at < n → Broken ≡ skipped s (bytes_r n (drop at s))
+pub raw_bad : (s : List ℕ) (at n : ℕ) → length s - at < n → None ≡ skipped s (bytes_r n (drop at s))
 raw_bad s at n l = rw (lt-leb n (length (drop at s)) (rw length-drop l)) refl
 
 -- a given byte
-pub given_end : (s : List ℕ) (at c : ℕ) → length s ≤ at → Broken ≡ skipped s (const_r c (drop at s))
+pub given_end : (s : List ℕ) (at c : ℕ) → length s ≤ at → None ≡ skipped s (const_r c (drop at s))
 given_end s at c h = rw (drop_of_length-le s h) refl
 
 module _ (s : List ℕ) (at b c : ℕ) (h : at < length s) (e : b ≡ get_or s at 0) where
-  pub given_good : b ≡ c → At (at + 1) ≡ skipped s (const_r c (drop at s))
+  pub given_good : b ≡ c → Some (at + 1) ≡ skipped s (const_r c (drop at s))
   given_good q = rw (opened s at b h e, eq-eqb b c q, place s (at + 1) (omega arith)) refl
 
-  pub given_bad : (b ≡ c → ⊥) → Broken ≡ skipped s (const_r c (drop at s))
+  pub given_bad : (b ≡ c → ⊥) → None ≡ skipped s (const_r c (drop at s))
   given_bad q = rw (opened s at b h e, ne_eqb b c q) refl
 
 -- a tag
@@ -58,42 +55,42 @@ tag_in s at b e h = rw (lt-ltb at (length s) h) e
 
 -- the kinds with no parts
 module _ (kind a : ℕ) (s : List ℕ) (at : ℕ) where
-  pub leaf_0 : kind ≡ 0 → Broken ≡ skip_to (leaf_format kind a 0) s at
+  pub leaf_0 : kind ≡ 0 → None ≡ skip_to (leaf_format kind a 0) s at
   leaf_0 e = nothing s (no_value kind a 0 s at e)
 
-  pub leaf_1 : kind ≡ 1 → at ≤ length s → At at ≡ skip_to (leaf_format kind a 0) s at
+  pub leaf_1 : kind ≡ 1 → at ≤ length s → Some at ≡ skip_to (leaf_format kind a 0) s at
   leaf_1 e h = rw (e, place s at h) refl
 
-  module _ (e : kind ≡ 6) (o : Numeral) (r : o ≡ numbered s (little_r 8 (drop at s))) where
-    pub leaf_6_bad : o ≡ Bad → Broken ≡ skip_to (leaf_format kind a 0) s at
+  module _ (e : kind ≡ 6) (o : Option (ℕ × ℕ)) (r : o ≡ numbered s (little_r 8 (drop at s))) where
+    pub leaf_6_bad : o ≡ None → None ≡ skip_to (leaf_format kind a 0) s at
     leaf_6_bad h = nothing s (no_float kind a 0 s at e o r h)
 
-    pub leaf_6 : (n p : ℕ) → o ≡ Got n p → At p ≡ skip_to (leaf_format kind a 0) s at
+    pub leaf_6 : (n p : ℕ) → o ≡ Some (n, p) → Some p ≡ skip_to (leaf_format kind a 0) s at
     leaf_6 n p h = let g = got (little_law 8) s at n p o r h in rw (e, g.reads, place s p g.within) refl
 
-  pub leaf_7 : (r : Skip) → r ≡ skipped s (const_r a (drop at s)) → kind ≡ 7 → r ≡ skip_to (leaf_format kind a 0) s at
+  pub leaf_7 : (r : Option ℕ) → r ≡ skipped s (const_r a (drop at s)) → kind ≡ 7 → r ≡ skip_to (leaf_format kind a 0) s at
   leaf_7 r h e = rw e h
 
-module _ (a : ℕ) (s : List ℕ) (at : ℕ) (o : Numeral) (r : o ≡ numbered s (number_r (drop at s))) where
-  pub leaf_bad : (kind : ℕ) → o ≡ Bad → Numbered kind → Broken ≡ skip_to (leaf_format kind a 0) s at
+module _ (a : ℕ) (s : List ℕ) (at : ℕ) (o : Option (ℕ × ℕ)) (r : o ≡ numbered s (number_r (drop at s))) where
+  pub leaf_bad : (kind : ℕ) → o ≡ None → Numbered kind → None ≡ skip_to (leaf_format kind a 0) s at
   leaf_bad kind e k = nothing s (no_number a 0 s at o r kind e k)
 
-  module _ (n p : ℕ) (e : o ≡ Got n p) where
+  module _ (n p : ℕ) (e : o ≡ Some (n, p)) where
     read_it : NumberGot number_r s at n p
     read_it = count s at n p o r e
 
-    pub leaf_4_over : (kind : ℕ) → kind ≡ 4 → a < n → Broken ≡ skip_to (leaf_format kind a 0) s at
+    pub leaf_4_over : (kind : ℕ) → kind ≡ 4 → a < n → None ≡ skip_to (leaf_format kind a 0) s at
     leaf_4_over kind k l = nothing s (too_large a 0 s at o r n p e kind k l)
 
-    pub leaf_4 : (kind : ℕ) → kind ≡ 4 → n ≤ a → At p ≡ skip_to (leaf_format kind a 0) s at
+    pub leaf_4 : (kind : ℕ) → kind ≡ 4 → n ≤ a → Some p ≡ skip_to (leaf_format kind a 0) s at
     leaf_4 kind k l = rw (k, read_it.reads, le-leb n a l, place s p read_it.within) refl
 
-    pub leaf_5 : (kind : ℕ) (x : Skip) → x ≡ skipped s (bytes_r n (drop p s)) → kind ≡ 5
+    pub leaf_5 : (kind : ℕ) (x : Option ℕ) → x ≡ skipped s (bytes_r n (drop p s)) → kind ≡ 5
         → x ≡ skip_to (leaf_format kind a 0) s at
     leaf_5 kind x f k = rw (k, read_it.reads) f
 
     pub leaf_23 : (kind : ℕ) → Numbered kind → (kind ≡ 4 → ⊥) → (kind ≡ 5 → ⊥)
-        → At p ≡ skip_to (leaf_format kind a 0) s at
+        → Some p ≡ skip_to (leaf_format kind a 0) s at
     leaf_23 zero k z₄ z₅ = absurd (omega (arith, k.low))
     leaf_23 (suc zero) k z₄ z₅ = absurd (omega (arith, k.low))
     leaf_23 (suc (suc zero)) k z₄ z₅ = rw (read_it.reads, place s p read_it.within) refl
@@ -103,32 +100,32 @@ module _ (a : ℕ) (s : List ℕ) (at : ℕ) (o : Numeral) (r : o ≡ numbered s
     leaf_23 (suc (suc (suc (suc (suc (suc m)))))) k z₄ z₅ = absurd (omega (arith, k.high))
 
 -- what a continuation makes of a value does not move the place
-moved : {A B : Type 0} (s : List ℕ) (f : A → B) (o : Option (A × List ℕ))
+moved : {A B : Type 0} (s : List ℕ) (f : A → B) (o : LogicOption (A × List ℕ))
     → skipped s o ≡ skipped s (bind o (λ a t. some (f a, t)))
 moved s f none = refl
 moved s f (some x) = refl
 
 -- the place that was passed to is in the whole
-at_in : (f : Format) (s : List ℕ) (o : Option (Value f × List ℕ)) (p : ℕ) → At p ≡ skipped s o → p ≤ length s
+at_in : (f : Format) (s : List ℕ) (o : LogicOption (Value f × List ℕ)) (p : ℕ) → Some p ≡ skipped s o → p ≤ length s
 at_in f s none p e = let z : ◌≡◌ {A = ℕ} 0 1 = cc in absurd (omega arith)
 at_in f s (some x) p e = let z : p ≡ length s - length x.1 = cc in omega arith
 
-pub passed_in : (f : Format) (s : List ℕ) (at p : ℕ) (r : Skip) → r ≡ skip_to f s at → r ≡ At p → p ≤ length s
+pub passed_in : (f : Format) (s : List ℕ) (at p : ℕ) (r : Option ℕ) → r ≡ skip_to f s at → r ≡ Some p → p ≤ length s
 passed_in f s at p r e h = at_in f s (read f (drop at s)) p (sym h ∙ e)
 
 -- n of one kind: what the whole loop finds is what is found from here on
-pub many_none : (f : Format) (s : List ℕ) (n at : ℕ) (x : Skip) → skip_many f n s at ≡ x → n ≤ 0 → at ≤ length s
-    → At at ≡ x
-many_none f s n at x i l h = let e : n ≡ 0 = omega arith in let j : At at ≡ skip_many f n s at =
+pub many_none : (f : Format) (s : List ℕ) (n at : ℕ) (x : Option ℕ) → skip_many f n s at ≡ x → n ≤ 0 → at ≤ length s
+    → Some at ≡ x
+many_none f s n at x i l h = let e : n ≡ 0 = omega arith in let j : Some at ≡ skip_many f n s at =
     rw (e, place s at h) refl in j ∙ i
 
-module _ (f : Format) (s : List ℕ) (n at : ℕ) (r : Skip) (e : r ≡ skip_to f s at) (l : 0 < n) (x : Skip)
+module _ (f : Format) (s : List ℕ) (n at : ℕ) (r : Option ℕ) (e : r ≡ skip_to f s at) (l : 0 < n) (x : Option ℕ)
     (i : skip_many f n s at ≡ x) where
-  pub many_bad : r ≡ Broken → Broken ≡ x
+  pub many_bad : r ≡ None → None ≡ x
   many_bad h = nothing s (no_element f s n at l (broken s (read f (drop at s)) (sym e ∙ h))) ∙ i
 
-  module _ (p : ℕ) (h : r ≡ At p) (k : at ≤ length s) where
-    pub many_flat : p ≤ at → Broken ≡ x
+  module _ (p : ℕ) (h : r ≡ Some p) (k : at ≤ length s) where
+    pub many_flat : p ≤ at → None ≡ x
     many_flat j =
         let y = at_place (law f) s at p (sym e ∙ h) in
         nothing s (no_bytes f s n at l p y.0 k (passed_in f s at p r e h) y.1 j) ∙ i
@@ -141,7 +138,7 @@ module _ (f : Format) (s : List ℕ) (n at : ℕ) (r : Skip) (e : r ≡ skip_to 
 
 -- the node at n of the table t
 module _ (depth : ℕ) (t : List ℕ) (n : ℕ) (s : List ℕ) (at : ℕ) where
-  pub pass_none : depth ≡ 0 → Broken ≡ skip_to (format_at depth t n) s at
+  pub pass_none : depth ≡ 0 → None ≡ skip_to (format_at depth t n) s at
   pass_none z = nothing s (no_depth depth t n s at z)
 
   module _ (z : depth ≡ 0 → ⊥) (kind a b : ℕ) (ek : kind ≡ get_or t (4 * n + 0) 0) (ea : a ≡ get_or t (4 * n + 1) 0)
@@ -157,26 +154,26 @@ module _ (depth : ℕ) (t : List ℕ) (n : ℕ) (s : List ℕ) (at : ℕ) where
     leaf_any (suc (suc (suc (suc (suc (suc (suc zero))))))) a b h = refl
     leaf_any (suc (suc (suc (suc (suc (suc (suc (suc k)))))))) a b h = absurd (omega arith)
 
-    pub pass_leaf : (r : Skip) → r ≡ skip_to (leaf_format kind a 0) s at → kind < 8
+    pub pass_leaf : (r : Option ℕ) → r ≡ skip_to (leaf_format kind a 0) s at → kind < 8
         → r ≡ skip_to (format_at depth t n) s at
     pass_leaf r e h = rw (node_leaf depth t n z kind a b ek ea eb h) (e ∙ leaf_any kind a b h)
 
     -- a list
-    module _ (k : kind ≡ 8) (o : Numeral) (r : o ≡ numbered s (number_r (drop at s))) where
-      pub list_bad : o ≡ Bad → Broken ≡ skip_to (format_at depth t n) s at
+    module _ (k : kind ≡ 8) (o : Option (ℕ × ℕ)) (r : o ≡ numbered s (number_r (drop at s))) where
+      pub list_bad : o ≡ None → None ≡ skip_to (format_at depth t n) s at
       list_bad e = nothing s (no_count depth t n s at z kind a b ek ea eb k o r e)
 
-      module _ (m p : ℕ) (e : o ≡ Got m p) where
-        pub list_over : length s - p < m → Broken ≡ skip_to (format_at depth t n) s at
+      module _ (m p : ℕ) (e : o ≡ Some (m, p)) where
+        pub list_over : length s - p < m → None ≡ skip_to (format_at depth t n) s at
         list_over l = nothing s (too_many depth t n s at z kind a b ek ea eb k o r m p e l)
 
-        pub list_good : (x : Skip) → x ≡ skip_many (format_at (depth - 1) t b) m s p
+        pub list_good : (x : Option ℕ) → x ≡ skip_many (format_at (depth - 1) t b) m s p
             → x ≡ skip_to (format_at depth t n) s at
         list_good x f = rw (node_list depth t n z kind a b ek ea eb k, (count s at m p o r e).reads) f
 
     -- a choice: byte 0 or byte 1
     module _ (k : kind ≡ 9) (c : ℕ) (e : c ≡ tag_at s at) where
-      pub choice_0 : c ≡ 0 → (x : Skip) → x ≡ skip_to (format_at (depth - 1) t a) s (at + 1)
+      pub choice_0 : c ≡ 0 → (x : Option ℕ) → x ≡ skip_to (format_at (depth - 1) t a) s (at + 1)
           → x ≡ skip_to (format_at depth t n) s at
       choice_0 i x f =
           let A = format_at (depth - 1) t a in
@@ -184,7 +181,7 @@ module _ (depth : ℕ) (t : List ℕ) (n : ℕ) (s : List ℕ) (at : ℕ) where
           rw (node_choice depth t n z kind a b ek ea eb k, the_one A B s at c e i)
           (f ∙ moved s inl (read A (drop (at + 1) s)))
 
-      pub choice_1 : c ≡ 1 → (x : Skip) → x ≡ skip_to (format_at (depth - 1) t b) s (at + 1)
+      pub choice_1 : c ≡ 1 → (x : Option ℕ) → x ≡ skip_to (format_at (depth - 1) t b) s (at + 1)
           → x ≡ skip_to (format_at depth t n) s at
       choice_1 i x f =
           let A = format_at (depth - 1) t a in
@@ -192,17 +189,17 @@ module _ (depth : ℕ) (t : List ℕ) (n : ℕ) (s : List ℕ) (at : ℕ) where
           rw (node_choice depth t n z kind a b ek ea eb k, the_other A B s at c e i)
           (f ∙ moved s inr (read B (drop (at + 1) s)))
 
-      pub choice_2 : (c ≡ 0 → ⊥) → (c ≡ 1 → ⊥) → Broken ≡ skip_to (format_at depth t n) s at
+      pub choice_2 : (c ≡ 0 → ⊥) → (c ≡ 1 → ⊥) → None ≡ skip_to (format_at depth t n) s at
       choice_2 i j = nothing s (no_tag depth t n s at z kind a b ek ea eb k c e i j)
 
     -- one after the other
-    module _ (k : kind ≡ 10) (r : Skip) (e : r ≡ skip_to (format_at (depth - 1) t a) s at) where
-      pub pair_bad : r ≡ Broken → Broken ≡ skip_to (format_at depth t n) s at
+    module _ (k : kind ≡ 10) (r : Option ℕ) (e : r ≡ skip_to (format_at (depth - 1) t a) s at) where
+      pub pair_bad : r ≡ None → None ≡ skip_to (format_at depth t n) s at
       pair_bad h =
           let none_read = broken s (read (format_at (depth - 1) t a) (drop at s)) (sym e ∙ h) in
           nothing s (no_first depth t n s at z kind a b ek ea eb k none_read)
 
-      pub pair_good : (p : ℕ) → r ≡ At p → (x : Skip) → x ≡ skip_to (format_at (depth - 1) t b) s p
+      pub pair_good : (p : ℕ) → r ≡ Some p → (x : Option ℕ) → x ≡ skip_to (format_at (depth - 1) t b) s p
           → x ≡ skip_to (format_at depth t n) s at
       pair_good p h x f =
           let y = at_place (law (format_at (depth - 1) t a)) s at p (sym e ∙ h) in
@@ -210,5 +207,5 @@ module _ (depth : ℕ) (t : List ℕ) (n : ℕ) (s : List ℕ) (at : ℕ) where
           (f ∙ moved s (λ v. (y.0, v)) (read (format_at (depth - 1) t b) (drop p s)))
 
     pub pass_never : 8 ≤ kind → (kind ≡ 8 → ⊥) → (kind ≡ 9 → ⊥) → (kind ≡ 10 → ⊥)
-        → Broken ≡ skip_to (format_at depth t n) s at
+        → None ≡ skip_to (format_at depth t n) s at
     pass_never l z₈ z₉ z₁₀ = nothing s (no_kind depth t n s at z kind a b ek ea eb l z₈ z₉ z₁₀)

@@ -44,45 +44,11 @@ pub mod kinds {
     pub const PARTS: u64 = LIST;
 }
 
-// What reading a number finds: the number and the place past it.
-#[derive(Drop)]
-pub enum Numeral {
-    Got(u64, usize),
-    Bad,
-}
-
-// What passing over a value finds: the place past it.
-#[derive(Drop)]
-pub enum Skip {
-    At(usize),
-    Broken,
-}
-
-// A number, or the bits of a float, that may be missing.
-#[derive(Clone, Copy)]
-pub enum OptionalNumber {
-    Absent,
-    Present(u64),
-}
-
-#[derive(Clone, Copy)]
-pub enum OptionalSigned {
-    Absent,
-    Present(i64),
-}
-
 // The bytes of a slice from `from` up to `to`.
 #[derive(Clone, Copy)]
 pub struct Span {
     pub from: usize,
     pub to: usize,
-}
-
-// A text of a slice that may be missing.
-#[derive(Drop)]
-pub enum OptionalText {
-    Absent,
-    Present(Span),
 }
 
 pub fn wide(b: u8) -> u64
@@ -93,7 +59,7 @@ pub fn wide(b: u8) -> u64
 
 // The number whose first group says `low`, by the groups at `at` that follow it: each counts for 128 times the one
 // before.
-fn more(s: &[u8], at: usize, low: u64) -> Numeral
+fn more(s: &[u8], at: usize, low: u64) -> Option<(u64, usize)>
     requires { low < 128 }
     ensures { result ≡ numbered s.now (more_r 8 low 128 (drop at s.now)) }
 {
@@ -105,93 +71,85 @@ fn more(s: &[u8], at: usize, low: u64) -> Numeral
         let b = wide(s[p]);
         if left == 0 {
             if b == 1 {
-                return Numeral::Got(n + unit, p + 1);
+                return Some((n + unit, p + 1));
             }
-            return Numeral::Bad;
+            return None;
         }
         if b < 128 {
             if b == 0 {
-                return Numeral::Bad;
+                return None;
             }
-            return Numeral::Got(n + unit * b, p + 1);
+            return Some((n + unit * b, p + 1));
         }
         n += unit * (b - 128);
         unit *= 128;
         left -= 1;
         p += 1;
     }
-    Numeral::Bad
+    None
 }
 
 // A number at `at`. Most have one group: that case stands in front, and is small enough to be put in place.
-pub fn number(s: &[u8], at: usize) -> Numeral
+pub fn number(s: &[u8], at: usize) -> Option<(u64, usize)>
     ensures { result ≡ numbered s.now (number_r (drop at s.now)) }
 {
     if s.len() <= at {
-        return Numeral::Bad;
+        return None;
     }
     let b = wide(s[at]);
     if b < 128 {
-        return Numeral::Got(b, at + 1);
+        return Some((b, at + 1));
     }
     more(s, at + 1, b - 128)
 }
 
 // A number of k whole bytes at `at`, low byte first.
-fn little(k: u32, s: &[u8], at: usize) -> Numeral
+fn little(k: u32, s: &[u8], at: usize) -> Option<(u64, usize)>
     requires { (k ≤ 8) × (at ≤ length s.now) }
     ensures { result ≡ numbered s.now (little_r k (drop at s.now)) }
 {
     if k == 0 {
-        return Numeral::Got(0, at);
+        return Some((0, at));
     }
     if s.len() <= at {
-        return Numeral::Bad;
+        return None;
     }
     let b = wide(s[at]);
     match little(k - 1, s, at + 1) {
-        Numeral::Got(h, next) => Numeral::Got(b + 256 * h, next),
-        Numeral::Bad => Numeral::Bad,
+        Some((h, next)) => Some((b + 256 * h, next)),
+        None => None,
     }
 }
 
 // The eight bytes of a float at `at`, as a number.
-pub fn float(s: &[u8], at: usize) -> Numeral
+pub fn float(s: &[u8], at: usize) -> Option<(u64, usize)>
     ensures { result ≡ numbered s.now (little_r 8 (drop at s.now)) }
 {
     if s.len() <= at {
-        return Numeral::Bad;
+        return None;
     }
     little(8, s, at)
 }
 
 // n bytes as they are
-pub fn raw(s: &[u8], at: usize, n: u64) -> Skip
+pub fn raw(s: &[u8], at: usize, n: u64) -> Option<usize>
     requires { at ≤ length s.now }
     ensures { result ≡ skipped s.now (bytes_r n (drop at s.now)) }
 {
     let left = s.len() - at;
     let m = n as usize;
-    if m <= left {
-        Skip::At(at + m)
-    } else {
-        Skip::Broken
-    }
+    if m <= left { Some(at + m) } else { None }
 }
 
 // one given byte
-pub fn given(s: &[u8], at: usize, c: u64) -> Skip
+pub fn given(s: &[u8], at: usize, c: u64) -> Option<usize>
     ensures { result ≡ skipped s.now (const_r c (drop at s.now)) }
 {
     if s.len() <= at {
-        return Skip::Broken;
+        return None;
     }
     let b = wide(s[at]);
-    if b == c {
-        Skip::At(at + 1)
-    } else {
-        Skip::Broken
-    }
+    if b == c { Some(at + 1) } else { None }
 }
 
 // word j of a node of a table, 0 past its end
@@ -221,48 +179,48 @@ pub fn tag(s: &[u8], at: usize) -> u64
 }
 
 // Past the value at `at` of a format that has no parts.
-fn leaf(kind: u64, a: u64, s: &[u8], at: usize) -> Skip
+fn leaf(kind: u64, a: u64, s: &[u8], at: usize) -> Option<usize>
     requires { (kind < 8) × (at ≤ length s.now) }
     ensures { result ≡ skip_to (leaf_format kind a 0) s.now at }
 {
     if kind == kinds::NEVER {
-        return Skip::Broken;
+        return None;
     }
     if kind == kinds::EMPTY {
-        return Skip::At(at);
+        return Some(at);
     }
     if kind == kinds::FLOAT {
-        let Numeral::Got(_, p) = float(s, at) else {
-            return Skip::Broken;
+        let Some((_, p)) = float(s, at) else {
+            return None;
         };
-        return Skip::At(p);
+        return Some(p);
     }
     if kind == kinds::CONSTANT {
         return given(s, at, a);
     }
-    let Numeral::Got(n, p) = number(s, at) else {
-        return Skip::Broken;
+    let Some((n, p)) = number(s, at) else {
+        return None;
     };
     if kind == kinds::SMALL {
         if a < n {
-            return Skip::Broken;
+            return None;
         }
-        return Skip::At(p);
+        return Some(p);
     }
     if kind == kinds::TEXT {
         return raw(s, p, n);
     }
-    Skip::At(p)
+    Some(p)
 }
 
 // Past the value at `at` of the format that the table has at `node`, `depth` levels deep at most.
 #[cycle(pass_pass_many)]
-pub fn pass(t: &[u64], depth: u32, node: u64, s: &[u8], at: usize) -> Skip
+pub fn pass(t: &[u64], depth: u32, node: u64, s: &[u8], at: usize) -> Option<usize>
     requires { at ≤ length s.now }
     ensures { result ≡ skip_to (format_at depth t.now node) s.now at }
 {
     if depth == 0 {
-        return Skip::Broken;
+        return None;
     }
     let d = depth - 1;
     let kind = word(t, node, 0);
@@ -272,11 +230,11 @@ pub fn pass(t: &[u64], depth: u32, node: u64, s: &[u8], at: usize) -> Skip
         return leaf(kind, a, s, at);
     }
     if kind == kinds::LIST {
-        let Numeral::Got(n, p) = number(s, at) else {
-            return Skip::Broken;
+        let Some((n, p)) = number(s, at) else {
+            return None;
         };
         if s.len() - p < n as usize {
-            return Skip::Broken;
+            return None;
         }
         return pass_many(t, d, b, n, s, p);
     }
@@ -288,34 +246,34 @@ pub fn pass(t: &[u64], depth: u32, node: u64, s: &[u8], at: usize) -> Skip
         if c == 1 {
             return pass(t, d, b, s, at + 1);
         }
-        return Skip::Broken;
+        return None;
     }
     if kind == kinds::PAIR {
-        let Skip::At(p) = pass(t, d, a, s, at) else {
-            return Skip::Broken;
+        let Some(p) = pass(t, d, a, s, at) else {
+            return None;
         };
         return pass(t, d, b, s, p);
     }
-    Skip::Broken
+    None
 }
 
 // Past n values of one format, each of a byte or more.
 #[cycle(pass_pass_many)]
-fn pass_many(t: &[u64], depth: u32, node: u64, n: u64, s: &[u8], at: usize) -> Skip
+fn pass_many(t: &[u64], depth: u32, node: u64, n: u64, s: &[u8], at: usize) -> Option<usize>
     requires { at ≤ length s.now }
     ensures { result ≡ skip_many (format_at depth t.now node) n s.now at }
 {
     let mut p = at;
     let mut left = n;
     while 0 < left {
-        let Skip::At(q) = pass(t, depth, node, s, p) else {
-            return Skip::Broken;
+        let Some(q) = pass(t, depth, node, s, p) else {
+            return None;
         };
         if q <= p {
-            return Skip::Broken;
+            return None;
         }
         p = q;
         left -= 1;
     }
-    Skip::At(p)
+    Some(p)
 }

@@ -10,49 +10,34 @@ ghost use Rattle.formats_check.specs.Promises.Checked.{Number, IfGot, Fine};
 ghost use Rattle.formats_check.specs.Laws.Climbing.{Spans, known, follows};
 ghost use Rattle.formats_check.specs.Laws.Walks.{Each};
 
-use formats::{Numeral, Skip};
-use slices::Order;
-
-// Where the bytes of a text stand.
-#[derive(Drop)]
-pub enum CheckedText {
-    At(usize, usize),
-    No,
-}
-
-// Where the bytes of an entry's key stand, and the place past the entry.
-#[derive(Drop)]
-pub enum Entry {
-    At(usize, usize, usize),
-    No,
-}
+use std::cmp::Ordering;
 
 // The class of printable texts, by the number that a table has for it.
 const PRINTABLE: u64 = 1;
 
 // A number at `at`, as a call: the compiler leaves it one, since more than one function makes it.
-pub fn number_long(s: &[u8], at: usize) -> Numeral
+pub fn number_long(s: &[u8], at: usize) -> Option<(u64, usize)>
     ensures { Number s.now at result }
 {
     formats::number(s, at)
 }
 
 // The same. Most have one group: that case stands in front, and is small enough to be put in place.
-pub fn number_at(s: &[u8], at: usize) -> Numeral
+pub fn number_at(s: &[u8], at: usize) -> Option<(u64, usize)>
     ensures { Number s.now at result }
 {
     if s.len() <= at {
-        return Numeral::Bad;
+        return None;
     }
     let b = formats::wide(s[at]);
     if b < 128 {
-        return Numeral::Got(b, at + 1);
+        return Some((b, at + 1));
     }
     number_long(s, at)
 }
 
 // The number of five groups at `at`; Bad where another stands there.
-fn five(s: &[u8], at: usize) -> Numeral
+fn five(s: &[u8], at: usize) -> Option<(u64, usize)>
     requires { at + 5 ≤ length s.now }
     ensures { IfGot s.now at result }
 {
@@ -62,29 +47,29 @@ fn five(s: &[u8], at: usize) -> Numeral
     let d = formats::wide(s[at + 3]);
     let e = formats::wide(s[at + 4]);
     if a < 128 {
-        return Numeral::Bad;
+        return None;
     }
     if b < 128 {
-        return Numeral::Bad;
+        return None;
     }
     if c < 128 {
-        return Numeral::Bad;
+        return None;
     }
     if d < 128 {
-        return Numeral::Bad;
+        return None;
     }
     if 128 <= e {
-        return Numeral::Bad;
+        return None;
     }
     if e == 0 {
-        return Numeral::Bad;
+        return None;
     }
     let n = a - 128 + 128 * (b - 128) + 16384 * (c - 128) + 2097152 * (d - 128) + 268435456 * e;
-    Numeral::Got(n, at + 5)
+    Some((n, at + 5))
 }
 
 // A number at `at`. Most instants have five groups: that case stands in front.
-pub fn number_five(s: &[u8], at: usize) -> Numeral
+pub fn number_five(s: &[u8], at: usize) -> Option<(u64, usize)>
     ensures { Number s.now at result }
 {
     if s.len() < 5 {
@@ -93,97 +78,97 @@ pub fn number_five(s: &[u8], at: usize) -> Numeral
     if s.len() - 5 < at {
         return number_at(s, at);
     }
-    let Numeral::Got(n, q) = five(s, at) else {
+    let Some((n, q)) = five(s, at) else {
         return number_at(s, at);
     };
-    Numeral::Got(n, q)
+    Some((n, q))
 }
 
 // A text of any bytes, at most `limit` of them, and where they stand.
-fn bytes_at(limit: u64, s: &[u8], at: usize) -> CheckedText
+fn bytes_at(limit: u64, s: &[u8], at: usize) -> Option<(usize, usize)>
     ensures { Spans limit any s.now at result }
 {
-    let Numeral::Got(n, p) = number_at(s, at) else {
-        return CheckedText::No;
+    let Some((n, p)) = number_at(s, at) else {
+        return None;
     };
     if limit < n {
-        return CheckedText::No;
+        return None;
     }
     let left = s.len() - p;
     let m = n as usize;
     if left < m {
-        return CheckedText::No;
+        return None;
     }
-    CheckedText::At(p, p + m)
+    Some((p, p + m))
 }
 
 // A text of a class, by the number that a table has for it, and where its bytes stand.
-pub fn text_at(class: u64, limit: u64, s: &[u8], at: usize) -> CheckedText
+pub fn text_at(class: u64, limit: u64, s: &[u8], at: usize) -> Option<(usize, usize)>
     ensures { Spans limit (class_of class) s.now at result }
 {
-    let CheckedText::At(a, e) = bytes_at(limit, s, at) else {
-        return CheckedText::No;
+    let Some((a, e)) = bytes_at(limit, s, at) else {
+        return None;
     };
     if formats_text::in_class(class, &s[a..e]) {
-        return CheckedText::At(a, e);
+        return Some((a, e));
     }
-    CheckedText::No
+    None
 }
 
-pub fn printable_at(limit: u64, s: &[u8], at: usize) -> CheckedText
+pub fn printable_at(limit: u64, s: &[u8], at: usize) -> Option<(usize, usize)>
     ensures { Spans limit printable s.now at result }
 {
     text_at(PRINTABLE, limit, s, at)
 }
 
-pub fn text(class: u64, limit: u64, s: &[u8], at: usize) -> Skip
+pub fn text(class: u64, limit: u64, s: &[u8], at: usize) -> Option<usize>
     ensures { Fine (text limit (class_of class)) s.now at result }
 {
     match text_at(class, limit, s, at) {
-        CheckedText::At(a, e) => Skip::At(e),
-        CheckedText::No => Skip::Broken,
+        Some((a, e)) => Some(e),
+        None => None,
     }
 }
 
-pub fn printable(limit: u64, s: &[u8], at: usize) -> Skip
+pub fn printable(limit: u64, s: &[u8], at: usize) -> Option<usize>
     ensures { Fine (text limit printable) s.now at result }
 {
     text(PRINTABLE, limit, s, at)
 }
 
-pub fn optional_text(class: u64, limit: u64, s: &[u8], at: usize) -> Skip
+pub fn optional_text(class: u64, limit: u64, s: &[u8], at: usize) -> Option<usize>
     ensures { Fine (optional (text limit (class_of class))) s.now at result }
 {
     if s.len() <= at {
-        return Skip::Broken;
+        return None;
     }
     let c = s[at];
     if c == 0 {
-        return Skip::At(at + 1);
+        return Some(at + 1);
     }
     if c == 1 {
         return text(class, limit, s, at + 1);
     }
-    Skip::Broken
+    None
 }
 
-pub fn optional_printable(limit: u64, s: &[u8], at: usize) -> Skip
+pub fn optional_printable(limit: u64, s: &[u8], at: usize) -> Option<usize>
     ensures { Fine (optional (text limit printable)) s.now at result }
 {
     optional_text(PRINTABLE, limit, s, at)
 }
 
 // A small number, at most `limit`.
-pub fn at_most(limit: u64, s: &[u8], at: usize) -> Skip
+pub fn at_most(limit: u64, s: &[u8], at: usize) -> Option<usize>
     ensures { Fine (small limit) s.now at result }
 {
-    let Numeral::Got(n, p) = number_at(s, at) else {
-        return Skip::Broken;
+    let Some((n, p)) = number_at(s, at) else {
+        return None;
     };
     if limit < n {
-        return Skip::Broken;
+        return None;
     }
-    Skip::At(p)
+    Some(p)
 }
 
 // Whether the key from a to e may follow the one from b to d.
@@ -195,47 +180,47 @@ pub fn follows(first: bool, s: &[u8], b: usize, d: usize, a: usize, e: usize) ->
         return true;
     }
     match slices::compare(&s[b..d], &s[a..e]) {
-        Order::Less => true,
-        Order::Same => false,
-        Order::More => false,
+        Ordering::Less => true,
+        Ordering::Equal => false,
+        Ordering::Greater => false,
     }
 }
 
 // n texts of printable bytes one after another.
-fn printables_from(n: u64, limit: u64, s: &[u8], at: usize) -> Skip
+fn printables_from(n: u64, limit: u64, s: &[u8], at: usize) -> Option<usize>
     requires { at ≤ length s.now }
     ensures { Each (text limit printable) n s.now at result }
 {
     let mut p = at;
     let mut left = n;
     while 0 < left {
-        let Skip::At(q) = printable(limit, s, p) else {
-            return Skip::Broken;
+        let Some(q) = printable(limit, s, p) else {
+            return None;
         };
         p = q;
         left -= 1;
     }
-    Skip::At(p)
+    Some(p)
 }
 
 // A list of at most `most` of them.
-pub fn printables(most: u64, limit: u64, s: &[u8], at: usize) -> Skip
+pub fn printables(most: u64, limit: u64, s: &[u8], at: usize) -> Option<usize>
     ensures { Fine (list most (text limit printable)) s.now at result }
 {
-    let Numeral::Got(n, p) = number_at(s, at) else {
-        return Skip::Broken;
+    let Some((n, p)) = number_at(s, at) else {
+        return None;
     };
     if most < n {
-        return Skip::Broken;
+        return None;
     }
     printables_from(n, limit, s, p)
 }
 
-pub fn float(s: &[u8], at: usize) -> Skip
+pub fn float(s: &[u8], at: usize) -> Option<usize>
     ensures { Fine float s.now at result }
 {
     match formats::float(s, at) {
-        Numeral::Got(n, p) => Skip::At(p),
-        Numeral::Bad => Skip::Broken,
+        Some((n, p)) => Some(p),
+        None => None,
     }
 }

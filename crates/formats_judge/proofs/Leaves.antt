@@ -1,7 +1,8 @@
 -- What the judge finds at a node that has no parts, by the tests that the code makes.
+use Rattle.std.specs.Prelude.{Option, Some, None}
 use mathlib.Core.Path.{◌≡◌, refl, sym, ap, ◌∙◌}
 use mathlib.Core.List.{List}
-use mathlib.Core.Option.{Option, none, some}
+use mathlib.Core.Option.{Option as LogicOption, none, some}
 use mathlib.Core.Bool.{◌&&◌}
 use Prim.Native.Nat.{ℕ, ◌+◌, ◌-◌, ◌≤◌, ◌<◌}
 use native.Mathlib.Omega.{arith}
@@ -13,73 +14,67 @@ use Rattle.formats.specs.Number.{number_r, little_r, zag}
 use Rattle.formats.specs.Laws.Number.{number_law, little_law}
 use Rattle.formats.specs.Format.{text}
 use Rattle.formats.specs.Promises.Outcome.{numbered, skipped, class_of, leaf_format}
-use Rattle.formats.specs.declared.Numeral.{Numeral}
-use Rattle.formats.specs.declared.Numeral.TheVariants.{Got, Bad}
-use Rattle.formats.specs.declared.Skip.{Skip}
-use Rattle.formats.specs.declared.Skip.TheVariants as skip
 use Rattle.formats.proofs.Numbers.{place, NumberGot, got}
 use Rattle.formats.proofs.Parts.{Numbered, no_value, no_float, no_number, too_large}
 use Rattle.formats_judge.proofs.Rules.{nothing}
 use Rattle.formats_judge.specs.Judged.{at_most, answer, verdict, judged, judge_to}
 use Rattle.formats_judge.specs.Promises.Judged.{text_answer}
 use Rattle.formats_judge.specs.Laws.Joins.{text_limit}
-use Rattle.formats_judge.specs.declared.Judge.{Judge}
-use Rattle.formats_judge.specs.declared.Judge.TheVariants.{At, Broken}
 
 -- an answer of `formats`, judged
-skip_both : {C : Type 0} {q : ℕ} → skip.Broken ≡ skip.At q → C
+skip_both : {C : Type 0} {q : ℕ} → None ≡ Some q → C
 skip_both e = absurd (let z : ◌≡◌ {A = ℕ} 0 1 = cc in omega arith)
 
-judged_bad : {A : Type 0} (p : A → ℕ) (s : List ℕ) (o : Option (A × List ℕ)) (r : Skip) → r ≡ skipped s o
-    → r ≡ skip.Broken → Broken ≡ judged p s o
+judged_bad : {A : Type 0} (p : A → ℕ) (s : List ℕ) (o : LogicOption (A × List ℕ)) (r : Option ℕ) → r ≡ skipped s o
+    → r ≡ None → None ≡ judged p s o
 judged_bad p s none r e h = refl
 judged_bad p s (some x) r e h = skip_both (sym h ∙ e)
 
-judged_good : {A : Type 0} (s : List ℕ) (o : Option (A × List ℕ)) (r : Skip) (q : ℕ) → r ≡ skipped s o → r ≡ skip.At q
-    → At q 0 ≡ judged (λ v. 0) s o
+judged_good : {A : Type 0} (s : List ℕ) (o : LogicOption (A × List ℕ)) (r : Option ℕ) (q : ℕ) → r ≡ skipped s o → r ≡ Some q
+    → Some (q, 0) ≡ judged (λ v. 0) s o
 judged_good s none r q e h = skip_both (sym e ∙ h)
-judged_good s (some x) r q e h = let i : q ≡ length s - length x.1 = cc in ap (λ n. At n 0) i
+judged_good s (some x) r q e h = let i : q ≡ length s - length x.1 = cc in ap (λ n. Some (n, 0)) i
 
 module _ (kind a b : ℕ) (s : List ℕ) (at : ℕ) where
-  pub leaf_0 : kind ≡ 0 → Broken ≡ judge_to (leaf_format kind a b) s at
+  pub leaf_0 : kind ≡ 0 → None ≡ judge_to (leaf_format kind a b) s at
   leaf_0 e = nothing (verdict (leaf_format kind a b)) s (no_value kind a b s at e)
 
-  pub leaf_1 : kind ≡ 1 → at ≤ length s → At at 0 ≡ judge_to (leaf_format kind a b) s at
+  pub leaf_1 : kind ≡ 1 → at ≤ length s → Some (at, 0) ≡ judge_to (leaf_format kind a b) s at
   leaf_1 e h = rw (e, place s at h) refl
 
-  module _ (e : kind ≡ 6) (o : Numeral) (r : o ≡ numbered s (little_r 8 (drop at s))) where
-    pub leaf_6_bad : o ≡ Bad → Broken ≡ judge_to (leaf_format kind a b) s at
+  module _ (e : kind ≡ 6) (o : Option (ℕ × ℕ)) (r : o ≡ numbered s (little_r 8 (drop at s))) where
+    pub leaf_6_bad : o ≡ None → None ≡ judge_to (leaf_format kind a b) s at
     leaf_6_bad h = nothing (verdict (leaf_format kind a b)) s (no_float kind a b s at e o r h)
 
-    pub leaf_6 : (n p : ℕ) → o ≡ Got n p → At p 0 ≡ judge_to (leaf_format kind a b) s at
+    pub leaf_6 : (n p : ℕ) → o ≡ Some (n, p) → Some (p, 0) ≡ judge_to (leaf_format kind a b) s at
     leaf_6 n p h = let g = got (little_law 8) s at n p o r h in rw (e, g.reads, place s p g.within) refl
 
-  module _ (e : kind ≡ 7) (r : Skip) (h : r ≡ skipped s (const_r a (drop at s))) where
-    pub leaf_7_bad : r ≡ skip.Broken → Broken ≡ judge_to (leaf_format kind a b) s at
+  module _ (e : kind ≡ 7) (r : Option ℕ) (h : r ≡ skipped s (const_r a (drop at s))) where
+    pub leaf_7_bad : r ≡ None → None ≡ judge_to (leaf_format kind a b) s at
     leaf_7_bad k = rw e (judged_bad (λ v. 0) s (const_r a (drop at s)) r h k)
 
-    pub leaf_7 : (q : ℕ) → r ≡ skip.At q → At q 0 ≡ judge_to (leaf_format kind a b) s at
+    pub leaf_7 : (q : ℕ) → r ≡ Some q → Some (q, 0) ≡ judge_to (leaf_format kind a b) s at
     leaf_7 q k = rw e (judged_good s (const_r a (drop at s)) r q h k)
 
-module _ (a b : ℕ) (s : List ℕ) (at : ℕ) (o : Numeral) (r : o ≡ numbered s (number_r (drop at s))) where
-  pub leaf_bad : (kind : ℕ) → o ≡ Bad → Numbered kind → Broken ≡ judge_to (leaf_format kind a b) s at
+module _ (a b : ℕ) (s : List ℕ) (at : ℕ) (o : Option (ℕ × ℕ)) (r : o ≡ numbered s (number_r (drop at s))) where
+  pub leaf_bad : (kind : ℕ) → o ≡ None → Numbered kind → None ≡ judge_to (leaf_format kind a b) s at
   leaf_bad kind e k = nothing (verdict (leaf_format kind a b)) s (no_number a b s at o r kind e k)
 
-  module _ (n p : ℕ) (e : o ≡ Got n p) (kind : ℕ) where
+  module _ (n p : ℕ) (e : o ≡ Some (n, p)) (kind : ℕ) where
     number : NumberGot number_r s at n p
     number = got number_law s at n p o r e
 
-    pub leaf_2 : (y : ℕ) → y ≡ answer 6 (leb a n && leb n b) → kind ≡ 2 → At p y ≡ judge_to (leaf_format kind a b) s at
-    leaf_2 y f k = rw (k, number.reads, place s p number.within) (ap (At p) f)
+    pub leaf_2 : (y : ℕ) → y ≡ answer 6 (leb a n && leb n b) → kind ≡ 2 → Some (p, y) ≡ judge_to (leaf_format kind a b) s at
+    leaf_2 y f k = rw (k, number.reads, place s p number.within) (ap (λ other. Some (p, other)) f)
 
     pub leaf_3 : (y : ℕ) → y ≡ answer 6 (at_most (zag a) (zag n) && at_most (zag n) (zag b)) → kind ≡ 3
-        → At p y ≡ judge_to (leaf_format kind a b) s at
-    leaf_3 y f k = rw (k, number.reads, place s p number.within) (ap (At p) f)
+        → Some (p, y) ≡ judge_to (leaf_format kind a b) s at
+    leaf_3 y f k = rw (k, number.reads, place s p number.within) (ap (λ other. Some (p, other)) f)
 
-    pub leaf_4_over : kind ≡ 4 → a < n → Broken ≡ judge_to (leaf_format kind a b) s at
+    pub leaf_4_over : kind ≡ 4 → a < n → None ≡ judge_to (leaf_format kind a b) s at
     leaf_4_over k l = nothing (verdict (leaf_format kind a b)) s (too_large a b s at o r n p e kind k l)
 
-    pub leaf_4 : kind ≡ 4 → n ≤ a → At p 0 ≡ judge_to (leaf_format kind a b) s at
+    pub leaf_4 : kind ≡ 4 → n ≤ a → Some (p, 0) ≡ judge_to (leaf_format kind a b) s at
     leaf_4 k l = rw (k, number.reads, le-leb n a l, place s p number.within) refl
 
 -- what is left of the kinds is a text
@@ -88,25 +83,25 @@ is_text kind k z₂ z₃ z₄ = omega (arith, k.low, k.high)
 
 -- the bytes of a text
 module _ (g : List ℕ → ℕ) (s : List ℕ) (p n : ℕ) where
-  pub bytes_over : length s - p < n → Broken ≡ judged g s (bytes_r n (drop p s))
+  pub bytes_over : length s - p < n → None ≡ judged g s (bytes_r n (drop p s))
   bytes_over l = rw (lt-leb n (length (drop p s)) (rw length-drop l)) refl
 
   pub bytes_good : p ≤ length s → n ≤ length s - p → (y : ℕ) → y ≡ g (take (p + n - p) (drop p s))
-      → At (p + n) y ≡ judged g s (bytes_r n (drop p s))
+      → Some (p + n, y) ≡ judged g s (bytes_r n (drop p s))
   bytes_good h l y e =
       let i : p + n - p ≡ n = omega arith in
       let j : length s - length (drop n (drop p s)) ≡ p + n = rw (length-drop, length-drop) (omega arith) in
-      rw (le-leb n (length (drop p s)) (rw length-drop l), j) (ap (At (p + n)) (rw i at e))
+      rw (le-leb n (length (drop p s)) (rw length-drop l), j) (ap (λ other. Some (p + n, other)) (rw i at e))
 
-pub leaf_5 : (a b : ℕ) (s : List ℕ) (at : ℕ) (o : Numeral) → o ≡ numbered s (number_r (drop at s)) → (n p : ℕ)
-    → o ≡ Got n p
+pub leaf_5 : (a b : ℕ) (s : List ℕ) (at : ℕ) (o : Option (ℕ × ℕ)) → o ≡ numbered s (number_r (drop at s)) → (n p : ℕ)
+    → o ≡ Some (n, p)
     → (kind : ℕ) → Numbered kind → (kind ≡ 2 → ⊥) → (kind ≡ 3 → ⊥) → (kind ≡ 4 → ⊥)
-    → (x : Judge) → x ≡ judged (text_answer a (class_of b)) s (bytes_r n (drop p s))
+    → (x : Option (ℕ × ℕ)) → x ≡ judged (text_answer a (class_of b)) s (bytes_r n (drop p s))
     → x ≡ judge_to (leaf_format kind a b) s at
 leaf_5 a b s at o r n p e kind k z₂ z₃ z₄ x f =
     rw (is_text kind k z₂ z₃ z₄, (got number_law s at n p o r e).reads) (f ∙ alike (bytes_r n (drop p s)))
   where
-    alike : (y : Option (List ℕ × List ℕ))
+    alike : (y : LogicOption (List ℕ × List ℕ))
         → judged (text_answer a (class_of b)) s y ≡ judged (verdict (text a (class_of b))) s y
     alike none = refl
-    alike (some y) = ap (At (length s - length y.1)) (sym (text_limit a (class_of b) y.0))
+    alike (some y) = ap (λ other. Some (length s - length y.1, other)) (sym (text_limit a (class_of b) y.0))

@@ -1,4 +1,5 @@
 -- The questions on numbers, counts and texts, by the tests that the code makes.
+use Rattle.std.specs.Prelude.{None}
 use mathlib.Core.Path.{◌≡◌, refl, sym, ap, ◌∙◌}
 use mathlib.Core.List.{List}
 use mathlib.Core.Option.{Option, none}
@@ -9,11 +10,10 @@ use lib.Dec.{leb}
 use borrow.Author.Tests.{le-leb, lt-leb, eq-eqb, ne_eqb}
 use Rattle.formats.specs.Number.{zag}
 use Rattle.formats_judge.specs.Judged.{at_most, answer, judged}
-use Rattle.formats_judge.specs.declared.Judge.TheVariants.{Broken}
 use Rattle.formats_judge.specs.Promises.Judged.{sooner}
 
 -- nothing was read
-pub nothing : {A : Type 0} (g : A → ℕ) (s : List ℕ) {o : Option (A × List ℕ)} → o ≡ none → Broken ≡ judged g s o
+pub nothing : {A : Type 0} (g : A → ℕ) (s : List ℕ) {o : Option (A × List ℕ)} → o ≡ none → None ≡ judged g s o
 nothing g s e = sym (ap (judged g s) e)
 
 pub sooner_none : (x y : ℕ) → y ≡ 0 → x ≡ sooner x y

@@ -1,14 +1,12 @@
 -- Believe: 01, Questions before work. Document 01's questions 5, 6 and 7 on a value of a format: one predicate with
 -- the question's number, and the verdict, the first that fails.
-use Rattle.std.specs.Prelude.{List, ◌⊎◌, Bool, true, false, cond, ◌&&◌, ℕ, ◌-◌, ℤ, pos, negsuc, length, drop, leb, eqb}
-use Rattle.std.proofs.Math.Option.{Option, none, some}
+use Rattle.std.specs.Prelude.{List, ◌⊎◌, Bool, true, false, cond, ◌&&◌, ℕ, ◌-◌, ℤ, pos, negsuc, length, drop, leb, eqb, Option, Some, None}
+use Rattle.std.proofs.Math.Option.{Option as LogicOption, none, some}
 use Rattle.std.proofs.Common.{inl, inr}
 use Rattle.formats.specs.Class.{in_class}
 use Rattle.basics.specs.Lists.{all}
 use Rattle.formats.specs.Format.{Format, never, empty, number, signed, small, text, float, constant, list, choice, ◌&◌}
 use Rattle.formats.specs.Format.{Value, read}
-use Rattle.formats_judge.specs.declared.Judge.{Judge}
-use Rattle.formats_judge.specs.declared.Judge.TheVariants.{At, Broken}
 
 abbrev pub at_most : ℤ → ℤ → Bool
 at_most (pos m) (pos n) = leb m n
@@ -51,9 +49,9 @@ abbrev pub verdict : (f : Format) → Value f → ℕ
 verdict f v = first_failing (ok 5 f v) (ok 6 f v) (ok 7 f v)
 
 -- what the judge answers: the place past the value, and its verdict
-abbrev pub judged : {A : Type 0} → (A → ℕ) → List ℕ → Option (A × List ℕ) → Judge
-judged p s none = Broken
-judged p s (some x) = At (length s - length x.1) (p x.0)
+abbrev pub judged : {A : Type 0} → (A → ℕ) → List ℕ → LogicOption (A × List ℕ) → Option (ℕ × ℕ)
+judged p s none = None
+judged p s (some x) = Some (length s - length x.1, p x.0)
 
-abbrev pub judge_to : Format → List ℕ → ℕ → Judge
+abbrev pub judge_to : Format → List ℕ → ℕ → Option (ℕ × ℕ)
 judge_to f s at = judged (verdict f) s (read f (drop at s))

@@ -8,14 +8,7 @@ ghost use Rattle.formats.specs.Promises.Outcome.{class_of, format_at, leaf_forma
 ghost use Rattle.formats_judge.specs.Judged.{at_most, answer, judged, judge_to};
 ghost use Rattle.formats_judge.specs.Promises.Judged.{text_answer, sooner, judge_many, judged_after};
 
-use formats::{Numeral, Skip, kinds};
-
-// Past a value, and its verdict: 0, or the first question that has the answer no; or no value.
-#[derive(Drop)]
-pub enum Judge {
-    At(usize, u32),
-    Broken,
-}
+use formats::kinds;
 
 fn sooner(x: u32, y: u32) -> u32
     ensures { result ≡ sooner x y }
@@ -87,7 +80,7 @@ pub fn text(limit: u64, c: u64, v: &[u8]) -> u32
 }
 
 // Past n bytes at `at`, judged as a text.
-fn bytes(limit: u64, c: u64, s: &[u8], at: usize, n: u64) -> Judge
+fn bytes(limit: u64, c: u64, s: &[u8], at: usize, n: u64) -> Option<(usize, u32)>
     requires { at ≤ length s.now }
     ensures { result ≡ judged (text_answer limit (class_of c)) s.now
         (bytes_r n (drop at s.now)) }
@@ -95,61 +88,61 @@ fn bytes(limit: u64, c: u64, s: &[u8], at: usize, n: u64) -> Judge
     let left = s.len() - at;
     let m = n as usize;
     if left < m {
-        return Judge::Broken;
+        return None;
     }
     let end = at + m;
-    Judge::At(end, text(limit, c, &s[at..end]))
+    Some((end, text(limit, c, &s[at..end])))
 }
 
 // Past the value at `at` of a format that has no parts.
-fn leaf(kind: u64, a: u64, b: u64, s: &[u8], at: usize) -> Judge
+fn leaf(kind: u64, a: u64, b: u64, s: &[u8], at: usize) -> Option<(usize, u32)>
     requires { (kind < 8) × (at ≤ length s.now) }
     ensures { result ≡ judge_to (leaf_format kind a b) s.now at }
 {
     if kind == kinds::NEVER {
-        return Judge::Broken;
+        return None;
     }
     if kind == kinds::EMPTY {
-        return Judge::At(at, 0);
+        return Some((at, 0));
     }
     if kind == kinds::FLOAT {
-        let Numeral::Got(_, q) = formats::float(s, at) else {
-            return Judge::Broken;
+        let Some((_, q)) = formats::float(s, at) else {
+            return None;
         };
-        return Judge::At(q, 0);
+        return Some((q, 0));
     }
     if kind == kinds::CONSTANT {
-        let Skip::At(q) = formats::given(s, at, a) else {
-            return Judge::Broken;
+        let Some(q) = formats::given(s, at, a) else {
+            return None;
         };
-        return Judge::At(q, 0);
+        return Some((q, 0));
     }
-    let Numeral::Got(n, p) = formats::number(s, at) else {
-        return Judge::Broken;
+    let Some((n, p)) = formats::number(s, at) else {
+        return None;
     };
     if kind == kinds::NUMBER {
-        return Judge::At(p, range(a, b, n));
+        return Some((p, range(a, b, n)));
     }
     if kind == kinds::SIGNED {
-        return Judge::At(p, signed_range(a, b, n));
+        return Some((p, signed_range(a, b, n)));
     }
     if kind == kinds::SMALL {
         if a < n {
-            return Judge::Broken;
+            return None;
         }
-        return Judge::At(p, 0);
+        return Some((p, 0));
     }
     bytes(a, b, s, p, n)
 }
 
 // Past the value at `at` of the format that the table has at `node`, `depth` levels deep at most.
 #[cycle(judge_many_judge_value)]
-pub fn judge_value(t: &[u64], depth: u32, node: u64, s: &[u8], at: usize) -> Judge
+pub fn judge_value(t: &[u64], depth: u32, node: u64, s: &[u8], at: usize) -> Option<(usize, u32)>
     requires { at ≤ length s.now }
     ensures { result ≡ judge_to (format_at depth t.now node) s.now at }
 {
     if depth == 0 {
-        return Judge::Broken;
+        return None;
     }
     let d = depth - 1;
     let kind = formats::word(t, node, 0);
@@ -159,11 +152,11 @@ pub fn judge_value(t: &[u64], depth: u32, node: u64, s: &[u8], at: usize) -> Jud
         return leaf(kind, a, b, s, at);
     }
     if kind == kinds::LIST {
-        let Numeral::Got(n, p) = formats::number(s, at) else {
-            return Judge::Broken;
+        let Some((n, p)) = formats::number(s, at) else {
+            return None;
         };
         if s.len() - p < n as usize {
-            return Judge::Broken;
+            return None;
         }
         return judge_many(t, d, b, n, s, p, count(a, n));
     }
@@ -175,23 +168,23 @@ pub fn judge_value(t: &[u64], depth: u32, node: u64, s: &[u8], at: usize) -> Jud
         if c == 1 {
             return judge_value(t, d, b, s, at + 1);
         }
-        return Judge::Broken;
+        return None;
     }
     if kind == kinds::PAIR {
-        let Judge::At(p, x) = judge_value(t, d, a, s, at) else {
-            return Judge::Broken;
+        let Some((p, x)) = judge_value(t, d, a, s, at) else {
+            return None;
         };
-        let Judge::At(q, y) = judge_value(t, d, b, s, p) else {
-            return Judge::Broken;
+        let Some((q, y)) = judge_value(t, d, b, s, p) else {
+            return None;
         };
-        return Judge::At(q, sooner(x, y));
+        return Some((q, sooner(x, y)));
     }
-    Judge::Broken
+    None
 }
 
 // Past n values of one format, each of a byte or more, after a verdict.
 #[cycle(judge_many_judge_value)]
-fn judge_many(t: &[u64], depth: u32, node: u64, n: u64, s: &[u8], at: usize, x: u32) -> Judge
+fn judge_many(t: &[u64], depth: u32, node: u64, n: u64, s: &[u8], at: usize, x: u32) -> Option<(usize, u32)>
     requires { at ≤ length s.now }
     ensures { result ≡ judged_after x (judge_many (format_at depth t.now node) n s.now at) }
 {
@@ -199,15 +192,15 @@ fn judge_many(t: &[u64], depth: u32, node: u64, n: u64, s: &[u8], at: usize, x: 
     let mut left = n;
     let mut found = x;
     while 0 < left {
-        let Judge::At(q, y) = judge_value(t, depth, node, s, p) else {
-            return Judge::Broken;
+        let Some((q, y)) = judge_value(t, depth, node, s, p) else {
+            return None;
         };
         if q <= p {
-            return Judge::Broken;
+            return None;
         }
         p = q;
         found = sooner(found, y);
         left -= 1;
     }
-    Judge::At(p, found)
+    Some((p, found))
 }

@@ -1,4 +1,6 @@
 -- What the readers answer where a value stands.
+use Rattle.std.proofs.lemmas.Option.{some_pair_parts}
+use Rattle.std.specs.Prelude.{Option, Some, None}
 use mathlib.Core.Path.{◌≡◌, sym, ap, ◌∙◌}
 use mathlib.Core.List.{List}
 use mathlib.Core.Logic.{inl, inr}
@@ -12,10 +14,6 @@ use Rattle.formats.specs.Format.{Format, number, signed, float, text, optional, 
 use Rattle.formats.specs.Number.{number_r, little_r, zag}
 use Rattle.formats.specs.Laws.Number.{zag_zig}
 use Rattle.formats.specs.Promises.Outcome.{skip_to, numbered, tag_at}
-use Rattle.formats.specs.declared.Numeral.{Numeral}
-use Rattle.formats.specs.declared.Numeral.TheVariants.{Got, Bad}
-use Rattle.formats.specs.declared.Skip.{Skip}
-use Rattle.formats.specs.declared.Skip.TheVariants.{At, Broken}
 use Rattle.formats.proofs.Numbers.{place}
 use Rattle.formats_read.specs.Promises.Fields.{Has, field_to}
 use Rattle.formats_read.specs.Laws.Here.{field, reads, passed, signed_here, text_here, choice_in, first, second}
@@ -27,44 +25,47 @@ module _ {f : Format} {s : List ℕ} {at q : ℕ} {v : Value f} (h : Here f s at
   pub in_s : length s < at → ⊥
   in_s l = omega (arith, h.forward, h.within)
 
-  pub past_none : {r : Skip} → r ≡ skip_to f s at → r ≡ Broken → ⊥
+  pub past_none : {r : Option ℕ} → r ≡ skip_to f s at → r ≡ None → ⊥
   past_none e b = let z = passed h in (let z : ◌≡◌ {A = ℕ} 0 1 = cc in omega arith)
 
-  pub past_at : {r : Skip} {p : ℕ} → r ≡ skip_to f s at → r ≡ At p → p ≡ q
+  pub past_at : {r : Option ℕ} {p : ℕ} → r ≡ skip_to f s at → r ≡ Some p → p ≡ q
   past_at e b = let z = passed h in cc
 
-  module _ (k : ℕ) (i : Has k f) {r : Skip} (e : r ≡ field_to k f s at) where
-    pub place_none : r ≡ Broken → ⊥
+  module _ (k : ℕ) (i : Has k f) {r : Option ℕ} (e : r ≡ field_to k f s at) where
+    pub place_none : r ≡ None → ⊥
     place_none b = let z = (field k f i h).2 in (let z : ◌≡◌ {A = ℕ} 0 1 = cc in omega arith)
 
-    pub place_at : {p : ℕ} → r ≡ At p → Field k f i s at q v p
+    pub place_at : {p : ℕ} → r ≡ Some p → Field k f i s at q v p
     place_at {p} b = let x = field k f i h in let z = x.2 in let w : x.0 ≡ p = cc in rw w at x.1
 
 -- a number
-module _ {s : List ℕ} {at : ℕ} {r : Numeral} (e : r ≡ numbered s (number_r (drop at s))) where
-  got : {n q : ℕ} → Here (number 0 0) s at q n → r ≡ Got n q
-  got {n} {q} h = e ∙ ap (numbered s) (reads h) ∙ ap (Got n) (place s q h.within)
+module _ {s : List ℕ} {at : ℕ} {r : Option (ℕ × ℕ)} (e : r ≡ numbered s (number_r (drop at s))) where
+  got : {n q : ℕ} → Here (number 0 0) s at q n → r ≡ Some (n, q)
+  got {n} {q} h = e ∙ ap (numbered s) (reads h) ∙ ap (λ other. Some (n, other)) (place s q h.within)
 
-  pub number_none : {a b : ℕ} → r ≡ Bad → ReadsNumber s at a b
+  pub number_none : {a b : ℕ} → r ≡ None → ReadsNumber s at a b
   number_none b = record {
     value = λ h. absurd (let z = got h in (let z : ◌≡◌ {A = ℕ} 0 1 = cc in omega arith));
     next = λ h. absurd (let z = got h in (let z : ◌≡◌ {A = ℕ} 0 1 = cc in omega arith));
   }
 
-  pub number_got : {m p : ℕ} → r ≡ Got m p → ReadsNumber s at m p
-  number_got b = record { value = λ h. let z = got h in cc; next = λ h. let z = got h in cc }
+  pub number_got : {m p : ℕ} → r ≡ Some (m, p) → ReadsNumber s at m p
+  number_got b = record {
+    value = λ h. (some_pair_parts _ _ _ _ (sym b ∙ got h)).0;
+    next = λ h. (some_pair_parts _ _ _ _ (sym b ∙ got h)).1;
+  }
 
 -- a float
-module _ {s : List ℕ} {at n q : ℕ} (h : Here float s at q n) {r : Numeral}
+module _ {s : List ℕ} {at n q : ℕ} (h : Here float s at q n) {r : Option (ℕ × ℕ)}
     (e : r ≡ numbered s (little_r 8 (drop at s))) where
-  bits : r ≡ Got n q
-  bits = e ∙ ap (numbered s) (reads h) ∙ ap (Got n) (place s q h.within)
+  bits : r ≡ Some (n, q)
+  bits = e ∙ ap (numbered s) (reads h) ∙ ap (λ other. Some (n, other)) (place s q h.within)
 
-  pub float_none : r ≡ Bad → ⊥
+  pub float_none : r ≡ None → ⊥
   float_none b = let z = bits in (let z : ◌≡◌ {A = ℕ} 0 1 = cc in omega arith)
 
-  pub float_got : {m p : ℕ} → r ≡ Got m p → m ≡ n
-  float_got b = let z = bits in cc
+  pub float_got : {m p : ℕ} → r ≡ Some (m, p) → m ≡ n
+  float_got b = (some_pair_parts _ _ _ _ (sym b ∙ bits)).0
 
 -- a signed number
 pub signed_is : {s : List ℕ} {at q n e : ℕ} {lo hi z : ℤ} → Here (signed lo hi) s at q z → ReadsNumber s at n e

@@ -11,10 +11,10 @@ ghost use Rattle.formats_read.specs.Promises.Here.{Here, Field};
 ghost use Rattle.formats_read.specs.Promises.Lists.{Reaches};
 ghost use Rattle.formats_read.specs.Promises.Reads.{ReadsNumber, ReadsText};
 
-use formats::{Numeral, OptionalNumber, OptionalSigned, Skip, Span, kinds};
+use formats::{Span, kinds};
 
 // Where the record's part from field k on begins.
-pub fn locate(t: &[u64], depth: u32, node: u64, k: u32, s: &[u8], at: usize) -> Skip
+pub fn locate(t: &[u64], depth: u32, node: u64, k: u32, s: &[u8], at: usize) -> Option<usize>
     requires { at ≤ length s.now }
     ensures { result ≡ field_to k (format_at depth t.now node) s.now at }
 {
@@ -24,23 +24,23 @@ pub fn locate(t: &[u64], depth: u32, node: u64, k: u32, s: &[u8], at: usize) -> 
     let mut j = k;
     while 0 < j {
         if d == 0 {
-            return Skip::Broken;
+            return None;
         }
         let kind = formats::word(t, n, 0);
         let a = formats::word(t, n, 1);
         let b = formats::word(t, n, 2);
         if kind != kinds::PAIR {
-            return Skip::Broken;
+            return None;
         }
-        let Skip::At(q) = formats::pass(t, d - 1, a, s, p) else {
-            return Skip::Broken;
+        let Some(q) = formats::pass(t, d - 1, a, s, p) else {
+            return None;
         };
         p = q;
         n = b;
         d -= 1;
         j -= 1;
     }
-    Skip::At(p)
+    Some(p)
 }
 
 // The place of field k of the record at `at`.
@@ -52,7 +52,7 @@ pub fn place(t: &[u64], depth: u32, node: u64, k: u32, s: &[u8], at: usize) -> u
     if s.len() < at {
         return 0;
     }
-    let Skip::At(q) = locate(t, depth, node, k, s, at) else {
+    let Some(q) = locate(t, depth, node, k, s, at) else {
         return 0;
     };
     q
@@ -66,7 +66,7 @@ pub fn past(t: &[u64], depth: u32, node: u64, s: &[u8], at: usize) -> usize
     if s.len() < at {
         return 0;
     }
-    let Skip::At(q) = formats::pass(t, depth, node, s, at) else {
+    let Some(q) = formats::pass(t, depth, node, s, at) else {
         return 0;
     };
     q
@@ -96,7 +96,7 @@ pub struct Numbered {
 pub fn number(s: &[u8], at: usize) -> Numbered
     ensures { ReadsNumber s.now at result.value result.next }
 {
-    let Numeral::Got(n, q) = formats::number(s, at) else {
+    let Some((n, q)) = formats::number(s, at) else {
         return Numbered { value: 0, next: 0 };
     };
     Numbered { value: n, next: q }
@@ -112,7 +112,7 @@ pub fn signed(s: &[u8], at: usize) -> i64
 pub fn float(s: &[u8], at: usize) -> u64
     ensures { (n q : ℕ) → Here float s.now at q n → result ≡ n }
 {
-    let Numeral::Got(n, _) = formats::float(s, at) else {
+    let Some((n, _)) = formats::float(s, at) else {
         return 0;
     };
     n
@@ -137,28 +137,28 @@ pub fn text(s: &[u8], at: usize) -> Span
     }
 }
 
-pub fn optional_number(s: &[u8], at: usize) -> OptionalNumber
+pub fn optional_number(s: &[u8], at: usize) -> Option<u64>
     ensures { (lo hi : ℕ) (v : Value (optional (number lo hi))) (q : ℕ)
         → Here (optional (number lo hi)) s.now at q v → given_number result ≡ v }
 {
     if s.len() <= at {
-        return OptionalNumber::Absent;
+        return None;
     }
     if formats::tag(s, at) == 1 {
-        return OptionalNumber::Present(number(s, at + 1).value);
+        return Some(number(s, at + 1).value);
     }
-    OptionalNumber::Absent
+    None
 }
 
-pub fn optional_signed(s: &[u8], at: usize) -> OptionalSigned
+pub fn optional_signed(s: &[u8], at: usize) -> Option<i64>
     ensures { (lo hi : ℤ) (v : Value (optional (signed lo hi))) (q : ℕ)
         → Here (optional (signed lo hi)) s.now at q v → given_signed result ≡ v }
 {
     if s.len() <= at {
-        return OptionalSigned::Absent;
+        return None;
     }
     if formats::tag(s, at) == 1 {
-        return OptionalSigned::Present(signed(s, at + 1));
+        return Some(signed(s, at + 1));
     }
-    OptionalSigned::Absent
+    None
 }

@@ -1,4 +1,5 @@
 -- What each writer adds, by the tests that the code makes.
+use Rattle.std.specs.Prelude.{Option, Some, None}
 use mathlib.Core.Path.{◌≡◌, refl, sym, ap, ◌∙◌}
 use mathlib.Core.List.{List, [], ◌∷◌}
 use mathlib.Core.Logic.{◌⊎◌, inl, inr}
@@ -14,20 +15,16 @@ use Rattle.formats_write.specs.Laws.Adds.{none, then, same}
 use Rattle.formats_write.specs.Promises.Adds.{Adds}
 use Rattle.formats_write.specs.Laws.Slices.{slice_is}
 use Rattle.formats_write.specs.Promises.Given.{optional_w, text_w, given_text, Inside}
-use Rattle.formats.specs.declared.OptionalText.{OptionalText}
-use Rattle.formats.specs.declared.OptionalText.TheVariants.{Present}
 use Rattle.formats.specs.declared.Span.{Span}
-use Rattle.formats_write.specs.declared.Put.{Put}
-use Rattle.formats_write.specs.declared.Put.TheVariants.{At, Full}
 
-at_full : {C : Type 0} {p : ℕ} → At p ≡ Full → C
+at_full : {C : Type 0} {p : ℕ} → Some p ≡ None → C
 at_full e = absurd (let z : ◌≡◌ {A = ℕ} 0 1 = cc in omega arith)
 
-at_at : {p q : ℕ} → At p ≡ At q → p ≡ q
+at_at : {p q : ℕ} → Some p ≡ Some q → p ≡ q
 at_at e = cc
 
 -- what was full stays full
-pub was_full : {l : List ℕ} {r : Put} {x : List ℕ} → r ≡ Full → Adds l r l Full x
+pub was_full : {l : List ℕ} {r : Option ℕ} {x : List ℕ} → r ≡ None → Adds l r l None x
 was_full e = record {
   size = refl;
   full = λ i. refl;
@@ -37,7 +34,7 @@ was_full e = record {
 }
 
 -- no room
-pub no_room : {l : List ℕ} {r : Put} {at : ℕ} (x : List ℕ) → r ≡ At at → length l < at + length x → Adds l r l Full x
+pub no_room : {l : List ℕ} {r : Option ℕ} {at : ℕ} (x : List ℕ) → r ≡ Some at → length l < at + length x → Adds l r l None x
 no_room {l} {r} {at} x e s = record {
   size = refl;
   full = λ i. refl;
@@ -47,21 +44,21 @@ no_room {l} {r} {at} x e s = record {
 }
 
 -- room for n bytes
-pub room : {l m : List ℕ} {r : Put} {at : ℕ} (n : ℕ) (x : List ℕ) → length x ≡ n → r ≡ At at → at + n ≤ length l
-    → m ≡ pasted l at x → Adds l r m (At (at + n)) x
+pub room : {l m : List ℕ} {r : Option ℕ} {at : ℕ} (n : ℕ) (x : List ℕ) → length x ≡ n → r ≡ Some at → at + n ≤ length l
+    → m ≡ pasted l at x → Adds l r m (Some (at + n)) x
 room {l} {m} {r} {at} n x c e s k = record {
   size = ap length (k ∙ sym (sets-eq x l at (omega arith))) ∙ length-sets l at x;
   full = λ i. at_full (sym e ∙ i);
-  next = λ p i h. let z : at ≡ p = at_at (sym e ∙ i) in ap At (omega arith);
+  next = λ p i h. let z : at ≡ p = at_at (sym e ∙ i) in ap Some (omega arith);
   holds = λ p i h. let z : at ≡ p = at_at (sym e ∙ i) in k ∙ ap (λ p. pasted l p x) z;
   over = λ p i h o. let z : at ≡ p = at_at (sym e ∙ i) in absurd (omega arith);
 }
 
-pub byte_in : {l : List ℕ} {r : Put} {at b : ℕ} → r ≡ At at → at < length l
-    → Adds l r (set l at b) (At (at + 1)) (b ∷ [])
+pub byte_in : {l : List ℕ} {r : Option ℕ} {at b : ℕ} → r ≡ Some at → at < length l
+    → Adds l r (set l at b) (Some (at + 1)) (b ∷ [])
 byte_in {l} {at} {b} e s = room 1 (b ∷ []) refl e (omega arith) (sets-eq (b ∷ []) l at (omega arith))
 
-pub byte_out : {l : List ℕ} {r : Put} {at b : ℕ} → r ≡ At at → length l ≤ at → Adds l r l Full (b ∷ [])
+pub byte_out : {l : List ℕ} {r : Option ℕ} {at b : ℕ} → r ≡ Some at → length l ≤ at → Adds l r l None (b ∷ [])
 byte_out {b} e s = no_room (b ∷ []) e (omega arith)
 
 -- groups of seven bits
@@ -84,57 +81,57 @@ another_fits (suc k) n h l = let e : suc k - 1 ≡ k = omega arith in rw e (omeg
 pub fewer : (k n t : ℕ) → 128 ≤ n → n < top k → k ≡ t → k - 1 < t
 fewer k n t h u e = omega (arith, another k n h u)
 
-pub group_one : {l m : List ℕ} {r q : Put} {b : ℕ} (k n : ℕ) → Adds l r m q (b ∷ []) → n < 128 → b ≡ n
+pub group_one : {l m : List ℕ} {r q : Option ℕ} {b : ℕ} (k n : ℕ) → Adds l r m q (b ∷ []) → n < 128 → b ≡ n
     → Adds l r m q (groups_w k n)
 group_one k n f h e = same f (rw e (sym (one_group k n h)))
 
-pub group_more : {l m o : List ℕ} {r q p : Put} {b : ℕ} (k n : ℕ) → Adds l r m q (b ∷ [])
+pub group_more : {l m o : List ℕ} {r q p : Option ℕ} {b : ℕ} (k n : ℕ) → Adds l r m q (b ∷ [])
     → Adds m q o p (groups_w (k - 1) (n / 128)) → 128 ≤ n → n < top k → b ≡ 128 + n % 128
     → Adds l r o p (groups_w k n)
 group_more k n f g h u e = same (then f g) (rw e (sym (more_groups k n h (another k n h u))))
 
 -- bytes, low first
-pub little_none : {l : List ℕ} {r : Put} (k n : ℕ) → k ≡ 0 → Adds l r l r (little_w k n)
+pub little_none : {l : List ℕ} {r : Option ℕ} (k n : ℕ) → k ≡ 0 → Adds l r l r (little_w k n)
 little_none k n e = rw e none
 
-pub little_more : {l m o : List ℕ} {r q p : Put} {b : ℕ} (k n : ℕ) → (k ≡ 0 → ⊥) → Adds l r m q (b ∷ [])
+pub little_more : {l m o : List ℕ} {r q p : Option ℕ} {b : ℕ} (k n : ℕ) → (k ≡ 0 → ⊥) → Adds l r m q (b ∷ [])
     → Adds m q o p (little_w (k - 1) (n / 256)) → b ≡ n % 256 → Adds l r o p (little_w k n)
 little_more zero n z f g e = absurd (z refl)
 little_more (suc k) n z f g e = let i : suc k - 1 ≡ k = omega arith in same (then f g) (rw (i, e) refl)
 
 -- a stretch
-module _ {l : List ℕ} {r : Put} {at : ℕ} (s : List ℕ) (a e : ℕ) (i : r ≡ At at) (h : a ≤ e) (k : e ≤ length s) where
-  pub stretch_past : length l < at → Adds l r l Full (slice a e s)
+module _ {l : List ℕ} {r : Option ℕ} {at : ℕ} (s : List ℕ) (a e : ℕ) (i : r ≡ Some at) (h : a ≤ e) (k : e ≤ length s) where
+  pub stretch_past : length l < at → Adds l r l None (slice a e s)
   stretch_past o = no_room (slice a e s) i (omega arith)
 
-  pub stretch_out : at ≤ length l → length l - at < e - a → Adds l r l Full (slice a e s)
+  pub stretch_out : at ≤ length l → length l - at < e - a → Adds l r l None (slice a e s)
   stretch_out p o = no_room (slice a e s) i (omega (arith, length-slice a e s k))
 
   pub stretch_in : {m : List ℕ} → at ≤ length l → e - a ≤ length l - at → m ≡ pasted l at (take (e - a) (drop a s))
-      → Adds l r m (At (at + (e - a))) (slice a e s)
+      → Adds l r m (Some (at + (e - a))) (slice a e s)
   stretch_in p o j =
       room (e - a) (slice a e s) (length-slice a e s k) i (omega arith) (j ∙ ap (pasted l at) (slice_is a e s h k))
 
 -- a text
-pub text_is : {l m o : List ℕ} {r k j : Put} (s : List ℕ) (a e : ℕ) → a ≤ e → e ≤ length s
+pub text_is : {l m o : List ℕ} {r k j : Option ℕ} (s : List ℕ) (a e : ℕ) → a ≤ e → e ≤ length s
     → Adds l r m k (number_w (e - a)) → (a ≤ e → e ≤ length s → Adds m k o j (slice a e s))
     → Adds l r o j (text_w (slice a e s))
 text_is s a e h k f g = then (same f (ap number_w (sym (length-slice a e s k)))) (g h k)
 
-pub as_number : {l m : List ℕ} {r q : Put} (n z : ℕ) → Adds l r m q (number_w n) → n ≡ z → Adds l r m q (number_w z)
+pub as_number : {l m : List ℕ} {r q : Option ℕ} (n z : ℕ) → Adds l r m q (number_w n) → n ≡ z → Adds l r m q (number_w z)
 as_number n z f e = same f (ap number_w e)
 
 -- an optional value
-module _ {B : Type 0} (w : B → List ℕ) {v : Unit {0} ⊎ B} {l m : List ℕ} {r q : Put} where
+module _ {B : Type 0} (w : B → List ℕ) {v : Unit {0} ⊎ B} {l m : List ℕ} {r q : Option ℕ} where
   pub absent_is : v ≡ inl tt → Adds l r m q (0 ∷ []) → Adds l r m q (optional_w w v)
   absent_is e f = rw e f
 
-  pub present_is : {o : List ℕ} {p : Put} (b : B) → v ≡ inr b → Adds l r m q (1 ∷ []) → Adds m q o p (w b)
+  pub present_is : {o : List ℕ} {p : Option ℕ} (b : B) → v ≡ inr b → Adds l r m q (1 ∷ []) → Adds m q o p (w b)
       → Adds l r o p (optional_w w v)
   present_is b e f g = rw e (then f g)
 
-pub present_text : (s : List ℕ) {v : OptionalText} {l m o : List ℕ} {r q p : Put} (t : Span) → v ≡ Present t
+pub present_text : (s : List ℕ) {v : Option Span} {l m o : List ℕ} {r q p : Option ℕ} (t : Span) → v ≡ Some t
     → Inside s v → Adds l r m q (1 ∷ [])
     → (t.from ≤ t.to → t.to ≤ length s → Adds m q o p (text_w (slice t.from t.to s)))
     → Adds l r o p (optional_w text_w (given_text s v))
-present_text s t e h f g = let k : Inside s (Present t) = rw e at h in rw e (then f (g k.0 k.1))
+present_text s t e h f g = let k : Inside s (Some t) = rw e at h in rw e (then f (g k.0 k.1))

@@ -12,15 +12,8 @@ ghost use Rattle.formats_write.specs.Promises.Adds.{Adds};
 ghost use Rattle.formats_write.specs.Promises.Given.{optional_w, given_number, given_signed, given_text, text_w};
 ghost use Rattle.formats_write.specs.Promises.Given.{Inside};
 
-use formats::{OptionalNumber, OptionalSigned, OptionalText};
 
-// The next place of an output; or what was to be written does not fit.
-#[derive(Clone, Copy)]
-pub enum Put {
-    At(usize),
-    Full,
-}
-
+use formats::Span;
 fn octet(n: u64) -> u8
     requires { n < 256 }
     ensures { result ≡ n }
@@ -28,21 +21,21 @@ fn octet(n: u64) -> u8
     n as u8
 }
 
-pub fn byte(out: &mut [u8], w: Put, b: u8) -> Put
+pub fn byte(out: &mut [u8], w: Option<usize>, b: u8) -> Option<usize>
     ensures { Adds out.old w out.new result (b ∷ []) }
 {
-    let Put::At(at) = w else {
-        return Put::Full;
+    let Some(at) = w else {
+        return None;
     };
     if at < out.len() {
         out[at] = b;
-        return Put::At(at + 1);
+        return Some(at + 1);
     }
-    Put::Full
+    None
 }
 
 // A number of at most k + 1 groups.
-fn groups(k: u32, out: &mut [u8], w: Put, n: u64) -> Put
+fn groups(k: u32, out: &mut [u8], w: Option<usize>, n: u64) -> Option<usize>
     requires { n < top k }
     ensures { Adds out.old w out.new result (groups_w k n) }
 {
@@ -53,20 +46,20 @@ fn groups(k: u32, out: &mut [u8], w: Put, n: u64) -> Put
     groups(k - 1, out, q, n / 128)
 }
 
-pub fn number(out: &mut [u8], w: Put, n: u64) -> Put
+pub fn number(out: &mut [u8], w: Option<usize>, n: u64) -> Option<usize>
     ensures { Adds out.old w out.new result (number_w n) }
 {
     groups(9, out, w, n)
 }
 
-pub fn signed(out: &mut [u8], w: Put, z: i64) -> Put
+pub fn signed(out: &mut [u8], w: Option<usize>, z: i64) -> Option<usize>
     ensures { Adds out.old w out.new result (number_w (zig z)) }
 {
     number(out, w, integers::to_zigzag(z))
 }
 
 // The low k bytes of n, low first.
-fn little(k: u32, out: &mut [u8], w: Put, n: u64) -> Put
+fn little(k: u32, out: &mut [u8], w: Option<usize>, n: u64) -> Option<usize>
     ensures { Adds out.old w out.new result (little_w k n) }
 {
     if k == 0 {
@@ -77,68 +70,68 @@ fn little(k: u32, out: &mut [u8], w: Put, n: u64) -> Put
 }
 
 // A float, given by its 64 bits.
-pub fn float(out: &mut [u8], w: Put, bits: u64) -> Put
+pub fn float(out: &mut [u8], w: Option<usize>, bits: u64) -> Option<usize>
     ensures { Adds out.old w out.new result (little_w 8 bits) }
 {
     little(8, out, w, bits)
 }
 
 // The bytes of s from `from` up to `to`: of a value that stands there, its writing.
-pub fn stretch(out: &mut [u8], w: Put, s: &[u8], from: usize, to: usize) -> Put
+pub fn stretch(out: &mut [u8], w: Option<usize>, s: &[u8], from: usize, to: usize) -> Option<usize>
     ensures { from ≤ to → to ≤ length s.now
         → Adds out.old w out.new result (slice from to s.now) }
 {
-    let Put::At(at) = w else {
-        return Put::Full;
+    let Some(at) = w else {
+        return None;
     };
     if to < from {
-        return Put::Full;
+        return None;
     }
     if s.len() < to {
-        return Put::Full;
+        return None;
     }
     if out.len() < at {
-        return Put::Full;
+        return None;
     }
     let n = to - from;
     if out.len() - at < n {
-        return Put::Full;
+        return None;
     }
     slices::copy(out, at, &s[from..to]);
-    Put::At(at + n)
+    Some(at + n)
 }
 
 // The bytes of s from `from` up to `to`, as a text: their number first.
-pub fn text(out: &mut [u8], w: Put, s: &[u8], from: usize, to: usize) -> Put
+pub fn text(out: &mut [u8], w: Option<usize>, s: &[u8], from: usize, to: usize) -> Option<usize>
     ensures { from ≤ to → to ≤ length s.now
         → Adds out.old w out.new result (text_w (slice from to s.now)) }
 {
     if to < from {
-        return Put::Full;
+        return None;
     }
     let q = number(out, w, (to - from) as u64);
     stretch(out, q, s, from, to)
 }
 
-pub fn optional_number(out: &mut [u8], w: Put, v: OptionalNumber) -> Put
+pub fn optional_number(out: &mut [u8], w: Option<usize>, v: Option<u64>) -> Option<usize>
     ensures { Adds out.old w out.new result (optional_w number_w (given_number v)) }
 {
     match v {
-        OptionalNumber::Absent => byte(out, w, 0),
-        OptionalNumber::Present(n) => {
+        None => byte(out, w, 0),
+        Some(n) => {
             let q = byte(out, w, 1);
             number(out, q, n)
         }
     }
 }
 
-pub fn optional_signed(out: &mut [u8], w: Put, v: OptionalSigned) -> Put
+pub fn optional_signed(out: &mut [u8], w: Option<usize>, v: Option<i64>) -> Option<usize>
     ensures { Adds out.old w out.new result
         (optional_w (λ z. number_w (zig z)) (given_signed v)) }
 {
     match v {
-        OptionalSigned::Absent => byte(out, w, 0),
-        OptionalSigned::Present(z) => {
+        None => byte(out, w, 0),
+        Some(z) => {
             let q = byte(out, w, 1);
             signed(out, q, z)
         }
@@ -146,25 +139,25 @@ pub fn optional_signed(out: &mut [u8], w: Put, v: OptionalSigned) -> Put
 }
 
 // A float that may be missing, given by its 64 bits.
-pub fn optional_float(out: &mut [u8], w: Put, v: OptionalNumber) -> Put
+pub fn optional_float(out: &mut [u8], w: Option<usize>, v: Option<u64>) -> Option<usize>
     ensures { Adds out.old w out.new result (optional_w (little_w 8) (given_number v)) }
 {
     match v {
-        OptionalNumber::Absent => byte(out, w, 0),
-        OptionalNumber::Present(n) => {
+        None => byte(out, w, 0),
+        Some(n) => {
             let q = byte(out, w, 1);
             float(out, q, n)
         }
     }
 }
 
-pub fn optional_text(out: &mut [u8], w: Put, s: &[u8], v: OptionalText) -> Put
+pub fn optional_text(out: &mut [u8], w: Option<usize>, s: &[u8], v: Option<Span>) -> Option<usize>
     ensures { Inside s.now v → Adds out.old w out.new result
         (optional_w text_w (given_text s.now v)) }
 {
     match v {
-        OptionalText::Absent => byte(out, w, 0),
-        OptionalText::Present(t) => {
+        None => byte(out, w, 0),
+        Some(t) => {
             let q = byte(out, w, 1);
             text(out, q, s, t.from, t.to)
         }

@@ -13,7 +13,6 @@ ghost use Rattle.journey_alerts.specs.Promises.Alerts.{LegApplies, LabelAdded, A
 ghost use Rattle.journey_alerts.specs.Promises.Alerts.{LegAlerted};
 
 use formats::Span;
-use overlay_seek::Found;
 
 // The alerts of a feed, and what the texts of one are written into.
 const MOST_ALERTS: usize = 256;
@@ -325,7 +324,7 @@ pub fn leg(
     let id = t.trip;
     let f = id.from;
     let e = id.to;
-    let Found::At(p) = overlay_resolve::alerts(old, noted, &card[f..e]) else {
+    let Some(p) = overlay_resolve::alerts(old, noted, &card[f..e]) else {
         return LegAlerts {
             hit: false,
             labels: n,

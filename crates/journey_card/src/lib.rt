@@ -9,8 +9,6 @@ ghost use Rattle.journey.specs.Enrich as enrich;
 ghost use Rattle.journey_card.specs.Promises.Survey.{nothing, gathered_of, late_of, meets, status_by};
 ghost use Rattle.journey_card.specs.Promises.Head.{Small, Minus, ReadsTimes, PutsHead, head_w};
 
-use formats::OptionalSigned;
-use formats_write::Put;
 use journey_leg::LegRealtime;
 
 // A card's departure and arrival.
@@ -29,8 +27,8 @@ pub struct Survey {
     pub alert: bool,
     pub told: bool,
     pub began: bool,
-    pub first: OptionalSigned,
-    pub last: OptionalSigned,
+    pub first: Option<i64>,
+    pub last: Option<i64>,
 }
 
 pub fn begin() -> Survey
@@ -42,8 +40,8 @@ pub fn begin() -> Survey
         alert: false,
         told: false,
         began: false,
-        first: OptionalSigned::Absent,
-        last: OptionalSigned::Absent,
+        first: None,
+        last: None,
     }
 }
 
@@ -69,16 +67,16 @@ fn late(r: LegRealtime) -> bool
 }
 
 // A time that is taken, or else what stood there.
-fn taken(b: bool, t: i64, old: OptionalSigned) -> OptionalSigned
+fn taken(b: bool, t: i64, old: Option<i64>) -> Option<i64>
     ensures { given_signed result ≡ enrich.taken b t (given_signed old) }
 {
     if b {
-        return OptionalSigned::Present(t);
+        return Some(t);
     }
     old
 }
 
-fn choose(b: bool, x: OptionalSigned, y: OptionalSigned) -> OptionalSigned
+fn choose(b: bool, x: Option<i64>, y: Option<i64>) -> Option<i64>
     ensures { result ≡ cond b x y }
 {
     if b { x } else { y }
@@ -95,8 +93,8 @@ pub fn meet(
     s: Survey,
     r: LegRealtime,
     alert: bool,
-    departure: OptionalSigned,
-    arrival: OptionalSigned,
+    departure: Option<i64>,
+    arrival: Option<i64>,
 ) -> Survey
     ensures { gathered_of result ≡ meets (gathered_of s) r alert (given_signed departure) (given_signed arrival) }
 {
@@ -137,12 +135,12 @@ pub fn status(s: Survey) -> u64
     0
 }
 
-fn given_or(old: i64, o: OptionalSigned) -> i64
+fn given_or(old: i64, o: Option<i64>) -> i64
     ensures { result ≡ given_or old (given_signed o) }
 {
     match o {
-        OptionalSigned::Absent => old,
-        OptionalSigned::Present(t) => t,
+        None => old,
+        Some(t) => t,
     }
 }
 
@@ -184,7 +182,7 @@ fn card_times(card: &[u8], at: usize, g: Survey) -> CardTimes
     CardTimes { departure, arrival }
 }
 
-fn head_of(out: &mut [u8], w: Put, t: CardTimes, duration: i64, status: u64) -> Put
+fn head_of(out: &mut [u8], w: Option<usize>, t: CardTimes, duration: i64, status: u64) -> Option<usize>
     ensures { Adds out.old w out.new result
         (head_w t.departure t.arrival duration status) }
 {
@@ -196,11 +194,11 @@ fn head_of(out: &mut [u8], w: Put, t: CardTimes, duration: i64, status: u64) -> 
 }
 
 // The head of the card at `at`, by the first pass: all in front of its headers.
-pub fn head(card: &[u8], at: usize, g: Survey, out: &mut [u8], w: Put) -> Put
+pub fn head(card: &[u8], at: usize, g: Survey, out: &mut [u8], w: Option<usize>) -> Option<usize>
     ensures { PutsHead g card.now at out.old w out.new result }
 {
     if card.len() <= at {
-        return Put::Full;
+        return None;
     }
     let t = card_times(card, at, g);
     head_of(out, w, t, minus(t.arrival, t.departure), status(g))

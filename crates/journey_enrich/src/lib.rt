@@ -5,11 +5,10 @@ ghost use Rattle.std.specs.Prelude.{◌≤◌, length};
 ghost use Rattle.overlay_noted.specs.Promises.Noted.{Noted};
 ghost use Rattle.journey_enrich.specs.Promises.Enrich.{HeadersUpTo, HeadersPut, Enriches};
 
-use formats_write::Put;
 use journey_card::Survey;
 
 // The texts of the first n labels, which are places in b.
-fn each_header(old: &[u8], froms: &[u32], tos: &[u32], n: usize, out: &mut [u8], w: Put) -> Put
+fn each_header(old: &[u8], froms: &[u32], tos: &[u32], n: usize, out: &mut [u8], w: Option<usize>) -> Option<usize>
     requires { (n ≤ length froms.now) × (n ≤ length tos.now) }
     ensures { HeadersUpTo n old.now froms.now tos.now n
         out.old w out.new result }
@@ -26,15 +25,15 @@ fn each_header(old: &[u8], froms: &[u32], tos: &[u32], n: usize, out: &mut [u8],
 }
 
 // The list of headers: the n labels that were noted.
-pub fn headers(old: &[u8], froms: &[u32], tos: &[u32], n: usize, out: &mut [u8], w: Put) -> Put
+pub fn headers(old: &[u8], froms: &[u32], tos: &[u32], n: usize, out: &mut [u8], w: Option<usize>) -> Option<usize>
     ensures { HeadersPut old.now froms.now tos.now n
         out.old w out.new result }
 {
     if froms.len() < n {
-        return Put::Full;
+        return None;
     }
     if tos.len() < n {
-        return Put::Full;
+        return None;
     }
     let q = formats_write::number(out, w, n as u64);
     each_header(old, froms, tos, n, out, q)
@@ -52,14 +51,14 @@ pub fn enrich(
     tos: &[u32],
     n: usize,
     out: &mut [u8],
-    w: Put,
-) -> Put
+    w: Option<usize>,
+) -> Option<usize>
     requires { Noted old.now noted.now }
     ensures { Enriches g n card.now at old.now froms.now tos.now
         out.old w out.new result }
 {
     if card.len() <= at {
-        return Put::Full;
+        return None;
     }
     let p = journey_places::card(card, at);
     let h = journey_card::head(card, at, g, out, w);

@@ -6,14 +6,11 @@ ghost use Rattle.overlay_noted.specs.Promises.Noted.{Noted};
 ghost use Rattle.journey_finish.specs.Promises.Finish.{LegResolved, RowAt, Looks, LegVehicle, FinishesBy};
 ghost use Rattle.journey_finish.specs.Promises.Finish.{Finishes, LegDone, EachDone, LegsDone};
 
-use formats_write::Put;
+use vehicle_place::VehiclePlace;
 use journey_leg::LegRealtime;
-use overlay_resolve::Resolved;
-use overlay_seek::Found;
-use overlay_vehicle::OptionalPlace;
 
 // The record of the leg at `at`.
-fn resolved(card: &[u8], at: usize, old: &[u8], noted: &[u32]) -> Resolved
+fn resolved(card: &[u8], at: usize, old: &[u8], noted: &[u32]) -> Option<(usize, usize)>
     requires { Noted old.now noted.now }
     ensures { LegResolved card.now at old.now result }
 {
@@ -32,7 +29,7 @@ fn resolved(card: &[u8], at: usize, old: &[u8], noted: &[u32]) -> Resolved
 // Where a leg's record stands, and from where to where the id of its feed.
 #[derive(Drop)]
 struct RowPlace {
-    row: Found,
+    row: Option<usize>,
     from: usize,
     to: usize,
 }
@@ -42,16 +39,16 @@ fn row(card: &[u8], at: usize, old: &[u8], noted: &[u32]) -> RowPlace
     ensures { RowAt card.now at old.now result }
 {
     match resolved(card, at, old, noted) {
-        Resolved::At(p, e) => {
+        Some((p, e)) => {
             let id = formats_read::text(old, e);
             RowPlace {
-                row: Found::At(p),
+                row: Some(p),
                 from: id.from,
                 to: id.to,
             }
         }
-        Resolved::Missing => RowPlace {
-            row: Found::Missing,
+        None => RowPlace {
+            row: None,
             from: 0,
             to: 0,
         },
@@ -71,7 +68,7 @@ pub fn look(card: &[u8], at: usize, old: &[u8], noted: &[u32]) -> LegRealtime
 }
 
 // The place of its vehicle.
-fn vehicle(card: &[u8], at: usize, old: &[u8], noted: &[u32]) -> OptionalPlace
+fn vehicle(card: &[u8], at: usize, old: &[u8], noted: &[u32]) -> Option<VehiclePlace>
     requires { Noted old.now noted.now }
     ensures { LegVehicle card.now at old.now result }
 {
@@ -89,11 +86,11 @@ fn finish_by(
     to: usize,
     old: &[u8],
     noted: &[u32],
-    row: Found,
+    row: Option<usize>,
     feed: &[u8],
     out: &mut [u8],
-    w: Put,
-) -> Put
+    w: Option<usize>,
+) -> Option<usize>
     requires { Noted old.now noted.now }
     ensures { FinishesBy card.now at to old.now row feed.now
         out.old w out.new result }
@@ -111,8 +108,8 @@ pub fn finish(
     old: &[u8],
     noted: &[u32],
     out: &mut [u8],
-    w: Put,
-) -> Put
+    w: Option<usize>,
+) -> Option<usize>
     requires { Noted old.now noted.now }
     ensures { Finishes card.now at to old.now
         out.old w out.new result }
@@ -125,12 +122,12 @@ pub fn finish(
 }
 
 // The leg from `at` up to `to`: a walk is copied as it stands.
-fn leg(card: &[u8], at: usize, to: usize, old: &[u8], noted: &[u32], out: &mut [u8], w: Put) -> Put
+fn leg(card: &[u8], at: usize, to: usize, old: &[u8], noted: &[u32], out: &mut [u8], w: Option<usize>) -> Option<usize>
     requires { Noted old.now noted.now }
     ensures { LegDone card.now at to old.now out.old w out.new result }
 {
     if card.len() <= at {
-        return Put::Full;
+        return None;
     }
     if formats::tag(card, at) == 1 {
         let q = formats_write::byte(out, w, 1);
@@ -147,8 +144,8 @@ fn each_leg(
     old: &[u8],
     noted: &[u32],
     out: &mut [u8],
-    w: Put,
-) -> Put
+    w: Option<usize>,
+) -> Option<usize>
     requires { Noted old.now noted.now }
     ensures { EachDone card.now at n old.now out.old w out.new result }
 {
@@ -165,7 +162,7 @@ fn each_leg(
 }
 
 // The list of legs at `at`, each finished.
-pub fn legs(card: &[u8], at: usize, old: &[u8], noted: &[u32], out: &mut [u8], w: Put) -> Put
+pub fn legs(card: &[u8], at: usize, old: &[u8], noted: &[u32], out: &mut [u8], w: Option<usize>) -> Option<usize>
     requires { Noted old.now noted.now }
     ensures { LegsDone card.now at old.now out.old w out.new result }
 {

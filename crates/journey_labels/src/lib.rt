@@ -6,10 +6,11 @@ ghost use Rattle.decode.specs.Sizes.{most_old};
 ghost use Rattle.journey_labels.specs.Promises.Labels.{most_labels, Inside, SoundLabels};
 ghost use Rattle.journey_labels.specs.Promises.Labels.{OrderAt, Ranks, StandsAt, LabelNoted};
 
-use slices::Order;
+use std::cmp::Ordering;
+
 
 // The order of the label from `from` up to `to` and the one at rank i.
-fn order_at(old: &[u8], froms: &[u32], tos: &[u32], i: usize, from: usize, to: usize) -> Order
+fn order_at(old: &[u8], froms: &[u32], tos: &[u32], i: usize, from: usize, to: usize) -> Ordering
     requires inside { Inside old.now (from, to) }
     requires i_in_bounds { (i < length froms.now) × (i < length tos.now) }
     requires inside_2 { Inside old.now (get_or froms.now i 0, get_or tos.now i 0) }

@@ -6,11 +6,9 @@ ghost use Rattle.formats_write.specs.Promises.Adds.{Adds};
 ghost use Rattle.journey_leg.specs.Promises.Leg.{live_of, told_w, PutsTimes, PutsFlag, PutsPlace, PutsMarks};
 ghost use Rattle.journey_leg.specs.Promises.Leg.{PutsFore, PutsEvent, PutsMiddle};
 
-use formats::OptionalSigned;
-use formats_write::Put;
+use vehicle_place::VehiclePlace;
 use journey_places::ChangingPlaces;
 use journey_times::StopRealtime;
-use overlay_vehicle::OptionalPlace;
 
 // What look-ups gave for a leg: its endpoints, and whether its trip is cancelled.
 #[derive(Clone, Copy)]
@@ -36,13 +34,13 @@ fn wide(d: i32) -> i64
 }
 
 // The times and delays of both endpoints.
-fn told(out: &mut [u8], w: Put, d: StopRealtime, a: StopRealtime) -> Put
+fn told(out: &mut [u8], w: Option<usize>, d: StopRealtime, a: StopRealtime) -> Option<usize>
     ensures { Adds out.old w out.new result (told_w d a) }
 {
-    let w1 = formats_write::optional_signed(out, w, OptionalSigned::Present(d.time));
-    let w2 = formats_write::optional_signed(out, w1, OptionalSigned::Present(a.time));
-    let w3 = formats_write::optional_signed(out, w2, OptionalSigned::Present(wide(d.delay)));
-    formats_write::optional_signed(out, w3, OptionalSigned::Present(wide(a.delay)))
+    let w1 = formats_write::optional_signed(out, w, Some(d.time));
+    let w2 = formats_write::optional_signed(out, w1, Some(a.time));
+    let w3 = formats_write::optional_signed(out, w2, Some(wide(d.delay)));
+    formats_write::optional_signed(out, w3, Some(wide(a.delay)))
 }
 
 // The realtime times and delays that stand from `at` up to `to`, or those of the endpoints, where the leg is live.
@@ -51,11 +49,11 @@ fn times(
     at: usize,
     to: usize,
     out: &mut [u8],
-    w: Put,
+    w: Option<usize>,
     live: bool,
     d: StopRealtime,
     a: StopRealtime,
-) -> Put
+) -> Option<usize>
     ensures { PutsTimes live d a card.now at to out.old w out.new result }
 {
     if live {
@@ -65,7 +63,7 @@ fn times(
 }
 
 // Whether the leg is cancelled.
-fn flag(card: &[u8], at: usize, to: usize, out: &mut [u8], w: Put, cancels: bool) -> Put
+fn flag(card: &[u8], at: usize, to: usize, out: &mut [u8], w: Option<usize>, cancels: bool) -> Option<usize>
     ensures { PutsFlag cancels card.now at to out.old w out.new result }
 {
     if cancels {
@@ -75,12 +73,12 @@ fn flag(card: &[u8], at: usize, to: usize, out: &mut [u8], w: Put, cancels: bool
 }
 
 // The vehicle's place.
-fn place(card: &[u8], at: usize, to: usize, out: &mut [u8], w: Put, v: OptionalPlace) -> Put
+fn place(card: &[u8], at: usize, to: usize, out: &mut [u8], w: Option<usize>, v: Option<VehiclePlace>) -> Option<usize>
     ensures { PutsPlace v card.now at to out.old w out.new result }
 {
     match v {
-        OptionalPlace::Absent => formats_write::stretch(out, w, card, at, to),
-        OptionalPlace::Present(p) => vehicle_place::write(out, w, p),
+        None => formats_write::stretch(out, w, card, at, to),
+        Some(p) => vehicle_place::write(out, w, p),
     }
 }
 
@@ -91,9 +89,9 @@ fn marks(
     flagged: usize,
     to: usize,
     out: &mut [u8],
-    w: Put,
+    w: Option<usize>,
     r: LegRealtime,
-) -> Put
+) -> Option<usize>
     ensures { PutsMarks r card.now at flagged to out.old w out.new result }
 {
     let d = r.departs;
@@ -108,10 +106,10 @@ pub fn fore(
     at: usize,
     parts: ChangingPlaces,
     out: &mut [u8],
-    w: Put,
+    w: Option<usize>,
     r: LegRealtime,
-    v: OptionalPlace,
-) -> Put
+    v: Option<VehiclePlace>,
+) -> Option<usize>
     ensures { PutsFore r v card.now at parts out.old w out.new result }
 {
     let w1 = formats_write::stretch(out, w, card, at, parts.realtime);
@@ -128,11 +126,11 @@ pub fn fore(
 }
 
 // An optional time that stands from `at` up to `to`, or the event's own.
-fn event(card: &[u8], at: usize, to: usize, out: &mut [u8], w: Put, r: StopRealtime) -> Put
+fn event(card: &[u8], at: usize, to: usize, out: &mut [u8], w: Option<usize>, r: StopRealtime) -> Option<usize>
     ensures { PutsEvent r card.now at to out.old w out.new result }
 {
     if r.has {
-        return formats_write::optional_signed(out, w, OptionalSigned::Present(r.time));
+        return formats_write::optional_signed(out, w, Some(r.time));
     }
     formats_write::stretch(out, w, card, at, to)
 }
@@ -143,10 +141,10 @@ pub fn middle(
     at: usize,
     to: usize,
     out: &mut [u8],
-    w: Put,
+    w: Option<usize>,
     a: StopRealtime,
     d: StopRealtime,
-) -> Put
+) -> Option<usize>
     ensures { PutsMiddle a d card.now at to out.old w out.new result }
 {
     let arrival = journey_places::middle_realtime(card, at);

@@ -5,12 +5,9 @@ ghost use Rattle.formats_write.specs.Promises.Given.{given_number};
 ghost use Rattle.journey_stops.specs.Promises.Stops.{LooksUp, EventsAt, MiddleEvents, StopAnew, StopsAnew};
 ghost use Rattle.journey_stops.specs.Promises.Stops.{ListAnew, LegAnew, EndpointAt, CancelsBy, LegKnown};
 
-use formats::OptionalNumber;
-use formats_write::Put;
+use vehicle_place::VehiclePlace;
 use journey_leg::LegRealtime;
 use journey_times::{Event, Known, StopRealtime};
-use overlay_seek::Found;
-use overlay_vehicle::OptionalPlace;
 
 // Arrival and departure of a stop.
 #[derive(Drop)]
@@ -20,13 +17,13 @@ pub struct StopEvents {
 }
 
 // What is known of a stop, by the record that was found for the leg's trip in the overlay b.
-pub fn known(old: &[u8], row: Found, feed: &[u8], sequence: OptionalNumber, stop: &[u8]) -> Known
+pub fn known(old: &[u8], row: Option<usize>, feed: &[u8], sequence: Option<u64>, stop: &[u8]) -> Known
     ensures { LooksUp old.now row feed.now (given_number sequence) stop.now result }
 {
-    let Found::At(p) = row else {
+    let Some(p) = row else {
         return Known::Nothing;
     };
-    let Found::At(u) = overlay_updates::find_update(old, p, feed, sequence, stop) else {
+    let Some(u) = overlay_updates::find_update(old, p, feed, sequence, stop) else {
         return Known::Trip(p);
     };
     Known::Update(p, u)
@@ -45,13 +42,13 @@ fn events_at(card: &[u8], at: usize, old: &[u8], known: Known) -> StopEvents
 }
 
 // The events of the middle stop at `at`.
-fn middle_events(card: &[u8], at: usize, old: &[u8], row: Found, feed: &[u8]) -> StopEvents
+fn middle_events(card: &[u8], at: usize, old: &[u8], row: Option<usize>, feed: &[u8]) -> StopEvents
     ensures { MiddleEvents card.now at old.now row feed.now result }
 {
     let t = formats_read::text(card, at);
     let from = t.from;
     let to = t.to;
-    let k = known(old, row, feed, OptionalNumber::Absent, &card[from..to]);
+    let k = known(old, row, feed, None, &card[from..to]);
     events_at(card, to, old, k)
 }
 
@@ -61,11 +58,11 @@ fn middle(
     at: usize,
     to: usize,
     old: &[u8],
-    row: Found,
+    row: Option<usize>,
     feed: &[u8],
     out: &mut [u8],
-    w: Put,
-) -> Put
+    w: Option<usize>,
+) -> Option<usize>
     ensures { StopAnew card.now at to old.now row feed.now
         out.old w out.new result }
 {
@@ -81,11 +78,11 @@ fn each_middle(
     at: usize,
     n: u64,
     old: &[u8],
-    row: Found,
+    row: Option<usize>,
     feed: &[u8],
     out: &mut [u8],
-    w: Put,
-) -> Put
+    w: Option<usize>,
+) -> Option<usize>
     ensures { StopsAnew card.now at n old.now row feed.now
         out.old w out.new result }
 {
@@ -106,11 +103,11 @@ fn middles(
     card: &[u8],
     at: usize,
     old: &[u8],
-    row: Found,
+    row: Option<usize>,
     feed: &[u8],
     out: &mut [u8],
-    w: Put,
-) -> Put
+    w: Option<usize>,
+) -> Option<usize>
     ensures { ListAnew card.now at old.now row feed.now
         out.old w out.new result }
 {
@@ -125,13 +122,13 @@ pub fn transit(
     at: usize,
     to: usize,
     old: &[u8],
-    row: Found,
+    row: Option<usize>,
     feed: &[u8],
     r: LegRealtime,
-    v: OptionalPlace,
+    v: Option<VehiclePlace>,
     out: &mut [u8],
-    w: Put,
-) -> Put
+    w: Option<usize>,
+) -> Option<usize>
     ensures { LegAnew r v card.now at to old.now row feed.now
         out.old w out.new result }
 {
@@ -150,7 +147,7 @@ fn endpoint(
     sequence: usize,
     time: usize,
     old: &[u8],
-    row: Found,
+    row: Option<usize>,
     feed: &[u8],
 ) -> StopRealtime
     ensures { EndpointAt card.now e stop sequence time old.now row
@@ -160,22 +157,22 @@ fn endpoint(
     let from = t.from;
     let to = t.to;
     let n = formats_read::number(card, sequence).value;
-    let k = known(old, row, feed, OptionalNumber::Present(n), &card[from..to]);
+    let k = known(old, row, feed, Some(n), &card[from..to]);
     journey_times::apply_time(e, journey_times::scheduled(card, time), old, k)
 }
 
 // Whether the record that was found is of a cancelled trip.
-fn cancels(old: &[u8], row: Found) -> bool
+fn cancels(old: &[u8], row: Option<usize>) -> bool
     ensures { CancelsBy old.now row result }
 {
     match row {
-        Found::Missing => false,
-        Found::At(p) => journey_times::cancelled(old, p),
+        None => false,
+        Some(p) => journey_times::cancelled(old, p),
     }
 }
 
 // What look-ups give for the transit leg at `at`.
-pub fn endpoints(card: &[u8], at: usize, old: &[u8], row: Found, feed: &[u8]) -> LegRealtime
+pub fn endpoints(card: &[u8], at: usize, old: &[u8], row: Option<usize>, feed: &[u8]) -> LegRealtime
     ensures { LegKnown card.now at old.now row feed.now result }
 {
     let p = journey_places::leg(card, at);

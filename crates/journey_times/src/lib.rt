@@ -11,7 +11,6 @@ ghost use Rattle.journey_times.specs.Promises.Realtime.{realtime_of, given_delay
 ghost use Rattle.journey_times.specs.Promises.Realtime.{ReadsDelay, ReadsEvent, PastEvent, Cancels};
 ghost use Rattle.journey_times.specs.Promises.Realtime.{ByTrip, ByUpdate, Applies};
 
-use formats::OptionalSigned;
 
 // An event's time, by how much it is late, and whether it has realtime.
 #[derive(Clone, Copy)]
@@ -19,12 +18,6 @@ pub struct StopRealtime {
     pub time: i64,
     pub delay: i32,
     pub has: bool,
-}
-
-#[derive(Drop)]
-pub enum OptionalDelay {
-    Absent,
-    Present(i32),
 }
 
 #[derive(Drop)]
@@ -44,22 +37,22 @@ pub enum Known {
 // What an update says of one of its two events.
 #[derive(Drop)]
 struct EventTimes {
-    delay: OptionalDelay,
-    time: OptionalSigned,
+    delay: Option<i32>,
+    time: Option<i64>,
 }
 
 // A delay applies, or else 0; `told` where there is realtime without one.
-fn delayed(at: i64, told: bool, d: OptionalDelay) -> StopRealtime
+fn delayed(at: i64, told: bool, d: Option<i32>) -> StopRealtime
     requires { mag at < 4611686018427387904 }
     ensures { realtime_of result ≡ times.delayed at told (given_delay d) }
 {
     match d {
-        OptionalDelay::Absent => StopRealtime {
+        None => StopRealtime {
             time: at,
             delay: 0,
             has: told,
         },
-        OptionalDelay::Present(d) => StopRealtime {
+        Some(d) => StopRealtime {
             time: integers::sum(at, d),
             delay: d,
             has: true,
@@ -68,12 +61,12 @@ fn delayed(at: i64, told: bool, d: OptionalDelay) -> StopRealtime
 }
 
 // An absolute time beats any delay: the delay is the difference, wrapped to 32 bits.
-fn timed(at: i64, t: OptionalSigned, r: StopRealtime) -> StopRealtime
+fn timed(at: i64, t: Option<i64>, r: StopRealtime) -> StopRealtime
     ensures { realtime_of result ≡ times.timed at (given_signed t) (realtime_of r) }
 {
     match t {
-        OptionalSigned::Absent => r,
-        OptionalSigned::Present(t) => StopRealtime {
+        None => r,
+        Some(t) => StopRealtime {
             time: t,
             delay: integers::difference(t, at),
             has: true,
@@ -82,26 +75,26 @@ fn timed(at: i64, t: OptionalSigned, r: StopRealtime) -> StopRealtime
 }
 
 // Of two optional values the first that is given.
-fn first_delay(a: OptionalDelay, b: OptionalDelay) -> OptionalDelay
+fn first_delay(a: Option<i32>, b: Option<i32>) -> Option<i32>
     ensures { given_delay result ≡ or_other (given_delay a) (given_delay b) }
 {
     match a {
-        OptionalDelay::Absent => b,
-        OptionalDelay::Present(_) => a,
+        None => b,
+        Some(_) => a,
     }
 }
 
-fn first_time(a: OptionalSigned, b: OptionalSigned) -> OptionalSigned
+fn first_time(a: Option<i64>, b: Option<i64>) -> Option<i64>
     ensures { given_signed result ≡ or_other (given_signed a) (given_signed b) }
 {
     match a {
-        OptionalSigned::Absent => b,
-        OptionalSigned::Present(_) => a,
+        None => b,
+        Some(_) => a,
     }
 }
 
 // An event by what is told of it, of the stop's other event, and of the trip.
-fn event_by(at: i64, own: EventTimes, other: EventTimes, trip: OptionalDelay) -> StopRealtime
+fn event_by(at: i64, own: EventTimes, other: EventTimes, trip: Option<i32>) -> StopRealtime
     requires { mag at < 4611686018427387904 }
     ensures { realtime_of result ≡ event_by at own other trip }
 {
@@ -114,12 +107,12 @@ fn event_by(at: i64, own: EventTimes, other: EventTimes, trip: OptionalDelay) ->
 }
 
 // A delay has 32 bits.
-fn optional_delay(s: &[u8], at: usize) -> OptionalDelay
+fn optional_delay(s: &[u8], at: usize) -> Option<i32>
     ensures { ReadsDelay s.now at result }
 {
     match formats_read::optional_signed(s, at) {
-        OptionalSigned::Absent => OptionalDelay::Absent,
-        OptionalSigned::Present(z) => OptionalDelay::Present(integers::difference(z, 0)),
+        None => None,
+        Some(z) => Some(integers::difference(z, 0)),
     }
 }
 
@@ -164,7 +157,7 @@ fn untold(at: i64) -> StopRealtime
     requires { mag at < 4611686018427387904 }
     ensures { realtime_of result ≡ times.delayed at false (inl tt) }
 {
-    delayed(at, false, OptionalDelay::Absent)
+    delayed(at, false, None)
 }
 
 // By the record at `row`, in which no update is found.

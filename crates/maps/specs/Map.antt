@@ -1,23 +1,23 @@
 -- Believe: 01, Overlay. A map is a list of keys and values, strictly ascending by key.
 use Rattle.std.specs.Prelude.{Bool, true, false, ◌&&◌, List, [], ◌∷◌}
 use Rattle.std.proofs.Math.Option.{Option, none, some}
-use Rattle.slices.specs.declared.Order.{Order}
-use Rattle.slices.specs.declared.Order.TheVariants.{Less, Same, More}
+use Rattle.std.specs.declared.cmp.Ordering.{Ordering}
+use Rattle.std.specs.declared.cmp.Ordering.TheVariants.{Less, Equal, Greater}
 
 -- keys with an order
 pub record Ordered (K : Type 0) : Type 0 where
-  pub compare : K → K → Order
+  pub compare : K → K → Ordering
 
-abbrev pub is_less : Order → Bool
+abbrev pub is_less : Ordering → Bool
 is_less Less = true
-is_less Same = false
-is_less More = false
+is_less Equal = false
+is_less Greater = false
 
 -- by an order: one of three
-abbrev pub by_order : {A : Type 0} → Order → A → A → A → A
+abbrev pub by_order : {A : Type 0} → Ordering → A → A → A → A
 by_order Less a b c = a
-by_order Same a b c = b
-by_order More a b c = c
+by_order Equal a b c = b
+by_order Greater a b c = c
 
 module _ {K : Type 0} (O : Ordered K) {A : Type 0} where
   -- k's value, where there is one

@@ -7,7 +7,8 @@ ghost use Rattle.slices.specs.Lists.{lex_of};
 ghost use Rattle.maps.specs.Map.{is_less};
 ghost use Rattle.overlay_ascends.specs.Promises.Ascends.{Ascends};
 
-use slices::Order;
+use std::cmp::Ordering;
+
 
 // Whether the bytes from a up to e come before those from b up to f.
 fn precedes(sheet: &[u8], a: usize, e: usize, b: usize, f: usize) -> bool
@@ -16,9 +17,9 @@ fn precedes(sheet: &[u8], a: usize, e: usize, b: usize, f: usize) -> bool
     ensures { result ≡ is_less (lex_of (slice a e sheet.now) (slice b f sheet.now)) }
 {
     match slices::compare(&sheet[a..e], &sheet[b..f]) {
-        Order::Less => true,
-        Order::Same => false,
-        Order::More => false,
+        Ordering::Less => true,
+        Ordering::Equal => false,
+        Ordering::Greater => false,
     }
 }
 

@@ -14,11 +14,10 @@ ghost use Rattle.overlay_feeds.specs.Promises.Parts.{PartsOf};
 ghost use Rattle.overlay_bodies.specs.Promises.Bodies.{AlertsIn, Left, VehiclesIn};
 ghost use Rattle.overlay_bodies.specs.Promises.Bodies.{with_alerts, with_vehicles, front_w, Lists};
 
-use formats_write::Put;
 use overlay_feeds::Parts;
 
 // A feed that stands from `body` on, with its parts at p: a sheet's alerts in place of its own.
-pub fn alerts_over(out: &mut [u8], w: Put, old: &[u8], body: usize, p: Parts, sheet: &[u8]) -> Put
+pub fn alerts_over(out: &mut [u8], w: Option<usize>, old: &[u8], body: usize, p: Parts, sheet: &[u8]) -> Option<usize>
     ensures { (vs : List Alert) (F : Feed) (e : ℕ) → AlertsIn sheet.now vs
         → PartsOf old.now F body e p
         → Adds out.old w out.new result (write feed (with_alerts F vs)) }
@@ -40,13 +39,13 @@ pub fn count_left(sheet: &[u8], old: &[u8], at: usize, limit: u64) -> u64
 // The list of them: `kept` are left.
 fn write_left(
     out: &mut [u8],
-    w: Put,
+    w: Option<usize>,
     kept: u64,
     sheet: &[u8],
     old: &[u8],
     at: usize,
     limit: u64,
-) -> Put
+) -> Option<usize>
     ensures { Lists out.old w out.new result sheet.now old.now at limit kept }
 {
     let n = formats_read::number(sheet, 1);
@@ -56,7 +55,7 @@ fn write_left(
 }
 
 // Timestamp, count of all keys and trips of a feed that stands from `body` on.
-fn write_front(out: &mut [u8], w: Put, old: &[u8], body: usize, p: Parts) -> Put
+fn write_front(out: &mut [u8], w: Option<usize>, old: &[u8], body: usize, p: Parts) -> Option<usize>
     ensures { (F : Feed) (e : ℕ) → PartsOf old.now F body e p
         → Adds out.old w out.new result (front_w F) }
 {
@@ -69,14 +68,14 @@ fn write_front(out: &mut [u8], w: Put, old: &[u8], body: usize, p: Parts) -> Put
 // A feed that stands from `body` on, with the `kept` vehicles that a sheet leaves it, and its keys counted.
 pub fn vehicles_over(
     out: &mut [u8],
-    w: Put,
+    w: Option<usize>,
     kept: u64,
     sheet: &[u8],
     limit: u64,
     old: &[u8],
     body: usize,
     p: Parts,
-) -> Put
+) -> Option<usize>
     ensures { (F : Feed) (e : ℕ) (xs : Vehicles) (clock : ℤ) → zag limit ≡ clock -ℤ pos 900
         → PartsOf old.now F body e p
         → VehiclesIn sheet.now old.now p.vehicles xs (vehicles_of F)

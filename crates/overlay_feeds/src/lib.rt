@@ -5,8 +5,7 @@ ghost use Rattle.overlay_feeds.specs.Promises.Head.{ReadsHead};
 ghost use Rattle.overlay_feeds.specs.Promises.Parts.{ReadsFront, ReadsBack, ReadsParts};
 ghost use Rattle.overlay_feeds.specs.Promises.Place.{Compares, FindsFeed};
 
-use formats::OptionalSigned;
-use slices::Order;
+use std::cmp::Ordering;
 
 // The version, the place of the count of feeds, the count, and the place of the first feed.
 #[derive(Drop)]
@@ -34,7 +33,7 @@ pub fn read_head(old: &[u8]) -> Head
 // Of a feed: its timestamp, its count and the count's place, the place of its trips.
 #[derive(Drop)]
 pub struct Front {
-    pub timestamp: OptionalSigned,
+    pub timestamp: Option<i64>,
     pub counted: usize,
     pub count: u64,
     pub trips: usize,
@@ -58,7 +57,7 @@ pub fn read_front(old: &[u8], at: usize) -> Front
 // The same, the places of its vehicles and alerts, its end.
 #[derive(Clone, Copy)]
 pub struct Parts {
-    pub timestamp: OptionalSigned,
+    pub timestamp: Option<i64>,
     pub counted: usize,
     pub count: u64,
     pub trips: usize,
@@ -95,7 +94,7 @@ pub fn read_parts(old: &[u8], at: usize) -> Parts
 }
 
 // The order of a text and the one that stands at `at`.
-pub fn compare_text(old: &[u8], at: usize, text: &[u8]) -> Order
+pub fn compare_text(old: &[u8], at: usize, text: &[u8]) -> Ordering
     ensures { Compares old.now at text.now result }
 {
     let t = formats_read::text(old, at);
@@ -120,9 +119,9 @@ pub fn find_feed(old: &[u8], feed: &[u8]) -> FeedPlace
     let mut i = 0;
     while 0 < left {
         match compare_text(old, p, feed) {
-            Order::Less => return FeedPlace::Missing(i, p),
-            Order::Same => return FeedPlace::At(i, p, formats_skip::past_text(old, p)),
-            Order::More => {
+            Ordering::Less => return FeedPlace::Missing(i, p),
+            Ordering::Equal => return FeedPlace::At(i, p, formats_skip::past_text(old, p)),
+            Ordering::Greater => {
                 p = overlay_skip::past_feed_entry(old, p);
                 left -= 1;
                 i += 1;

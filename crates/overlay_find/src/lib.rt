@@ -11,13 +11,11 @@ ghost use Rattle.overlay_seek.specs.Promises.Answers.{Tests};
 ghost use Rattle.overlay_find.specs.Promises.Finds.{Finds};
 ghost use Rattle.overlay_find.specs.Promises.Texts.{RouteIs, DirectionIs, Described, descriptor_test};
 
-use formats::{OptionalNumber, Span};
-use overlay_ids::Place;
-use overlay_seek::Found;
-use slices::Order;
+use std::cmp::Ordering;
+use formats::Span;
 
 // The record at the rest of a key, among the trips of the feed at rank r: found by halving.
-fn rest_at(old: &[u8], noted: &[u32], r: usize, rest: &[u8]) -> Found
+fn rest_at(old: &[u8], noted: &[u32], r: usize, rest: &[u8]) -> Option<usize>
     requires { RankNoted old.now noted.now r }
     ensures { Finds (get texts rest.now) old.now noted.now r result }
 {
@@ -27,47 +25,47 @@ fn rest_at(old: &[u8], noted: &[u32], r: usize, rest: &[u8]) -> Found
         let mid = lo + (hi - lo) / 2;
         let p = overlay_places::trip_place(noted, r, mid);
         match overlay_feeds::compare_text(old, p, rest) {
-            Order::Less => {
+            Ordering::Less => {
                 hi = mid;
             }
-            Order::Same => return Found::At(formats_skip::past_text(old, p)),
-            Order::More => {
+            Ordering::Equal => return Some(formats_skip::past_text(old, p)),
+            Ordering::Greater => {
                 lo = mid + 1;
             }
         }
     }
-    Found::Missing
+    None
 }
 
 // The record at a whole key, among the trips of the feed at rank r.
-fn trip_at(old: &[u8], noted: &[u32], r: usize, feed: &[u8], key: &[u8]) -> Found
+fn trip_at(old: &[u8], noted: &[u32], r: usize, feed: &[u8], key: &[u8]) -> Option<usize>
     requires { RankNoted old.now noted.now r }
     ensures { Finds (trip_at feed.now key.now) old.now noted.now r result }
 {
     let n = feed.len();
     if key.len() <= n {
-        return Found::Missing;
+        return None;
     }
     if key[n] != 58 {
-        return Found::Missing;
+        return None;
     }
     if slices::same(feed, &key[..n]) {
         let p = n + 1;
         return rest_at(old, noted, r, &key[p..]);
     }
-    Found::Missing
+    None
 }
 
 // By the whole key, else without what follows its last '@'.
-pub fn get_trip(old: &[u8], noted: &[u32], r: usize, feed: &[u8], key: &[u8]) -> Found
+pub fn get_trip(old: &[u8], noted: &[u32], r: usize, feed: &[u8], key: &[u8]) -> Option<usize>
     requires { RankNoted old.now noted.now r }
     ensures { Finds (get_trip feed.now key.now) old.now noted.now r result }
 {
     match trip_at(old, noted, r, feed, key) {
-        Found::At(p) => Found::At(p),
-        Found::Missing => match overlay_ids::last_at(key) {
-            Place::At(k) => trip_at(old, noted, r, feed, &key[..k]),
-            Place::Nowhere => Found::Missing,
+        Some(p) => Some(p),
+        None => match overlay_ids::last_at(key) {
+            Some(k) => trip_at(old, noted, r, feed, &key[..k]),
+            None => None,
         },
     }
 }
@@ -83,14 +81,14 @@ fn route_is(old: &[u8], at: usize, feed: &[u8], leg: &[u8]) -> bool
 }
 
 // A leg without direction meets any; with one, a record of the same.
-fn direction_is(old: &[u8], at: usize, direction: OptionalNumber) -> bool
+fn direction_is(old: &[u8], at: usize, direction: Option<u64>) -> bool
     ensures { DirectionIs old.now at direction result }
 {
     match direction {
-        OptionalNumber::Absent => true,
-        OptionalNumber::Present(n) => match formats_read::optional_number(old, at) {
-            OptionalNumber::Absent => false,
-            OptionalNumber::Present(m) => n == m,
+        None => true,
+        Some(n) => match formats_read::optional_number(old, at) {
+            None => false,
+            Some(m) => n == m,
         },
     }
 }
@@ -101,7 +99,7 @@ fn described(
     at: usize,
     feed: &[u8],
     leg: &[u8],
-    direction: OptionalNumber,
+    direction: Option<u64>,
     date: &[u8],
 ) -> bool
     ensures { Described old.now at feed.now leg.now direction date.now result }
@@ -123,7 +121,7 @@ fn descriptor_is(
     at: usize,
     feed: &[u8],
     leg: &[u8],
-    direction: OptionalNumber,
+    direction: Option<u64>,
     date: &[u8],
 ) -> bool
     ensures { Tests trip_entry
@@ -142,9 +140,9 @@ pub fn by_descriptor(
     r: usize,
     feed: &[u8],
     leg: &[u8],
-    direction: OptionalNumber,
+    direction: Option<u64>,
     date: &[u8],
-) -> Found
+) -> Option<usize>
     requires { RankNoted old.now noted.now r }
     ensures { Finds
         (find_trip_by_descriptor feed.now leg.now (given_number direction) date.now)
@@ -155,9 +153,9 @@ pub fn by_descriptor(
     while i < n {
         let p = overlay_places::trip_place(noted, r, i);
         if descriptor_is(old, p, feed, leg, direction, date) {
-            return Found::At(formats_skip::past_text(old, p));
+            return Some(formats_skip::past_text(old, p));
         }
         i += 1;
     }
-    Found::Missing
+    None
 }

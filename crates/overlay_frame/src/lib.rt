@@ -7,7 +7,6 @@ ghost use Rattle.overlay.specs.State.{State};
 ghost use Rattle.overlay_frame.specs.Promises.Body.{FindsSpot};
 ghost use Rattle.overlay_frame.specs.Promises.Frame.{Spot, head_w, opening_w, closing_w};
 
-use formats_write::Put;
 use overlay_feeds::FeedPlace;
 
 // The feeds of a state.
@@ -51,7 +50,7 @@ pub fn behind(known: bool, stop: usize, from: usize) -> usize
 }
 
 // The overlay's first byte, its version and its number of feeds.
-fn head(out: &mut [u8], w: Put, version: u64, count: u64) -> Put
+fn head(out: &mut [u8], w: Option<usize>, version: u64, count: u64) -> Option<usize>
     ensures { Adds out.old w out.new result (head_w version count) }
 {
     let w1 = formats_write::byte(out, w, 1);
@@ -62,13 +61,13 @@ fn head(out: &mut [u8], w: Put, version: u64, count: u64) -> Put
 // What stands before the body of the feed `feed`, which goes in at `from`: with it there are `count` feeds.
 pub fn opening(
     out: &mut [u8],
-    w: Put,
+    w: Option<usize>,
     version: u64,
     count: u64,
     old: &[u8],
     from: usize,
     feed: &[u8],
-) -> Put
+) -> Option<usize>
     ensures { (q : ℕ) (s : State) (to : ℕ) (S : Spot old.now q s feed.now from to count)
         → Adds out.old w out.new result (opening_w version count S.front feed.now) }
 {
@@ -80,7 +79,7 @@ pub fn opening(
 }
 
 // What follows the body: the feeds from `to` up to the end of the state.
-pub fn closing(out: &mut [u8], w: Put, old: &[u8], to: usize, end: usize) -> Put
+pub fn closing(out: &mut [u8], w: Option<usize>, old: &[u8], to: usize, end: usize) -> Option<usize>
     ensures { (s : State) (f : List ℕ) (from count : ℕ) (S : Spot old.now end s f from to count)
         → Adds out.old w out.new result (closing_w S.back) }
 {

@@ -5,13 +5,6 @@ ghost use Rattle.std.specs.Prelude.{◌<◌, length};
 ghost use Rattle.overlay_ids.specs.Promises.Ids.{FeedEnd, LastAt, IsJoined, EndsColon, EndsJoined};
 ghost use Rattle.overlay_ids.specs.Promises.Ids.{RouteFits, StopFits};
 
-// Where something stands.
-#[derive(Drop)]
-pub enum Place {
-    At(usize),
-    Nowhere,
-}
-
 // Where the feed's prefix of an id ends.
 pub fn feed_end(id: &[u8]) -> usize
     ensures { FeedEnd id.now result }
@@ -27,17 +20,17 @@ pub fn feed_end(id: &[u8]) -> usize
 }
 
 // The last '@' of a key.
-pub fn last_at(key: &[u8]) -> Place
+pub fn last_at(key: &[u8]) -> Option<usize>
     ensures { LastAt key.now result }
 {
     let mut i = key.len();
     while 0 < i {
         i -= 1;
         if key[i] == 64 {
-            return Place::At(i);
+            return Some(i);
         }
     }
-    Place::Nowhere
+    None
 }
 
 // Whether a key is `feed:rest`.

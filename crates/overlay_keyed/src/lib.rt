@@ -1,7 +1,7 @@
 // The trips of a feed by checked reading: each key is one of its record, keys ascend, and the feed's count is right.
 #![tactic(auto)]
 
-ghost use Rattle.std.specs.Prelude.{◌≡◌, ◌≤◌, length};
+ghost use Rattle.std.specs.Prelude.{◌≡◌, ◌≤◌, length, None};
 ghost use Rattle.formats.specs.Class.{printable};
 ghost use Rattle.formats.specs.Format.{list};
 ghost use Rattle.formats_check.specs.Promises.Checked.{Tested};
@@ -13,8 +13,6 @@ ghost use Rattle.overlay_noted.specs.Promises.Noting.{Unless, EntriesPut, TripsP
 ghost use Rattle.overlay_keys.specs.Promises.Piece.{bytes, Inside};
 ghost use Rattle.overlay_keyed.specs.Promises.Trips.{entry_good, plain, is_count, trips_good};
 
-use formats::{Numeral, Skip};
-use formats_check::{CheckedText, Entry};
 
 fn has_at(v: &[u8]) -> bool
     ensures { result ≡ has_byte 64 v.now }
@@ -44,19 +42,19 @@ fn adds(marked: bool, feed: &[u8], old: &[u8], a: usize, e: usize) -> u64
     1
 }
 
-fn trip_entry(feed: &[u8], old: &[u8], at: usize) -> Entry
+fn trip_entry(feed: &[u8], old: &[u8], at: usize) -> Option<(usize, usize, usize)>
     ensures { Entered 137 printable (entry_good feed.now) old.now at result }
 {
-    let CheckedText::At(a, e) = formats_check::printable_at(137, old, at) else {
-        return Entry::No;
+    let Some((a, e)) = formats_check::printable_at(137, old, at) else {
+        return None;
     };
-    let Skip::At(q) = overlay_trip::trip(old, e) else {
-        return Entry::No;
+    let Some(q) = overlay_trip::trip(old, e) else {
+        return None;
     };
     if overlay_keys::key_ok(feed, old, a, e) {
-        return Entry::At(a, e, q);
+        return Some((a, e, q));
     }
-    Entry::No
+    None
 }
 
 // n trips of the feed one after another, ascending by key: the walk keeps the place of the last key, and the sum, and
@@ -70,13 +68,13 @@ fn trips_from(
     at: usize,
     noted: &mut [u32],
     base: usize,
-) -> Skip
+) -> Option<usize>
     requires marked_value { marked ≡ has_byte 64 feed.now }
     requires at_in_bounds { at ≤ length old.now }
     requires base_bound { (base ≤ 6144) × (n ≤ most_trips) }
     ensures climbs { Climbs 137 printable (entry_good feed.now) (by_key (plain feed.now))
         (is_count c n) n old.now at result }
-    ensures unless { Unless result Skip.Broken (EntriesPut old.now at n base noted.old
+    ensures unless { Unless result None (EntriesPut old.now at n base noted.old
         noted.new) }
 {
     let mut p = at;
@@ -87,11 +85,11 @@ fn trips_from(
     let mut d: usize = 0;
     let mut m: u64 = 0;
     while 0 < left {
-        let Entry::At(a, e, q) = trip_entry(feed, old, p) else {
-            return Skip::Broken;
+        let Some((a, e, q)) = trip_entry(feed, old, p) else {
+            return None;
         };
         if !formats_check::follows(first, old, b, d, a, e) {
-            return Skip::Broken;
+            return None;
         }
         m += adds(marked, feed, old, a, e);
         overlay_noted::note(noted, i, p);
@@ -103,26 +101,26 @@ fn trips_from(
         left -= 1;
     }
     if c == m {
-        return Skip::At(p);
+        return Some(p);
     }
     if c == n {
-        return Skip::At(p);
+        return Some(p);
     }
-    Skip::Broken
+    None
 }
 
 // The trips of the feed whose count is c. Their places are noted from `base` on.
-pub fn trips(c: u64, feed: &[u8], old: &[u8], at: usize, noted: &mut [u32], base: usize) -> Skip
+pub fn trips(c: u64, feed: &[u8], old: &[u8], at: usize, noted: &mut [u32], base: usize) -> Option<usize>
     requires { base ≤ 6144 }
     ensures tested { Tested (list 2048 trip_entry) (trips_good feed.now c) old.now at result }
-    ensures unless { Unless result Skip.Broken (TripsPut old.now at base noted.old
+    ensures unless { Unless result None (TripsPut old.now at base noted.old
         noted.new) }
 {
-    let Numeral::Got(n, p) = formats_check::number_at(old, at) else {
-        return Skip::Broken;
+    let Some((n, p)) = formats_check::number_at(old, at) else {
+        return None;
     };
     if 2048 < n {
-        return Skip::Broken;
+        return None;
     }
     let marked = has_at(feed);
     trips_from(c, n, marked, feed, old, p, noted, base)

@@ -7,121 +7,120 @@ ghost use Rattle.overlay_keys.specs.Promises.Piece.{Inside, Piece};
 ghost use Rattle.overlay_keys.specs.Promises.Keys.{Direction, Route, Head, Tail, Matches};
 ghost use Rattle.overlay_keys.specs.Promises.Keys.{Incomplete, Dated, Longer, Keys};
 
-use formats::{Numeral, Skip};
-use formats_check::{CheckedText, at_most, number_at, printable_at};
+use formats_check::{at_most, number_at, printable_at};
 use overlay_trip::optional_word;
 
-fn byte(x: u64, old: &[u8], at: usize, e: usize) -> Skip
+fn byte(x: u64, old: &[u8], at: usize, e: usize) -> Option<usize>
     requires { Inside old.now at e }
     ensures { Piece (x ∷ []) old.now at e result }
 {
     if e <= at {
-        return Skip::Broken;
+        return None;
     }
     if formats::wide(old[at]) == x {
-        return Skip::At(at + 1);
+        return Some(at + 1);
     }
-    Skip::Broken
+    None
 }
 
-fn piece(x: &[u8], old: &[u8], at: usize, e: usize) -> Skip
+fn piece(x: &[u8], old: &[u8], at: usize, e: usize) -> Option<usize>
     requires { Inside old.now at e }
     ensures { Piece x.now old.now at e result }
 {
     if e - at < x.len() {
-        return Skip::Broken;
+        return None;
     }
     let m = at + x.len();
     if slices::same(&old[at..m], x) {
-        return Skip::At(m);
+        return Some(m);
     }
-    Skip::Broken
+    None
 }
 
 // n in decimal, at most k digits.
-fn decimal(k: u32, n: u64, old: &[u8], at: usize, e: usize) -> Skip
+fn decimal(k: u32, n: u64, old: &[u8], at: usize, e: usize) -> Option<usize>
     requires { Inside old.now at e }
     ensures { Piece (decimal_of k n) old.now at e result }
 {
     if k == 0 {
-        return Skip::At(at);
+        return Some(at);
     }
     if n < 10 {
         return byte(48 + n, old, at, e);
     }
-    let Skip::At(m) = decimal(k - 1, n / 10, old, at, e) else {
-        return Skip::Broken;
+    let Some(m) = decimal(k - 1, n / 10, old, at, e) else {
+        return None;
     };
     byte(48 + n % 10, old, m, e)
 }
 
 // The direction that a record has at y.
-fn direction(old: &[u8], y: usize, at: usize, e: usize) -> Skip
+fn direction(old: &[u8], y: usize, at: usize, e: usize) -> Option<usize>
     requires { Inside old.now at e }
     ensures { Direction old.now y at e result }
 {
     if old.len() <= y {
-        return Skip::Broken;
+        return None;
     }
     let c = old[y];
     if c == 0 {
-        return Skip::At(at);
+        return Some(at);
     }
-    let Numeral::Got(n, p) = number_at(old, y + 1) else {
-        return Skip::Broken;
+    let Some((n, p)) = number_at(old, y + 1) else {
+        return None;
     };
     decimal(10, n, old, at, e)
 }
 
 // feed:route, the route from x up to y, or nothing.
-fn route(feed: &[u8], old: &[u8], x: usize, y: usize, at: usize, e: usize) -> Skip
+fn route(feed: &[u8], old: &[u8], x: usize, y: usize, at: usize, e: usize) -> Option<usize>
     requires inside { Inside old.now x y }
     requires inside_2 { Inside old.now at e }
     ensures { Route feed.now old.now x y at e result }
 {
     if x == y {
-        return Skip::At(at);
+        return Some(at);
     }
-    let Skip::At(p) = piece(feed, old, at, e) else {
-        return Skip::Broken;
+    let Some(p) = piece(feed, old, at, e) else {
+        return None;
     };
-    let Skip::At(q) = byte(58, old, p, e) else {
-        return Skip::Broken;
+    let Some(q) = byte(58, old, p, e) else {
+        return None;
     };
     piece(&old[x..y], old, q, e)
 }
 
-fn head(feed: &[u8], old: &[u8], x: usize, y: usize, at: usize, e: usize) -> Skip
+fn head(feed: &[u8], old: &[u8], x: usize, y: usize, at: usize, e: usize) -> Option<usize>
     requires inside { Inside old.now x y }
     requires inside_2 { Inside old.now at e }
     ensures { Head feed.now old.now x y at e result }
 {
-    let Skip::At(p) = piece(b"#r=", old, at, e) else {
-        return Skip::Broken;
+    let Some(p) = piece(b"#r=", old, at, e) else {
+        return None;
     };
-    let Skip::At(q) = route(feed, old, x, y, p, e) else {
-        return Skip::Broken;
+    let Some(q) = route(feed, old, x, y, p, e) else {
+        return None;
     };
-    let Skip::At(u) = piece(b"&d=", old, q, e) else {
-        return Skip::Broken;
+    let Some(u) = piece(b"&d=", old, q, e) else {
+        return None;
     };
     direction(old, y, u, e)
 }
 
-fn tail(old: &[u8], b: usize, d: usize, u: usize, v: usize, at: usize, e: usize) -> Skip
+fn tail(old: &[u8], b: usize, d: usize, u: usize, v: usize, at: usize, e: usize) -> Option<usize>
     requires inside { Inside old.now b d }
     requires inside_2 { Inside old.now u v }
     requires inside_3 { Inside old.now at e }
     ensures { Tail old.now b d u v at e result }
 {
-    let Skip::At(p) = piece(b"&sd=", old, at, e) else {
-        return Skip::Broken;
+    let Some(p) = piece(b"&sd=", old, at, e) else {
+        return None;
     };
-    let Skip::At(q) = piece(&old[b..d], old, p, e) else {
-        return Skip::Broken;
+    let Some(q) = piece(&old[b..d], old, p, e) else {
+        return None;
     };
-    let Skip::At(w) = piece(b"&st=", old, q, e) else {
-        return Skip::Broken;
+    let Some(w) = piece(b"&st=", old, q, e) else {
+        return None;
     };
     piece(&old[u..v], old, w, e)
 }
@@ -145,10 +144,10 @@ fn matches(
     requires inside_4 { Inside old.now u v }
     ensures { Matches feed.now old.now a e b d x y u v result }
 {
-    let Skip::At(p) = head(feed, old, x, y, a, e) else {
+    let Some(p) = head(feed, old, x, y, a, e) else {
         return false;
     };
-    let Skip::At(q) = tail(old, b, d, u, v, p, e) else {
+    let Some(q) = tail(old, b, d, u, v, p, e) else {
         return false;
     };
     q == e
@@ -160,13 +159,13 @@ fn incomplete(feed: &[u8], old: &[u8], a: usize, e: usize, b: usize, d: usize) -
     requires inside_2 { Inside old.now b d }
     ensures { Incomplete feed.now old.now a e b d result }
 {
-    let CheckedText::At(x, y) = printable_at(64, old, d) else {
+    let Some((x, y)) = printable_at(64, old, d) else {
         return false;
     };
-    let Skip::At(z) = optional_word(old, y) else {
+    let Some(z) = optional_word(old, y) else {
         return false;
     };
-    let CheckedText::At(u, v) = printable_at(16, old, z) else {
+    let Some((u, v)) = printable_at(16, old, z) else {
         return false;
     };
     matches(feed, old, a, e, b, d, x, y, u, v)
@@ -190,10 +189,10 @@ fn dated(old: &[u8], a: usize, e: usize, b: usize, d: usize) -> bool
         return false;
     }
     let p = e - m - 1;
-    let Skip::At(q) = byte(64, old, p, e) else {
+    let Some(q) = byte(64, old, p, e) else {
         return false;
     };
-    let Skip::At(z) = piece(&old[b..d], old, q, e) else {
+    let Some(z) = piece(&old[b..d], old, q, e) else {
         return false;
     };
     z == e
@@ -203,13 +202,13 @@ fn longer(feed: &[u8], old: &[u8], a: usize, e: usize) -> bool
     requires { Inside old.now a e }
     ensures { Longer feed.now old.now a e result }
 {
-    let Skip::At(p) = optional_word(old, e) else {
+    let Some(p) = optional_word(old, e) else {
         return false;
     };
-    let Skip::At(q) = at_most(1, old, p) else {
+    let Some(q) = at_most(1, old, p) else {
         return false;
     };
-    let CheckedText::At(b, d) = printable_at(16, old, q) else {
+    let Some((b, d)) = printable_at(16, old, q) else {
         return false;
     };
     if dated(old, a, e, b, d) {

@@ -10,8 +10,7 @@ ghost use Rattle.overlay_merge.specs.Promises.Entry.{ReadsEntry};
 ghost use Rattle.overlay_merge.specs.Promises.Merge.{first_of, Fresh, Turned, Counts};
 ghost use Rattle.overlay_merge.specs.Promises.Writes.{PutsEntry, Writes};
 
-use formats_write::Put;
-use slices::Order;
+use std::cmp::Ordering;
 
 // Where an entry's key is, the code of the time when it was told, and the place past the entry.
 #[derive(Drop)]
@@ -60,15 +59,15 @@ fn fresh(updated: u64, limit: u64) -> bool
 }
 
 // Which of two keys comes first, where n and m entries are left.
-fn first(sheet: &[u8], n: u64, a: usize, e: usize, old: &[u8], m: u64, b: usize, f: usize) -> Order
+fn first(sheet: &[u8], n: u64, a: usize, e: usize, old: &[u8], m: u64, b: usize, f: usize) -> Ordering
     requires { (a ≤ e) × (e ≤ length sheet.now) × (b ≤ f) × (f ≤ length old.now) }
     ensures { result ≡ first_of n m (slice a e sheet.now) (slice b f old.now) }
 {
     if n == 0 {
-        return Order::More;
+        return Ordering::Greater;
     }
     if m == 0 {
-        return Order::Less;
+        return Ordering::Less;
     }
     slices::compare(&sheet[a..e], &old[b..f])
 }
@@ -80,7 +79,7 @@ fn take_turn(sheet: &[u8], p: usize, n: u64, old: &[u8], q: usize, m: u64, limit
     let x = read_entry(sheet, p);
     let y = read_entry(old, q);
     match first(sheet, n, x.from, x.to, old, m, y.from, y.to) {
-        Order::Less => Turn {
+        Ordering::Less => Turn {
             sheet: true,
             from: p,
             to: x.next,
@@ -90,7 +89,7 @@ fn take_turn(sheet: &[u8], p: usize, n: u64, old: &[u8], q: usize, m: u64, limit
             q,
             m,
         },
-        Order::Same => Turn {
+        Ordering::Equal => Turn {
             sheet: true, // over the old one
             from: p,
             to: x.next,
@@ -100,7 +99,7 @@ fn take_turn(sheet: &[u8], p: usize, n: u64, old: &[u8], q: usize, m: u64, limit
             q: y.next,
             m: m - 1,
         },
-        Order::More => Turn {
+        Ordering::Greater => Turn {
             sheet: false,
             from: q,
             to: y.next,
@@ -156,7 +155,7 @@ pub fn count_entries(
 }
 
 // The entry that a turn takes, where it stays.
-fn write_entry(out: &mut [u8], w: Put, sheet: &[u8], old: &[u8], t: Turn) -> Put
+fn write_entry(out: &mut [u8], w: Option<usize>, sheet: &[u8], old: &[u8], t: Turn) -> Option<usize>
     ensures { PutsEntry out.old w out.new result sheet.now old.now t }
 {
     if t.keep {
@@ -171,7 +170,7 @@ fn write_entry(out: &mut [u8], w: Put, sheet: &[u8], old: &[u8], t: Turn) -> Put
 // What the merge leaves of n entries of a sheet from a on and m of a feed from b on.
 pub fn write_entries(
     out: &mut [u8],
-    w: Put,
+    w: Option<usize>,
     sheet: &[u8],
     a: usize,
     n: u64,
@@ -179,7 +178,7 @@ pub fn write_entries(
     b: usize,
     m: u64,
     limit: u64,
-) -> Put
+) -> Option<usize>
     ensures { Writes out.old w out.new result sheet.now a n old.now b m limit }
 {
     let mut p = a;

@@ -30,11 +30,8 @@ ghost use Rattle.overlay_message.specs.Promises.Message.{Leads, Ready};
 ghost use Rattle.overlay_message.specs.Promises.Message.{feed_after, timestamp_after};
 
 use decode_index::Left;
-use formats::OptionalSigned;
-use formats_write::Put;
 use overlay_feeds::Parts;
 use overlay_frame::{FeedSpot, NO_FEED};
-use realtime_views::Timestamp;
 
 // 64 bits read as signed, as their zigzag code.
 fn signed_code(n: u64) -> u64
@@ -47,25 +44,25 @@ fn signed_code(n: u64) -> u64
 }
 
 // The message's timestamp, else the old one.
-fn put_timestamp(out: &mut [u8], w: Put, given: Timestamp, known: OptionalSigned) -> Put
+fn put_timestamp(out: &mut [u8], w: Option<usize>, given: Option<u64>, known: Option<i64>) -> Option<usize>
     ensures { Adds out.old w out.new result
         (optional_w signed_w (timestamp_after (view_timestamp given) (given_signed known))) }
 {
     match given {
-        Timestamp::Given(n) => {
+        Some(n) => {
             let q = formats_write::byte(out, w, 1);
             formats_write::number(out, q, signed_code(n))
         }
-        Timestamp::Absent => formats_write::optional_signed(out, w, known),
+        None => formats_write::optional_signed(out, w, known),
     }
 }
 
 // The body of a feed whose parts stand in `home` at p: timestamp, count and trips are new, vehicles and alerts copied.
 fn write_body(
     out: &mut [u8],
-    w: Put,
-    given: Timestamp,
-    known: OptionalSigned,
+    w: Option<usize>,
+    given: Option<u64>,
+    known: Option<i64>,
     count: u64,
     keys: &[u8],
     marks: &[u32],
@@ -74,7 +71,7 @@ fn write_body(
     message: &[u8],
     home: &[u8],
     p: Parts,
-) -> Put
+) -> Option<usize>
     requires message_len_bound { length message.now ≤ most_message }
     requires writable { Writable message.now home.now keys.now marks.now order.now n }
     ensures { (F : Feed) (a e : ℕ) → PartsOf home.now F a e p
@@ -92,7 +89,7 @@ fn write_body(
 // The feed as the message s leaves it.
 fn write_feed(
     out: &mut [u8],
-    w: Put,
+    w: Option<usize>,
     keys: &[u8],
     marks: &[u32],
     order: &[u32],
@@ -101,7 +98,7 @@ fn write_feed(
     message: &[u8],
     home: &[u8],
     p: Parts,
-) -> Put
+) -> Option<usize>
     requires message_len_bound { length message.now ≤ most_message }
     requires writable { Writable message.now home.now keys.now marks.now order.now n }
     ensures { (F : Feed) (a e : ℕ) (t : Tree) → PartsOf home.now F a e p
@@ -135,7 +132,7 @@ fn write_state(
     from: usize,
     to: usize,
     count: u64,
-) -> Put
+) -> Option<usize>
     requires message_len_bound { length message.now ≤ most_message }
     requires writable { Writable message.now home.now keys.now marks.now order.now n }
     ensures { (st : State) (F : Feed) (a e : ℕ) (t : Tree)
@@ -147,7 +144,7 @@ fn write_state(
         order.now n))) (version_of st) st)) }
 {
     let version = overlay_feeds::read_head(old).version;
-    let w1 = overlay_frame::opening(new, Put::At(0), version, count, old, from, feed);
+    let w1 = overlay_frame::opening(new, Some(0), version, count, old, from, feed);
     let w2 = write_feed(new, w1, keys, marks, order, n, feed, message, home, p);
     overlay_frame::closing(new, w2, old, to, end)
 }
@@ -168,7 +165,7 @@ fn change(
     count: u64,
     home: &[u8],
     body: usize,
-) -> Put
+) -> Option<usize>
     requires lent { Lent keys.old marks.old order.old }
     requires feed_len_bound { (length feed.now ≤ most_feed) × (length message.now ≤ most_message) }
     requires judged_message { JudgedMessage message.now }
@@ -177,8 +174,8 @@ fn change(
 {
     let front = overlay_feeds::read_front(home, body);
     match decode_index::leave(keys, marks, order, feed, message, home, front.trips) {
-        Left::ManyTrips => Put::Full,
-        Left::ManyUpdates => Put::Full,
+        Left::ManyTrips => None,
+        Left::ManyUpdates => None,
         Left::Trips(n, vehicles) => {
             let p = overlay_feeds::read_back(home, front, vehicles);
             let to = overlay_frame::behind(known, p.end, from);
@@ -200,7 +197,7 @@ pub fn after_message(
     message: &[u8],
     old: &[u8],
     end: usize,
-) -> Put
+) -> Option<usize>
     requires lent { Lent keys.old marks.old order.old }
     requires feed_len_bound { (length feed.now ≤ most_feed) × (length message.now ≤ most_message) }
     requires judged_message { JudgedMessage message.now }
@@ -208,7 +205,7 @@ pub fn after_message(
     ensures { Leads new.old new.new result feed.now message.now old.now }
 {
     match overlay_frame::spot(old, feed) {
-        FeedSpot::Full => Put::Full,
+        FeedSpot::Full => None,
         FeedSpot::Known(from, body, count) => {
             change(
                 new, keys, marks, order, feed, message, old, end, from, true, count, old, body,

@@ -2,7 +2,7 @@
 // which notes where feeds and trips stand, and one over the zeros behind it.
 #![tactic(auto)]
 
-ghost use Rattle.std.specs.Prelude.{◌≡◌, ◌≤◌, ◌<◌, length};
+ghost use Rattle.std.specs.Prelude.{◌≡◌, ◌≤◌, ◌<◌, length, None};
 ghost use Rattle.formats.specs.Class.{token};
 ghost use Rattle.formats.specs.Format.{list, optional};
 ghost use Rattle.formats_check.specs.Promises.Checked.{Fine, Tested};
@@ -15,41 +15,33 @@ ghost use Rattle.overlay_open.specs.Promises.State.{records, counted, records_go
 ghost use Rattle.overlay_open.specs.Promises.State.{entry_good, feeds_good, state_good};
 ghost use Rattle.overlay_open.specs.Promises.Feeds.{RecordsPut, FeedPut, FeedsPut, HeldPut};
 
-use formats::{Numeral, Skip};
-use formats_check::{CheckedText, Entry, number_at};
+use formats_check::number_at;
 use overlay_noted::note_parts;
 
-// What a buffer is: no overlay, or one whose state ends at a place.
-#[derive(Drop)]
-pub enum Opened {
-    No,
-    At(usize),
-}
-
 // Any 64 bits, by how a signed number is written.
-fn timestamp(old: &[u8], at: usize) -> Skip
+fn timestamp(old: &[u8], at: usize) -> Option<usize>
     ensures { Fine timestamp old.now at result }
 {
     match number_at(old, at) {
-        Numeral::Got(n, p) => Skip::At(p),
-        Numeral::Bad => Skip::Broken,
+        Some((n, p)) => Some(p),
+        None => None,
     }
 }
 
-fn optional_timestamp(old: &[u8], at: usize) -> Skip
+fn optional_timestamp(old: &[u8], at: usize) -> Option<usize>
     ensures { Fine (optional timestamp) old.now at result }
 {
     if old.len() <= at {
-        return Skip::Broken;
+        return None;
     }
     let c = old[at];
     if c == 0 {
-        return Skip::At(at + 1);
+        return Some(at + 1);
     }
     if c == 1 {
         return timestamp(old, at + 1);
     }
-    Skip::Broken
+    None
 }
 
 // Trips, vehicles and alerts of the feed whose count is c, at rank r, with its entry at `entry`.
@@ -61,71 +53,71 @@ fn records(
     noted: &mut [u32],
     r: usize,
     entry: usize,
-) -> Skip
+) -> Option<usize>
     requires { r < 4 }
     ensures tested { Tested records (records_good id.now c) old.now at result }
-    ensures unless { Unless result Skip.Broken (RecordsPut records (λ v. v) old.now at r entry
+    ensures unless { Unless result None (RecordsPut records (λ v. v) old.now at r entry
         noted.old noted.new) }
 {
-    let Skip::At(p) = overlay_keyed::trips(c, id, old, at, noted, 2048 * r) else {
-        return Skip::Broken;
+    let Some(p) = overlay_keyed::trips(c, id, old, at, noted, 2048 * r) else {
+        return None;
     };
-    let Skip::At(q) = overlay_records::vehicles(old, p) else {
-        return Skip::Broken;
+    let Some(q) = overlay_records::vehicles(old, p) else {
+        return None;
     };
     let n = formats_read::number(old, at);
     note_parts(noted, r, entry, n.value as usize, p, q);
     overlay_records::alerts(old, q)
 }
 
-fn counted(id: &[u8], old: &[u8], at: usize, noted: &mut [u32], r: usize, entry: usize) -> Skip
+fn counted(id: &[u8], old: &[u8], at: usize, noted: &mut [u32], r: usize, entry: usize) -> Option<usize>
     requires { r < 4 }
     ensures tested { Tested counted (counted_good id.now) old.now at result }
-    ensures unless { Unless result Skip.Broken (RecordsPut counted (λ v. v.1) old.now at r entry
+    ensures unless { Unless result None (RecordsPut counted (λ v. v.1) old.now at r entry
         noted.old noted.new) }
 {
-    let Numeral::Got(c, p) = number_at(old, at) else {
-        return Skip::Broken;
+    let Some((c, p)) = number_at(old, at) else {
+        return None;
     };
     if 2048 < c {
-        return Skip::Broken;
+        return None;
     }
     records(c, id, old, p, noted, r, entry)
 }
 
-fn feed(id: &[u8], old: &[u8], at: usize, noted: &mut [u32], r: usize, entry: usize) -> Skip
+fn feed(id: &[u8], old: &[u8], at: usize, noted: &mut [u32], r: usize, entry: usize) -> Option<usize>
     requires { r < 4 }
     ensures tested { Tested feed (feed_good id.now) old.now at result }
-    ensures unless { Unless result Skip.Broken (RecordsPut feed (λ v. v.1.1) old.now at r entry
+    ensures unless { Unless result None (RecordsPut feed (λ v. v.1.1) old.now at r entry
         noted.old noted.new) }
 {
-    let Skip::At(p) = optional_timestamp(old, at) else {
-        return Skip::Broken;
+    let Some(p) = optional_timestamp(old, at) else {
+        return None;
     };
     counted(id, old, p, noted, r, entry)
 }
 
 // A feed and its id, at rank r: class 2 is that of tokens.
-fn feed_entry(old: &[u8], at: usize, noted: &mut [u32], r: usize) -> Entry
+fn feed_entry(old: &[u8], at: usize, noted: &mut [u32], r: usize) -> Option<(usize, usize, usize)>
     requires { r < 4 }
     ensures entered { Entered 16 token entry_good old.now at result }
-    ensures unless { Unless result Entry.No (FeedPut old.now at r noted.old noted.new) }
+    ensures unless { Unless result None (FeedPut old.now at r noted.old noted.new) }
 {
-    let CheckedText::At(a, e) = formats_check::text_at(2, 16, old, at) else {
-        return Entry::No;
+    let Some((a, e)) = formats_check::text_at(2, 16, old, at) else {
+        return None;
     };
     match feed(&old[a..e], old, e, noted, r, at) {
-        Skip::At(q) => Entry::At(a, e, q),
-        Skip::Broken => Entry::No,
+        Some(q) => Some((a, e, q)),
+        None => None,
     }
 }
 
 // n feeds one after another, ascending by id: the walk keeps the place of the last id.
-fn feeds_from(n: u64, old: &[u8], at: usize, noted: &mut [u32]) -> Skip
+fn feeds_from(n: u64, old: &[u8], at: usize, noted: &mut [u32]) -> Option<usize>
     requires at_in_bounds { at ≤ length old.now }
     requires n_bound { n ≤ 4 }
     ensures climbs { Climbs 16 token entry_good weightless (whatever n) n old.now at result }
-    ensures unless { Unless result Skip.Broken (FeedsPut old.now at n noted.old
+    ensures unless { Unless result None (FeedsPut old.now at n noted.old
         noted.new) }
 {
     let mut p = at;
@@ -135,11 +127,11 @@ fn feeds_from(n: u64, old: &[u8], at: usize, noted: &mut [u32]) -> Skip
     let mut b: usize = 0;
     let mut d: usize = 0;
     while 0 < left {
-        let Entry::At(a, e, q) = feed_entry(old, p, noted, r) else {
-            return Skip::Broken;
+        let Some((a, e, q)) = feed_entry(old, p, noted, r) else {
+            return None;
         };
         if !formats_check::follows(first, old, b, d, a, e) {
-            return Skip::Broken;
+            return None;
         }
         p = q;
         first = false;
@@ -148,54 +140,54 @@ fn feeds_from(n: u64, old: &[u8], at: usize, noted: &mut [u32]) -> Skip
         r += 1;
         left -= 1;
     }
-    Skip::At(p)
+    Some(p)
 }
 
-fn feeds(old: &[u8], at: usize, noted: &mut [u32]) -> Skip
+fn feeds(old: &[u8], at: usize, noted: &mut [u32]) -> Option<usize>
     ensures tested { Tested (list 4 feed_entry) feeds_good old.now at result }
-    ensures unless { Unless result Skip.Broken (HeldPut (list 4 feed_entry) (λ v. v) old.now at
+    ensures unless { Unless result None (HeldPut (list 4 feed_entry) (λ v. v) old.now at
         noted.old noted.new) }
 {
-    let Numeral::Got(n, p) = number_at(old, at) else {
-        return Skip::Broken;
+    let Some((n, p)) = number_at(old, at) else {
+        return None;
     };
     if 4 < n {
-        return Skip::Broken;
+        return None;
     }
     feeds_from(n, old, p, noted)
 }
 
 // The byte 1, any version, the feeds.
-fn state(old: &[u8], at: usize, noted: &mut [u32]) -> Skip
+fn state(old: &[u8], at: usize, noted: &mut [u32]) -> Option<usize>
     ensures tested { Tested overlay state_good old.now at result }
-    ensures unless { Unless result Skip.Broken (HeldPut overlay feeds_of old.now at noted.old
+    ensures unless { Unless result None (HeldPut overlay feeds_of old.now at noted.old
         noted.new) }
 {
-    let Skip::At(p) = formats::given(old, at, 1) else {
-        return Skip::Broken;
+    let Some(p) = formats::given(old, at, 1) else {
+        return None;
     };
-    let Numeral::Got(v, q) = number_at(old, p) else {
-        return Skip::Broken;
+    let Some((v, q)) = number_at(old, p) else {
+        return None;
     };
     feeds(old, q, noted)
 }
 
 // QUESTION 2, and where the feeds and trips of the overlay stand, in numbers for all of them.
-pub fn open_noted(old: &[u8], noted: &mut [u32]) -> Opened
+pub fn open_noted(old: &[u8], noted: &mut [u32]) -> Option<usize>
     ensures value { result ≡ ending (state_of old.now) }
     ensures notes { Notes old.now noted.old noted.new result }
 {
-    let Skip::At(p) = state(old, 0, noted) else {
-        return Opened::No;
+    let Some(p) = state(old, 0, noted) else {
+        return None;
     };
     if slices::all_zero(&old[p..]) {
-        return Opened::At(p);
+        return Some(p);
     }
-    Opened::No
+    None
 }
 
 // QUESTION 2.
-pub fn open(old: &[u8]) -> Opened
+pub fn open(old: &[u8]) -> Option<usize>
     ensures { result ≡ ending (state_of old.now) }
 {
     let mut none = [0u32; 1];

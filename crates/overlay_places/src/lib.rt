@@ -6,7 +6,8 @@ ghost use Rattle.decode.specs.Sizes.{most_trips};
 ghost use Rattle.overlay_noted.specs.Promises.Noted.{places_length, Noted, entry_at, count_at, vehicles_at, alerts_at};
 ghost use Rattle.overlay_places.specs.Promises.Ranks.{RanksFeed};
 
-use slices::{Order, word};
+use std::cmp::Ordering;
+use slices::word;
 
 // Of the feed at rank r: the place of its entry, the count of its trips, the place of trip i, the places of its
 // vehicles and its alerts.
@@ -45,14 +46,7 @@ pub fn alerts_place(noted: &[u32], r: usize) -> usize
     word(noted, 8192 + 4 * r + 3)
 }
 
-// The rank of a feed.
-#[derive(Drop)]
-pub enum FeedRank {
-    At(usize),
-    Missing,
-}
-
-pub fn feed_rank(old: &[u8], noted: &[u32], feed: &[u8]) -> FeedRank
+pub fn feed_rank(old: &[u8], noted: &[u32], feed: &[u8]) -> Option<usize>
     requires { Noted old.now noted.now }
     ensures { RanksFeed old.now noted.now feed.now result }
 {
@@ -61,13 +55,13 @@ pub fn feed_rank(old: &[u8], noted: &[u32], feed: &[u8]) -> FeedRank
     while 0 < left {
         let p = entry_place(noted, r);
         match overlay_feeds::compare_text(old, p, feed) {
-            Order::Less => return FeedRank::Missing,
-            Order::Same => return FeedRank::At(r),
-            Order::More => {
+            Ordering::Less => return None,
+            Ordering::Equal => return Some(r),
+            Ordering::Greater => {
                 r += 1;
                 left -= 1;
             }
         }
     }
-    FeedRank::Missing
+    None
 }

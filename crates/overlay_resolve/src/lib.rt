@@ -8,57 +8,47 @@ ghost use Rattle.overlay_noted.specs.Promises.Noted.{Noted};
 ghost use Rattle.overlay_resolve.specs.Promises.Shown.{ShowsVehicle, ShowsAlerts, Resolves};
 ghost use Rattle.overlay_resolve.specs.Promises.Shown.{in_trips, by_route, record_for};
 
-use formats::OptionalNumber;
-use overlay_places::FeedRank;
-use overlay_seek::Found;
-use overlay_vehicle::OptionalPlace;
+use vehicle_place::VehiclePlace;
 
 // The place of a trip's vehicle.
-pub fn vehicle(old: &[u8], noted: &[u32], trip: &[u8]) -> OptionalPlace
+pub fn vehicle(old: &[u8], noted: &[u32], trip: &[u8]) -> Option<VehiclePlace>
     requires { Noted old.now noted.now }
     ensures { ShowsVehicle old.now trip.now result }
 {
     let n = overlay_ids::feed_end(trip);
     match overlay_places::feed_rank(old, noted, &trip[..n]) {
-        FeedRank::At(r) => {
+        Some(r) => {
             let p = overlay_places::vehicles_place(noted, r);
             overlay_vehicle::vehicle(old, p, trip)
         }
-        FeedRank::Missing => OptionalPlace::Absent,
+        None => None,
     }
 }
 
 // The place of the alerts of a trip's feed.
-pub fn alerts(old: &[u8], noted: &[u32], trip: &[u8]) -> Found
+pub fn alerts(old: &[u8], noted: &[u32], trip: &[u8]) -> Option<usize>
     requires { Noted old.now noted.now }
     ensures { ShowsAlerts old.now trip.now result }
 {
     let n = overlay_ids::feed_end(trip);
     match overlay_places::feed_rank(old, noted, &trip[..n]) {
-        FeedRank::At(r) => Found::At(overlay_places::alerts_place(noted, r)),
-        FeedRank::Missing => Found::Missing,
+        Some(r) => Some(overlay_places::alerts_place(noted, r)),
+        None => None,
     }
 }
 
-// Where a record stands, and where the entry of its feed, which begins with the feed's id.
-#[derive(Drop)]
-pub enum Resolved {
-    At(usize, usize),
-    Missing,
-}
-
 // A feed's record by a trip id.
-fn trip_in_feed(old: &[u8], noted: &[u32], feed: &[u8], trip: &[u8]) -> Resolved
+fn trip_in_feed(old: &[u8], noted: &[u32], feed: &[u8], trip: &[u8]) -> Option<(usize, usize)>
     requires { Noted old.now noted.now }
     ensures { Resolves (in_trips feed.now (get_trip feed.now trip.now))
         old.now result }
 {
     match overlay_places::feed_rank(old, noted, feed) {
-        FeedRank::At(r) => match overlay_find::get_trip(old, noted, r, feed, trip) {
-            Found::At(p) => Resolved::At(p, overlay_places::entry_place(noted, r)),
-            Found::Missing => Resolved::Missing,
+        Some(r) => match overlay_find::get_trip(old, noted, r, feed, trip) {
+            Some(p) => Some((p, overlay_places::entry_place(noted, r))),
+            None => None,
         },
-        FeedRank::Missing => Resolved::Missing,
+        None => None,
     }
 }
 
@@ -68,22 +58,22 @@ fn route_in_feed(
     noted: &[u32],
     feed: &[u8],
     route: &[u8],
-    direction: OptionalNumber,
+    direction: Option<u64>,
     date: &[u8],
-) -> Resolved
+) -> Option<(usize, usize)>
     requires { Noted old.now noted.now }
     ensures { Resolves (in_trips feed.now
         (find_trip_by_descriptor feed.now route.now (given_number direction) date.now))
         old.now result }
 {
     match overlay_places::feed_rank(old, noted, feed) {
-        FeedRank::At(r) => {
+        Some(r) => {
             match overlay_find::by_descriptor(old, noted, r, feed, route, direction, date) {
-                Found::At(p) => Resolved::At(p, overlay_places::entry_place(noted, r)),
-                Found::Missing => Resolved::Missing,
+                Some(p) => Some((p, overlay_places::entry_place(noted, r))),
+                None => None,
             }
         }
-        FeedRank::Missing => Resolved::Missing,
+        None => None,
     }
 }
 
@@ -92,14 +82,14 @@ fn by_route(
     old: &[u8],
     noted: &[u32],
     route: &[u8],
-    direction: OptionalNumber,
+    direction: Option<u64>,
     date: &[u8],
-) -> Resolved
+) -> Option<(usize, usize)>
     requires { Noted old.now noted.now }
     ensures { Resolves (by_route route.now (given_number direction) date.now) old.now result }
 {
     if route.len() == 0 {
-        return Resolved::Missing;
+        return None;
     }
     let n = overlay_ids::feed_end(route);
     route_in_feed(old, noted, &route[..n], route, direction, date)
@@ -111,17 +101,17 @@ pub fn resolve(
     noted: &[u32],
     trip: &[u8],
     route: &[u8],
-    direction: OptionalNumber,
+    direction: Option<u64>,
     date: &[u8],
-) -> Resolved
+) -> Option<(usize, usize)>
     requires { Noted old.now noted.now }
     ensures { Resolves (record_for trip.now route.now (given_number direction) date.now)
         old.now result }
 {
     let n = overlay_ids::feed_end(trip);
     match trip_in_feed(old, noted, &trip[..n], trip) {
-        Resolved::At(p, e) => Resolved::At(p, e),
-        Resolved::Missing => by_route(old, noted, route, direction, date),
+        Some((p, e)) => Some((p, e)),
+        None => by_route(old, noted, route, direction, date),
     }
 }
 
@@ -131,9 +121,9 @@ pub fn resolve_leg(
     noted: &[u32],
     trip: &[u8],
     route: &[u8],
-    direction: OptionalNumber,
+    direction: Option<u64>,
     departs: u64,
-) -> Resolved
+) -> Option<(usize, usize)>
     requires { Noted old.now noted.now }
     ensures { Resolves (record_for trip.now route.now (given_number direction) (paris_digits departs))
         old.now result }

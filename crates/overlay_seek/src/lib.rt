@@ -4,13 +4,6 @@
 
 ghost use Rattle.overlay_seek.specs.Promises.Answers.{IsText};
 
-// Where the value that is sought stands.
-#[derive(Clone, Copy)]
-pub enum Found {
-    At(usize),
-    Missing,
-}
-
 // Whether the text at `at` is x.
 pub fn is_text(old: &[u8], at: usize, x: &[u8]) -> bool
     ensures { IsText old.now at x.now result }

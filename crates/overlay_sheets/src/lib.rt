@@ -2,7 +2,7 @@
 // the rest is copied. What question 7 refuses is answered as what does not fit, and nothing is written.
 #![tactic(auto)]
 
-ghost use Rattle.std.specs.Prelude.{◌≡◌, true, List, length, ℤ, pos, ◌-ℤ◌};
+ghost use Rattle.std.specs.Prelude.{◌≡◌, true, List, length, ℤ, pos, ◌-ℤ◌, Some};
 ghost use Rattle.maps.specs.Map.{puts};
 ghost use Rattle.maps.specs.Order.{texts};
 ghost use Rattle.formats.specs.Number.{zag};
@@ -19,7 +19,6 @@ ghost use Rattle.overlay_frame.specs.Promises.Body.{BodyAt};
 ghost use Rattle.overlay_frame.specs.Promises.Changes.{Changes};
 ghost use Rattle.overlay_bodies.specs.Promises.Bodies.{AlertsIn, VehiclesIn, VehiclesAlone};
 
-use formats_write::Put;
 use overlay_feeds::Parts;
 use overlay_frame::{FeedSpot, NO_FEED};
 
@@ -35,7 +34,7 @@ fn put_alerts(
     home: &[u8],
     body: usize,
     sheet: &[u8],
-) -> Put
+) -> Option<usize>
     ensures { (s : State) (vs : List Alert)
         → BodyAt old.now end s feed.now from known count home.now body
         → AlertsIn sheet.now vs → ok 7 (list 256 alert) vs ≡ true
@@ -44,19 +43,19 @@ fn put_alerts(
     let version = overlay_feeds::read_head(old).version;
     let p = overlay_feeds::read_parts(home, body);
     let to = overlay_frame::behind(known, p.end, from);
-    let w1 = overlay_frame::opening(out, Put::At(0), version, count, old, from, feed);
+    let w1 = overlay_frame::opening(out, Some(0), version, count, old, from, feed);
     let w2 = overlay_bodies::alerts_over(out, w1, home, body, p, sheet);
     overlay_frame::closing(out, w2, old, to, end)
 }
 
 // AN ALERT SHEET: the state that ends at `end`, with the sheet's alerts for those of the feed.
-pub fn after_alerts(out: &mut [u8], old: &[u8], end: usize, feed: &[u8], sheet: &[u8]) -> Put
+pub fn after_alerts(out: &mut [u8], old: &[u8], end: usize, feed: &[u8], sheet: &[u8]) -> Option<usize>
     ensures { (s : State) (vs : List Alert) → Here overlay old.now 0 end s → valid s ≡ true
         → AlertsIn sheet.now vs → ok 7 (list 256 alert) vs ≡ true
         → Changes out.old out.new result (after_alerts feed.now vs s) }
 {
     match overlay_frame::spot(old, feed) {
-        FeedSpot::Full => Put::Full,
+        FeedSpot::Full => None,
         FeedSpot::Known(from, body, count) => {
             put_alerts(out, old, end, feed, from, true, count, old, body, sheet)
         }
@@ -81,19 +80,19 @@ fn write_vehicles(
     sheet: &[u8],
     limit: u64,
     kept: u64,
-) -> Put
+) -> Option<usize>
     ensures { (s : State) (xs : Vehicles) (clock : ℤ)
         → BodyAt old.now end s feed.now from known count home.now body
         → ReadsParts home.now body p → zag limit ≡ clock -ℤ pos 900
         → VehiclesIn sheet.now home.now p.vehicles xs
         (vehicles_of (feed_at feed.now s))
         → kept ≡ length (without_stale clock (puts texts xs (vehicles_of (feed_at feed.now s))))
-        → Adds out.old (Put.At 0) out.new result
+        → Adds out.old (Some 0) out.new result
         (write overlay (after_vehicles feed.now xs clock s)) }
 {
     let version = std::num::wrapping_add_u64(overlay_feeds::read_head(old).version, 1);
     let to = overlay_frame::behind(known, p.end, from);
-    let w1 = overlay_frame::opening(out, Put::At(0), version, count, old, from, feed);
+    let w1 = overlay_frame::opening(out, Some(0), version, count, old, from, feed);
     let w2 = overlay_bodies::vehicles_over(out, w1, kept, sheet, limit, home, body, p);
     overlay_frame::closing(out, w2, old, to, end)
 }
@@ -111,7 +110,7 @@ fn put_vehicles(
     body: usize,
     sheet: &[u8],
     limit: u64,
-) -> Put
+) -> Option<usize>
     ensures { (s : State) (xs : Vehicles) (clock : ℤ)
         → BodyAt old.now end s feed.now from known count home.now body
         → zag limit ≡ clock -ℤ pos 900 → VehiclesAlone sheet.now xs
@@ -120,7 +119,7 @@ fn put_vehicles(
     let p = overlay_feeds::read_parts(home, body);
     let kept = overlay_bodies::count_left(sheet, home, p.vehicles, limit);
     if 1024 < kept {
-        return Put::Full;
+        return None;
     }
     write_vehicles(
         out, old, end, feed, from, known, count, home, body, p, sheet, limit, kept,
@@ -136,13 +135,13 @@ pub fn after_vehicles(
     feed: &[u8],
     sheet: &[u8],
     limit: u64,
-) -> Put
+) -> Option<usize>
     ensures { (s : State) (xs : Vehicles) (clock : ℤ) → Here overlay old.now 0 end s → valid s ≡ true
         → zag limit ≡ clock -ℤ pos 900 → VehiclesAlone sheet.now xs
         → Changes out.old out.new result (after_vehicles feed.now xs clock s) }
 {
     match overlay_frame::spot(old, feed) {
-        FeedSpot::Full => Put::Full,
+        FeedSpot::Full => None,
         FeedSpot::Known(from, body, count) => {
             put_vehicles(
                 out, old, end, feed, from, true, count, old, body, sheet, limit,

@@ -8,108 +8,107 @@ ghost use Rattle.formats_check.specs.Promises.Checked.{Checked, Fine, Tested};
 ghost use Rattle.formats_check.specs.Laws.Rising.{Rises, ascend};
 ghost use Rattle.overlay_trip.specs.Laws.Trip.{time_good, route_good, trip_good};
 
-use formats::{Numeral, Skip};
 use formats_check::{at_most, number_at, number_five, number_long, printable};
 
 // Any 32 bits: a delay, by how a signed number is written, or a number.
-fn word(old: &[u8], at: usize) -> Skip
+fn word(old: &[u8], at: usize) -> Option<usize>
     ensures fine { Fine delay old.now at result }
     ensures fine_2 { Fine number32 old.now at result }
 {
-    let Numeral::Got(n, p) = number_at(old, at) else {
-        return Skip::Broken;
+    let Some((n, p)) = number_at(old, at) else {
+        return None;
     };
     if 4294967295 < n {
-        return Skip::Broken;
+        return None;
     }
-    Skip::At(p)
+    Some(p)
 }
 
-pub fn instant(old: &[u8], at: usize) -> Skip
+pub fn instant(old: &[u8], at: usize) -> Option<usize>
     ensures { Fine instant old.now at result }
 {
-    let Numeral::Got(n, p) = number_five(old, at) else {
-        return Skip::Broken;
+    let Some((n, p)) = number_five(old, at) else {
+        return None;
     };
     if n % 2 != 0 {
-        return Skip::Broken;
+        return None;
     }
     if 8204889600 < n {
-        return Skip::Broken;
+        return None;
     }
-    Skip::At(p)
+    Some(p)
 }
 
-pub fn optional_word(old: &[u8], at: usize) -> Skip
+pub fn optional_word(old: &[u8], at: usize) -> Option<usize>
     ensures fine { Fine (optional delay) old.now at result }
     ensures fine_2 { Fine (optional number32) old.now at result }
 {
     if old.len() <= at {
-        return Skip::Broken;
+        return None;
     }
     let c = old[at];
     if c == 0 {
-        return Skip::At(at + 1);
+        return Some(at + 1);
     }
     if c == 1 {
         return word(old, at + 1);
     }
-    Skip::Broken
+    None
 }
 
-fn optional_instant(old: &[u8], at: usize) -> Skip
+fn optional_instant(old: &[u8], at: usize) -> Option<usize>
     ensures { Fine (optional instant) old.now at result }
 {
     if old.len() <= at {
-        return Skip::Broken;
+        return None;
     }
     let c = old[at];
     if c == 0 {
-        return Skip::At(at + 1);
+        return Some(at + 1);
     }
     if c == 1 {
         return instant(old, at + 1);
     }
-    Skip::Broken
+    None
 }
 
 // Delay and time of one event, and what follows them in a stop's update.
-fn departure(old: &[u8], at: usize) -> Skip
+fn departure(old: &[u8], at: usize) -> Option<usize>
     ensures { Fine (optional delay & optional instant & small 1) old.now at result }
 {
-    let Skip::At(p) = optional_word(old, at) else {
-        return Skip::Broken;
+    let Some(p) = optional_word(old, at) else {
+        return None;
     };
-    let Skip::At(q) = optional_instant(old, p) else {
-        return Skip::Broken;
+    let Some(q) = optional_instant(old, p) else {
+        return None;
     };
     at_most(1, old, q)
 }
 
-fn arrival(old: &[u8], at: usize) -> Skip
+fn arrival(old: &[u8], at: usize) -> Option<usize>
     ensures { Fine (optional delay & optional instant & optional delay & optional instant & small 1)
         old.now at result }
 {
-    let Skip::At(p) = optional_word(old, at) else {
-        return Skip::Broken;
+    let Some(p) = optional_word(old, at) else {
+        return None;
     };
-    let Skip::At(q) = optional_instant(old, p) else {
-        return Skip::Broken;
+    let Some(q) = optional_instant(old, p) else {
+        return None;
     };
     departure(old, q)
 }
 
-fn stop_update(old: &[u8], at: usize) -> Skip
+fn stop_update(old: &[u8], at: usize) -> Option<usize>
     ensures { Fine stop_update old.now at result }
 {
-    let Skip::At(p) = printable(64, old, at) else {
-        return Skip::Broken;
+    let Some(p) = printable(64, old, at) else {
+        return None;
     };
     arrival(old, p)
 }
 
 // n updates one after another, ascending by sequence: the walk keeps the least that the next may have.
-fn updates_from(n: u64, old: &[u8], at: usize) -> Skip
+fn updates_from(n: u64, old: &[u8], at: usize) -> Option<usize>
     requires { at ≤ length old.now }
     ensures { Rises 4294967295 stop_update 0 n old.now at result }
 {
@@ -117,73 +116,73 @@ fn updates_from(n: u64, old: &[u8], at: usize) -> Skip
     let mut left = n;
     let mut low: u64 = 0;
     while 0 < left {
-        let Numeral::Got(k, q) = number_at(old, p) else {
-            return Skip::Broken;
+        let Some((k, q)) = number_at(old, p) else {
+            return None;
         };
         if k < low {
-            return Skip::Broken;
+            return None;
         }
         if 4294967295 < k {
-            return Skip::Broken;
+            return None;
         }
-        let Skip::At(e) = stop_update(old, q) else {
-            return Skip::Broken;
+        let Some(e) = stop_update(old, q) else {
+            return None;
         };
         p = e;
         low = k + 1;
         left -= 1;
     }
-    Skip::At(p)
+    Some(p)
 }
 
 // The updates of a trip: at most 128, each good, ascending by sequence.
-fn updates(old: &[u8], at: usize) -> Skip
+fn updates(old: &[u8], at: usize) -> Option<usize>
     ensures { Checked (list 128 (number32 & stop_update)) (ascend 128 4294967295 stop_update)
         old.now at result }
 {
-    let Numeral::Got(n, p) = number_long(old, at) else {
-        return Skip::Broken;
+    let Some((n, p)) = number_long(old, at) else {
+        return None;
     };
     if 128 < n {
-        return Skip::Broken;
+        return None;
     }
     updates_from(n, old, p)
 }
 
 // The record of a trip from its start time on, from its route on, and whole.
-fn from_time(old: &[u8], at: usize) -> Skip
+fn from_time(old: &[u8], at: usize) -> Option<usize>
     ensures { Tested (time & list 128 (number32 & stop_update)) time_good old.now at result }
 {
-    let Skip::At(p) = printable(16, old, at) else {
-        return Skip::Broken;
+    let Some(p) = printable(16, old, at) else {
+        return None;
     };
     updates(old, p)
 }
 
-fn from_route(old: &[u8], at: usize) -> Skip
+fn from_route(old: &[u8], at: usize) -> Option<usize>
     ensures { Tested (id & optional number32 & time & list 128 (number32 & stop_update)) route_good
         old.now at result }
 {
-    let Skip::At(p) = printable(64, old, at) else {
-        return Skip::Broken;
+    let Some(p) = printable(64, old, at) else {
+        return None;
     };
-    let Skip::At(q) = optional_word(old, p) else {
-        return Skip::Broken;
+    let Some(q) = optional_word(old, p) else {
+        return None;
     };
     from_time(old, q)
 }
 
-pub fn trip(old: &[u8], at: usize) -> Skip
+pub fn trip(old: &[u8], at: usize) -> Option<usize>
     ensures { Tested trip trip_good old.now at result }
 {
-    let Skip::At(p) = optional_word(old, at) else {
-        return Skip::Broken;
+    let Some(p) = optional_word(old, at) else {
+        return None;
     };
-    let Skip::At(q) = at_most(1, old, p) else {
-        return Skip::Broken;
+    let Some(q) = at_most(1, old, p) else {
+        return None;
     };
-    let Skip::At(u) = printable(16, old, q) else {
-        return Skip::Broken;
+    let Some(u) = printable(16, old, q) else {
+        return None;
     };
     from_route(old, u)
 }

@@ -8,8 +8,6 @@ ghost use Rattle.overlay_seek.specs.Promises.Answers.{Seeks};
 ghost use Rattle.overlay_updates.specs.Promises.Updates.{StopTold, numbered, stopping};
 ghost use Rattle.overlay_updates.specs.Promises.Updates.{BySequence, ByStop, FindsUpdate};
 
-use formats::OptionalNumber;
-use overlay_seek::Found;
 
 // Whether the stop of the update at `at` is the card's stop.
 fn stop_told(old: &[u8], at: usize, feed: &[u8], stop: &[u8]) -> bool
@@ -22,7 +20,7 @@ fn stop_told(old: &[u8], at: usize, feed: &[u8], stop: &[u8]) -> bool
 }
 
 // Of the updates at `at` the first of sequence n.
-fn sequence_in(old: &[u8], at: usize, n: u64) -> Found
+fn sequence_in(old: &[u8], at: usize, n: u64) -> Option<usize>
     ensures { Seeks number32 stop_update (numbered n) old.now at result }
 {
     let c = formats_read::number(old, at);
@@ -31,16 +29,16 @@ fn sequence_in(old: &[u8], at: usize, n: u64) -> Found
     while 0 < left {
         let k = formats_read::number(old, p);
         if k.value == n {
-            return Found::At(k.next);
+            return Some(k.next);
         }
         p = decode_skip::past_update(old, k.next);
         left -= 1;
     }
-    Found::Missing
+    None
 }
 
 // Of the updates at `at` the first of the card's stop.
-fn stop_in(old: &[u8], at: usize, feed: &[u8], stop: &[u8]) -> Found
+fn stop_in(old: &[u8], at: usize, feed: &[u8], stop: &[u8]) -> Option<usize>
     ensures { Seeks number32 stop_update (stopping feed.now stop.now) old.now at result }
 {
     let c = formats_read::number(old, at);
@@ -49,16 +47,16 @@ fn stop_in(old: &[u8], at: usize, feed: &[u8], stop: &[u8]) -> Found
     while 0 < left {
         let m = formats_skip::past_number(old, p);
         if stop_told(old, m, feed, stop) {
-            return Found::At(m);
+            return Some(m);
         }
         p = decode_skip::past_update(old, m);
         left -= 1;
     }
-    Found::Missing
+    None
 }
 
 // The update of sequence n of the trip at `at`.
-pub fn by_sequence(old: &[u8], at: usize, n: u64) -> Found
+pub fn by_sequence(old: &[u8], at: usize, n: u64) -> Option<usize>
     ensures { BySequence old.now at n result }
 {
     let p = decode_skip::updates_place(old, at);
@@ -66,7 +64,7 @@ pub fn by_sequence(old: &[u8], at: usize, n: u64) -> Found
 }
 
 // The update of the card's stop of the trip at `at`, in a feed.
-pub fn by_stop(old: &[u8], at: usize, feed: &[u8], stop: &[u8]) -> Found
+pub fn by_stop(old: &[u8], at: usize, feed: &[u8], stop: &[u8]) -> Option<usize>
     ensures { ByStop old.now at feed.now stop.now result }
 {
     let p = decode_skip::updates_place(old, at);
@@ -78,17 +76,17 @@ pub fn find_update(
     old: &[u8],
     at: usize,
     feed: &[u8],
-    sequence: OptionalNumber,
+    sequence: Option<u64>,
     stop: &[u8],
-) -> Found
+) -> Option<usize>
     ensures { FindsUpdate old.now at feed.now (given_number sequence) stop.now result }
 {
     match sequence {
-        OptionalNumber::Absent => by_stop(old, at, feed, stop),
-        OptionalNumber::Present(n) => {
+        None => by_stop(old, at, feed, stop),
+        Some(n) => {
             match by_sequence(old, at, n) {
-                Found::At(p) => Found::At(p),
-                Found::Missing => by_stop(old, at, feed, stop),
+                Some(p) => Some(p),
+                None => by_stop(old, at, feed, stop),
             }
         }
     }

@@ -5,14 +5,7 @@
 ghost use Rattle.overlay_vehicle.specs.Promises.Vehicle.{MakesTrip, Seen, FindsVehicle, ReadsVehicle};
 ghost use Rattle.overlay_vehicle.specs.Promises.Vehicle.{SeesVehicle};
 
-use overlay_seek::Found;
 use vehicle_place::VehiclePlace;
-
-#[derive(Drop)]
-pub enum OptionalPlace {
-    Absent,
-    Present(VehiclePlace),
-}
 
 // Whether the vehicle at `at` makes a trip.
 fn makes_trip(old: &[u8], at: usize, trip: &[u8]) -> bool
@@ -28,32 +21,32 @@ fn makes_trip(old: &[u8], at: usize, trip: &[u8]) -> bool
 }
 
 // The first vehicle that is keyed by a trip's id, if one was seen; else the one at p, whose id ends at m, if it is.
-fn or_keyed(seen: Found, old: &[u8], p: usize, m: usize, trip: &[u8]) -> Found
+fn or_keyed(seen: Option<usize>, old: &[u8], p: usize, m: usize, trip: &[u8]) -> Option<usize>
     ensures { Seen seen old.now p m trip.now result }
 {
     match seen {
-        Found::At(q) => Found::At(q),
-        Found::Missing => {
+        Some(q) => Some(q),
+        None => {
             if overlay_seek::is_text(old, p, trip) {
-                return Found::At(m);
+                return Some(m);
             }
-            Found::Missing
+            None
         }
     }
 }
 
 // Of the vehicles at `at` that of a trip, in one pass.
-pub fn find_vehicle(old: &[u8], at: usize, trip: &[u8]) -> Found
+pub fn find_vehicle(old: &[u8], at: usize, trip: &[u8]) -> Option<usize>
     ensures { FindsVehicle old.now at trip.now result }
 {
     let c = formats_read::number(old, at);
     let mut p = c.next;
     let mut left = c.value;
-    let mut seen = Found::Missing;
+    let mut seen = None;
     while 0 < left {
         let m = formats_skip::past_text(old, p);
         if makes_trip(old, m, trip) {
-            return Found::At(m);
+            return Some(m);
         }
         seen = or_keyed(seen, old, p, m, trip);
         p = overlay_skip::past_vehicle(old, m);
@@ -73,11 +66,11 @@ pub fn read_vehicle(old: &[u8], at: usize) -> VehiclePlace
 }
 
 // The place of a trip's vehicle, of those at `at`.
-pub fn vehicle(old: &[u8], at: usize, trip: &[u8]) -> OptionalPlace
+pub fn vehicle(old: &[u8], at: usize, trip: &[u8]) -> Option<VehiclePlace>
     ensures { SeesVehicle old.now at trip.now result }
 {
     match find_vehicle(old, at, trip) {
-        Found::At(p) => OptionalPlace::Present(read_vehicle(old, p)),
-        Found::Missing => OptionalPlace::Absent,
+        Some(p) => Some(read_vehicle(old, p)),
+        None => None,
     }
 }

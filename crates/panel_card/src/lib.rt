@@ -2,10 +2,7 @@
 // zeros behind what was written and in the working buffers.
 #![tactic(auto)]
 
-use formats_judge::Judge;
-use formats_write::Put;
 use journey_card::Survey;
-use overlay_open::Opened;
 use panel_output::Ending;
 
 mod table;
@@ -36,7 +33,7 @@ const NOTHING: u32 = 0;
 const LABELS_LENGTH: usize = 1025;
 
 // The end of a card, and the first of the questions 5 to 7 that it fails.
-pub fn judge_card(card: &[u8]) -> Judge
+pub fn judge_card(card: &[u8]) -> Option<(usize, u32)>
     ensures { result ≡ judge_to form.card card.now 0 }
 {
     formats_judge::judge_value(&CARD_TABLE, CARD_DEPTH, CARD, card, 0)
@@ -49,7 +46,7 @@ fn card_number(card: &[u8]) -> u32
     if MOST_CARD < card.len() {
         return 3;
     }
-    let Judge::At(p, n) = judge_card(card) else {
+    let Some((p, n)) = judge_card(card) else {
         return 4;
     };
     if p < card.len() {
@@ -65,7 +62,7 @@ fn asked(old: &[u8], card: &[u8], noted: &mut [u32]) -> u32
     ensures value { result ≡ asked_number old.now card.now }
     ensures asked_notes { AskedNotes old.now noted.new result }
 {
-    let Opened::At(end) = overlay_open::open_noted(old, noted) else {
+    let Some(end) = overlay_open::open_noted(old, noted) else {
         return 2;
     };
     card_number(card)
@@ -80,7 +77,7 @@ fn finish(
     candidates: &mut [u16],
     met: &mut [u16],
     known: &mut [u32],
-) -> Put
+) -> Option<usize>
     requires noted { Noted old.now noted.now }
     requires lent { Lent old.now candidates.old met.old }
     requires card_nonzero { (0 < length card.now) × Knows most_text old.now known.old }
@@ -104,7 +101,7 @@ fn finish(
         &tos,
         g.labels,
         out,
-        Put::At(0),
+        Some(0),
     )
 }
 

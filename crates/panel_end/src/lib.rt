@@ -5,7 +5,6 @@ ghost use Rattle.std.specs.Prelude.{◌≡◌};
 ghost use Rattle.formats_judge.specs.Judged.{judge_to};
 ghost use Rattle.panel.specs.End.{form_of, end};
 
-use formats_judge::Judge;
 
 // The kinds of forms.
 const CARD: u32 = 0;
@@ -15,7 +14,7 @@ const ALERT_SHEET: u32 = 1;
 const VEHICLE_SHEET: u32 = 2;
 
 // The end of a kind's form; the questions that it fails are not asked for.
-fn judge(kind: u32, bytes: &[u8]) -> Judge
+fn judge(kind: u32, bytes: &[u8]) -> Option<(usize, u32)>
     ensures { result ≡ judge_to (form_of kind) bytes.now 0 }
 {
     if kind == CARD {
@@ -27,7 +26,7 @@ fn judge(kind: u32, bytes: &[u8]) -> Judge
     if kind == VEHICLE_SHEET {
         return panel_questions::judge_vehicles(bytes);
     }
-    Judge::Broken
+    None
 }
 
 // How many bytes the form has; 0 where there is none.
@@ -35,7 +34,7 @@ pub fn end(kind: u32, bytes: &[u8]) -> usize
     ensures { result ≡ end kind bytes.now }
 {
     match judge(kind, bytes) {
-        Judge::At(p, n) => p,
-        Judge::Broken => 0,
+        Some((p, n)) => p,
+        None => 0,
     }
 }

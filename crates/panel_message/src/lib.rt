@@ -11,7 +11,6 @@ ghost use Rattle.panel_output.specs.Promises.Ends.{Ends, Zeros};
 ghost use Rattle.panel_message.specs.Promises.Message.{message_number, number_by};
 
 use decode::sizes::{KEYS_LENGTH, MARKS_LENGTH, MOST_MESSAGE, ORDER_LENGTH};
-use overlay_open::Opened;
 use panel_output::Ending;
 use realtime::Verdict;
 use realtime_read::{FEED_MESSAGE, ID_LIMIT};
@@ -73,7 +72,7 @@ fn message_ending(
     if !panel_output::same_lengths(&given, &due) {
         return Ending::Refused(1);
     }
-    let Opened::At(end) = overlay_open::open(old) else {
+    let Some(end) = overlay_open::open(old) else {
         return Ending::Refused(2);
     };
     let number = message_number(feed, message);

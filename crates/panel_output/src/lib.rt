@@ -6,7 +6,6 @@ ghost use Rattle.std.specs.Prelude.{◌≡◌};
 ghost use Rattle.basics.specs.Texts.{same};
 ghost use Rattle.panel_output.specs.Promises.Ending.{ending_of, put_ending, Cleared, Finished};
 
-use formats_write::Put;
 
 // A call is refused by the question of this number, or it has written its output up to a place.
 #[derive(Drop)]
@@ -33,17 +32,17 @@ pub fn same_lengths(given: &[usize], due: &[usize]) -> bool
 }
 
 // What does not fit is the question's of this number.
-pub fn ended(w: Put, full: u32) -> Ending
+pub fn ended(w: Option<usize>, full: u32) -> Ending
     ensures { result ≡ ending_of full w }
 {
     match w {
-        Put::At(p) => Ending::Written(p),
-        Put::Full => Ending::Refused(full),
+        Some(p) => Ending::Written(p),
+        None => Ending::Refused(full),
     }
 }
 
 // A state that does not fit is question 7's.
-pub fn of_put(w: Put) -> Ending
+pub fn of_put(w: Option<usize>) -> Ending
     ensures { result ≡ put_ending w }
 {
     ended(w, 7)

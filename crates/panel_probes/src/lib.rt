@@ -9,7 +9,6 @@ ghost use Rattle.panel.specs.Lengths.{sized};
 ghost use Rattle.panel.specs.Given.{Given};
 ghost use Rattle.panel_probes.specs.States.{end_of, length_of};
 
-use overlay_open::Opened;
 use panel_report::OVERLAY;
 
 // Up to the published length.
@@ -28,8 +27,8 @@ pub extern "C" fn states_open(s: &[u8]) -> usize
     ensures { result ≡ end_of (state_of s.now) }
 {
     match overlay_open::open(s) {
-        Opened::No => 0,
-        Opened::At(p) => p,
+        None => 0,
+        Some(p) => p,
     }
 }
 

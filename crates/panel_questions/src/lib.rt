@@ -1,7 +1,6 @@
 // Questions 3 to 7 put to a sheet and its feed id, before any work.
 #![tactic(auto)]
 
-use formats_judge::Judge;
 
 mod table;
 
@@ -15,14 +14,14 @@ ghost use Rattle.panel_questions.specs.Promises.Numbers.{alert_number, timed, ve
 use table::{ALERT_DEPTH, ALERT_SHEET, ALERTS, VEHICLE_DEPTH, VEHICLE_SHEET, VEHICLES};
 
 // An alert sheet's end, and the first of the questions 5 to 7 that it fails.
-pub fn judge_alerts(sheet: &[u8]) -> Judge
+pub fn judge_alerts(sheet: &[u8]) -> Option<(usize, u32)>
     ensures { result ≡ judge_to alert_sheet sheet.now 0 }
 {
     formats_judge::judge_value(&ALERTS, ALERT_DEPTH, ALERT_SHEET, sheet, 0)
 }
 
 // The same of a vehicle sheet.
-pub fn judge_vehicles(sheet: &[u8]) -> Judge
+pub fn judge_vehicles(sheet: &[u8]) -> Option<(usize, u32)>
     ensures { result ≡ judge_to vehicle_sheet sheet.now 0 }
 {
     formats_judge::judge_value(&VEHICLES, VEHICLE_DEPTH, VEHICLE_SHEET, sheet, 0)
@@ -41,7 +40,7 @@ pub fn alert_number(feed: &[u8], sheet: &[u8]) -> u32
     if 1048576 < sheet.len() {
         return 3;
     }
-    let Judge::At(p, n) = judge_alerts(sheet) else {
+    let Some((p, n)) = judge_alerts(sheet) else {
         return 4;
     };
     if p < sheet.len() {
@@ -76,7 +75,7 @@ pub fn vehicle_number(feed: &[u8], sheet: &[u8], clock: bool) -> u32
     if 1048576 < sheet.len() {
         return 3;
     }
-    let Judge::At(p, n) = judge_vehicles(sheet) else {
+    let Some((p, n)) = judge_vehicles(sheet) else {
         return 4;
     };
     if p < sheet.len() {

@@ -14,10 +14,7 @@ ghost use Rattle.panel.specs.Lengths.{sized};
 ghost use Rattle.panel_output.specs.Promises.Ends.{Ends};
 ghost use Rattle.panel_report.specs.Promises.Report.{Reads, Written};
 
-use formats::OptionalSigned;
-use formats_write::Put;
 use overlay_feeds::FeedPlace;
-use overlay_open::Opened;
 use panel_output::Ending;
 
 // How long an overlay is, by the published lengths.
@@ -30,7 +27,7 @@ const FRESH: usize = 3;
 const REPORT: usize = 25;
 
 // The state without feeds.
-fn write_fresh(new: &mut [u8], w: Put) -> Put
+fn write_fresh(new: &mut [u8], w: Option<usize>) -> Option<usize>
     ensures { Adds new.old w new.new result (write overlay no_state) }
 {
     let w1 = formats_write::byte(new, w, 1);
@@ -43,7 +40,7 @@ fn fresh_ending(n: usize, new: &mut [u8]) -> Ending
     ensures { Ends (sized n) [] (calls.fresh (length new.old)) new.new result }
 {
     if (new.len() == n) & (FRESH <= new.len()) {
-        let w = write_fresh(new, Put::At(0));
+        let w = write_fresh(new, Some(0));
         return panel_output::of_put(w);
     }
     Ending::Refused(1)
@@ -68,15 +65,15 @@ fn bits(code: u64) -> u64
 }
 
 // A timestamp: whether it is there, and its bits.
-fn stamp(out: &mut [u8], w: Put, t: OptionalSigned) -> Put
+fn stamp(out: &mut [u8], w: Option<usize>, t: Option<i64>) -> Option<usize>
     ensures { Adds out.old w out.new result (stamped (given_signed t)) }
 {
     match t {
-        OptionalSigned::Absent => {
+        None => {
             let w1 = formats_write::byte(out, w, 0);
             formats_write::float(out, w1, 0)
         }
-        OptionalSigned::Present(z) => {
+        Some(z) => {
             let w1 = formats_write::byte(out, w, 1);
             formats_write::float(out, w1, bits(integers::to_zigzag(z)))
         }
@@ -87,7 +84,7 @@ fn stamp(out: &mut [u8], w: Put, t: OptionalSigned) -> Put
 #[derive(Drop)]
 pub struct Said {
     pub count: u64,
-    pub timestamp: OptionalSigned,
+    pub timestamp: Option<i64>,
 }
 
 // An unknown feed has a count of 0 and no timestamp.
@@ -106,19 +103,19 @@ fn read(old: &[u8], feed: &[u8]) -> Said
         }
         FeedPlace::Missing(_, _) => Said {
             count: 0,
-            timestamp: OptionalSigned::Absent,
+            timestamp: None,
         },
     }
 }
 
 // The report on a feed of an overlay.
-fn write_report(out: &mut [u8], old: &[u8], feed: &[u8]) -> Put
+fn write_report(out: &mut [u8], old: &[u8], feed: &[u8]) -> Option<usize>
     ensures { Written out.old out.new result old.now feed.now }
 {
     let h = overlay_feeds::read_head(old);
     let said = read(old, feed);
     let timestamp = said.timestamp;
-    let w1 = formats_write::float(out, Put::At(0), h.version);
+    let w1 = formats_write::float(out, Some(0), h.version);
     let w2 = formats_write::float(out, w1, said.count);
     stamp(out, w2, timestamp)
 }
@@ -134,8 +131,8 @@ fn report_ending(n: usize, old: &[u8], feed: &[u8], out: &mut [u8]) -> Ending
         return Ending::Refused(1);
     }
     match overlay_open::open(old) {
-        Opened::No => Ending::Refused(2),
-        Opened::At(_) => {
+        None => Ending::Refused(2),
+        Some(_) => {
             if panel_questions::feed_ok(feed) {
                 let w = write_report(out, old, feed);
                 return panel_output::of_put(w);

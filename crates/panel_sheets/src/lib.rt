@@ -9,7 +9,6 @@ ghost use Rattle.panel.specs.Lengths.{sized};
 ghost use Rattle.panel_output.specs.Promises.Ends.{Ends};
 ghost use Rattle.panel_questions.specs.Promises.Numbers.{ClockIs};
 
-use overlay_open::Opened;
 use panel_output::Ending;
 use panel_questions::Clock;
 
@@ -24,7 +23,7 @@ fn alert_ending(n: usize, old: &[u8], feed: &[u8], sheet: &[u8], new: &mut [u8])
     if !panel_output::same_lengths(&given, &due) {
         return Ending::Refused(1);
     }
-    let Opened::At(end) = overlay_open::open(old) else {
+    let Some(end) = overlay_open::open(old) else {
         return Ending::Refused(2);
     };
     let number = panel_questions::alert_number(feed, sheet);
@@ -64,7 +63,7 @@ fn vehicle_ending(
     if !panel_output::same_lengths(&given, &due) {
         return Ending::Refused(1);
     }
-    let Opened::At(end) = overlay_open::open(old) else {
+    let Some(end) = overlay_open::open(old) else {
         return Ending::Refused(2);
     };
     let number = panel_questions::vehicle_number(feed, sheet, clock.fine);

@@ -1,4 +1,5 @@
 -- A turn of the loop of `judge`, on plain values.
+use Rattle.std.specs.Prelude.{Some}
 use Prim.Native.Nat.{ℕ, ◌≤◌, ◌<◌}
 use mathlib.Core.Path.{◌≡◌, refl, sym, ap, ◌∙◌}
 use mathlib.Core.List.{List}
@@ -18,7 +19,6 @@ use Rattle.realtime_read.proofs.Turn.{Here, here}
 use Rattle.realtime_read.specs.declared.Step.{Step}
 use Rattle.wire.specs.Promises.Places.{key_at}
 use Rattle.wire.specs.declared.Cursor.{Cursor}
-use Rattle.wire.specs.declared.GotKey.{GotKey}
 use Rattle.realtime.specs.declared.Verdict.{Verdict}
 
 -- the judgement of a text
@@ -166,7 +166,7 @@ module _ {ρ : Rules} {σ : Schema} {t : ℕ} {s : List ℕ} {at : ℕ} {worst :
 
 -- the loop stands at `at`, and reads a key there
 abbrev pub key_here : {σ : Schema} {t : ℕ} {s : List ℕ} {at n w : ℕ} {c : Cursor} → at < length s
-    → GotKey.Read n w c ≡ key_at s at
+    → Some (n, w, c) ≡ key_at s at
     → Here σ t s at n w c.at
 key_here h e = here (refl, omega arith) h e
 

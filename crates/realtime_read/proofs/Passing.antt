@@ -1,4 +1,5 @@
 -- A field that is passed, whatever the schema says of it, on plain values.
+use Rattle.std.specs.Prelude.{Some, None}
 use Prim.Native.Nat.{ℕ, ◌<◌}
 use mathlib.Core.Path.{◌≡◌, refl, sym, ◌∙◌}
 use mathlib.Core.List.{List}
@@ -8,9 +9,6 @@ use lib.ListN.{length, drop}
 use Rattle.basics.specs.Options.{bind_o}
 use Rattle.wire.specs.Promises.Places.{number_at, text_at, skipped_at}
 use Rattle.wire.specs.declared.Cursor.{Cursor}
-use Rattle.wire.specs.declared.GotNumber.{GotNumber}
-use Rattle.wire.specs.declared.GotText.{GotText}
-use Rattle.wire.specs.declared.Skipped.{Skipped}
 use Rattle.wire.specs.Wire.{key, Value, VARINT, I64, LEN, GROUP, I32, value}
 use Rattle.wire.specs.Laws.At.{ReadAt, number_read, number_broken, text_read, text_broken, text_value}
 use Rattle.wire.specs.Laws.At.{skipped_read, skipped_broken}
@@ -77,18 +75,18 @@ module _ {σ : Schema} {t : ℕ} {s : List ℕ} {at : ℕ} (h : at < length s) {
 
   -- what was read behind the key
   pub passes : {w : ℕ} → ReadAt key s at (record { number = f; wire = w }) next → {c : Cursor}
-      → Skipped.Past c ≡ skipped_at s next f w 16
+      → Some c ≡ skipped_at s next f w 16
       → Passed σ t s at f c.at
   passes {w} K {c} e = let R = skipped_read s next f w 16 c e in over K R.0 c.at R.1
 
   pub passes_number : ReadAt key s at (record { number = f; wire = 0 }) next → {v : ℕ} {c : Cursor}
-      → GotNumber.Read v c ≡ number_at s next
+      → Some (v, c) ≡ number_at s next
       → Passed σ t s at f c.at
   passes_number K {v} {c} e =
       over K (VARINT v) c.at (number_value s f 0 next v c.at refl (number_read s next v c e))
 
   pub passes_text : ReadAt key s at (record { number = f; wire = 2 }) next → {i l : ℕ} {c : Cursor}
-      → GotText.Read i l c ≡ text_at s next
+      → Some (i, l, c) ≡ text_at s next
       → Passed σ t s at f c.at
   passes_text K {i} {l} {c} e =
       over K _ c.at (text_value s f 2 16 next i l c.at refl (text_read s next i l c e))
@@ -96,14 +94,14 @@ module _ {σ : Schema} {t : ℕ} {s : List ℕ} {at : ℕ} (h : at < length s) {
 -- nothing whole stands behind the key: there is no tree
 module _ (σ : Schema) (t : ℕ) {s : List ℕ} {at : ℕ} (h : at < length s) {f next : ℕ} where
   pub breaks : {w : ℕ} → ReadAt key s at (record { number = f; wire = w }) next
-      → Skipped.Broken ≡ skipped_at s next f w 16
+      → None ≡ skipped_at s next f w 16
       → tree σ t (drop at s) ≡ none
   breaks {w} K e = (value_bad {σ = σ} {t = t} (here h K) (skipped_broken s next f w 16 e)).same
 
-  pub breaks_number : ReadAt key s at (record { number = f; wire = 0 }) next → GotNumber.Broken ≡ number_at s next
+  pub breaks_number : ReadAt key s at (record { number = f; wire = 0 }) next → None ≡ number_at s next
       → tree σ t (drop at s) ≡ none
   breaks_number K e = (bad_number {σ = σ} {t = t} (here h K) refl (number_broken s next e)).same
 
-  pub breaks_text : ReadAt key s at (record { number = f; wire = 2 }) next → GotText.Broken ≡ text_at s next
+  pub breaks_text : ReadAt key s at (record { number = f; wire = 2 }) next → None ≡ text_at s next
       → tree σ t (drop at s) ≡ none
   breaks_text K e = (bad_text {σ = σ} {t = t} (here h K) refl (text_broken s next e)).same

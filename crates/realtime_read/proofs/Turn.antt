@@ -1,4 +1,5 @@
 -- A turn of the loop of `next`, on plain values.
+use Rattle.std.specs.Prelude.{Some, None}
 use Prim.Native.Nat.{ℕ, ◌-◌, ◌≤◌, ◌<◌}
 use mathlib.Core.Path.{◌≡◌, refl, sym, ap, ◌∙◌}
 use mathlib.Core.List.{List}
@@ -10,9 +11,6 @@ use borrow.Author.Tests.{eqb-true, eqb-false}
 use lib.Dec.{eqb}
 use Rattle.wire.specs.Promises.Places.{number_at, key_at, text_at}
 use Rattle.wire.specs.declared.Cursor.{Cursor}
-use Rattle.wire.specs.declared.GotNumber.{GotNumber}
-use Rattle.wire.specs.declared.GotKey.{GotKey}
-use Rattle.wire.specs.declared.GotText.{GotText}
 use Rattle.wire.specs.Wire.{Read, broken, read, varint, Key, key, length_delimited, Value, VARINT, I64, LEN, GROUP}
 use Rattle.wire.specs.Wire.{I32, value, field}
 use Rattle.wire.specs.Laws.Wire.{moves, reader_key, key_nil}
@@ -107,7 +105,7 @@ pub record Here (σ : Schema) (t : ℕ) (s : List ℕ) (from n w next : ℕ) : T
   pub keyed : ReadAt key s at (record { number = n; wire = w }) next
 
 abbrev pub here : {σ : Schema} {t : ℕ} {s : List ℕ} {from at n w : ℕ} {c : Cursor}
-    → (tree σ t (drop from s) ≡ tree σ t (drop at s)) × (from ≤ at) → at < length s → GotKey.Read n w c ≡ key_at s at
+    → (tree σ t (drop from s) ≡ tree σ t (drop at s)) × (from ≤ at) → at < length s → Some (n, w, c) ≡ key_at s at
     → Here σ t s from n w c.at
 here {s = s} {at = at} {n = n} {w = w} {c = c} I h e =
     record { at = at; fwd = I.1; more = h; inv = I.0; keyed = key_read s at n w c e }
@@ -235,54 +233,54 @@ module _ {σ : Schema} {t : ℕ} {s : List ℕ} {from n w next : ℕ} (H : Here 
       }
 
   -- what the listed kinds have behind the key: nothing of theirs, or a value
-  pub no_number : σ t n ≡ some a_number → GotNumber.Broken ≡ number_behind s next w → Stepped σ t s from Step.Broken
+  pub no_number : σ t n ≡ some a_number → None ≡ number_behind s next w → Stepped σ t s from Step.Broken
   no_number e = go (eqb w 0) refl
     where
-      go : (b : Bool) → eqb w 0 ≡ b → GotNumber.Broken ≡ cond b (number_at s next) GotNumber.Broken
+      go : (b : Bool) → eqb w 0 ≡ b → None ≡ cond b (number_at s next) None
           → Stepped σ t s from Step.Broken
       go true p h = bad_number (eqb-true w 0 p) (number_broken s next h)
       go false p h = wrong_number e (eqb-false w 0 p)
 
-  pub some_number : σ t n ≡ some a_number → {m : ℕ} {c : Cursor} → GotNumber.Read m c ≡ number_behind s next w
+  pub some_number : σ t n ≡ some a_number → {m : ℕ} {c : Cursor} → Some (m, c) ≡ number_behind s next w
       → Stepped σ t s from (Step.Number n m c.at)
   some_number e {m} {c} = go (eqb w 0) refl
     where
-      go : (b : Bool) → eqb w 0 ≡ b → GotNumber.Read m c ≡ cond b (number_at s next) GotNumber.Broken
+      go : (b : Bool) → eqb w 0 ≡ b → Some (m, c) ≡ cond b (number_at s next) None
           → Stepped σ t s from (Step.Number n m c.at)
       go true p h = a_number_turn e (eqb-true w 0 p) m c.at (number_read s next m c h)
       go false p h = let z : ◌≡◌ {A = ℕ} 0 1 = cc in absurd (omega arith)
 
   -- of a text, and of a message alike
-  behind : {P : Type 0} {i l : ℕ} {c : Cursor} → GotText.Read i l c ≡ text_behind s next w
+  behind : {P : Type 0} {i l : ℕ} {c : Cursor} → Some (i, l, c) ≡ text_behind s next w
       → (w ≡ 2 → TextAt s next i l c.at → P) → P
   behind {P} {i} {l} {c} = go (eqb w 2) refl
     where
-      go : (b : Bool) → eqb w 2 ≡ b → GotText.Read i l c ≡ cond b (text_at s next) GotText.Broken
+      go : (b : Bool) → eqb w 2 ≡ b → Some (i, l, c) ≡ cond b (text_at s next) None
           → (w ≡ 2 → TextAt s next i l c.at → P) → P
       go true p h q = q (eqb-true w 2 p) (text_read s next i l c h)
       go false p h q = let z : ◌≡◌ {A = ℕ} 0 1 = cc in absurd (omega arith)
 
-  not_behind : ((w ≡ 2 → ⊥) → Stepped σ t s from Step.Broken) → GotText.Broken ≡ text_behind s next w
+  not_behind : ((w ≡ 2 → ⊥) → Stepped σ t s from Step.Broken) → None ≡ text_behind s next w
       → Stepped σ t s from Step.Broken
   not_behind q = go (eqb w 2) refl
     where
-      go : (b : Bool) → eqb w 2 ≡ b → GotText.Broken ≡ cond b (text_at s next) GotText.Broken
+      go : (b : Bool) → eqb w 2 ≡ b → None ≡ cond b (text_at s next) None
           → Stepped σ t s from Step.Broken
       go true p h = bad_text (eqb-true w 2 p) (text_broken s next h)
       go false p h = q (eqb-false w 2 p)
 
-  pub no_text : σ t n ≡ some a_text → GotText.Broken ≡ text_behind s next w → Stepped σ t s from Step.Broken
+  pub no_text : σ t n ≡ some a_text → None ≡ text_behind s next w → Stepped σ t s from Step.Broken
   no_text e = not_behind (wrong_text e)
 
-  pub no_message : {u : ℕ} → σ t n ≡ some (a_message u) → GotText.Broken ≡ text_behind s next w
+  pub no_message : {u : ℕ} → σ t n ≡ some (a_message u) → None ≡ text_behind s next w
       → Stepped σ t s from Step.Broken
   no_message {u} e = not_behind (wrong_message u e)
 
-  pub some_text : σ t n ≡ some a_text → {i l : ℕ} {c : Cursor} → GotText.Read i l c ≡ text_behind s next w
+  pub some_text : σ t n ≡ some a_text → {i l : ℕ} {c : Cursor} → Some (i, l, c) ≡ text_behind s next w
       → Stepped σ t s from (Step.Text n i l c.at)
   some_text e {i} {l} {c} h = behind h (λ p. a_text_turn e p i l c.at)
 
   pub some_message : {u : ℕ} → σ t n ≡ some (a_message u) → {i l : ℕ} {c : Cursor}
-      → GotText.Read i l c ≡ text_behind s next w
+      → Some (i, l, c) ≡ text_behind s next w
       → Stepped σ t s from (Step.Message n u i l c.at)
   some_message {u} e {i} {l} {c} h = behind h (λ p. a_message_turn u e p i l c.at)

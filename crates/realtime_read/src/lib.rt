@@ -15,7 +15,7 @@ ghost use Rattle.realtime_read.specs.Promises.Schema.{holds, row};
 
 use fields::{stop_time_event, trip_descriptor};
 use realtime::Verdict;
-use wire::{Cursor, GotKey, GotNumber, GotText, Skipped};
+use wire::Cursor;
 
 // What a field holds.
 #[derive(Drop)]
@@ -154,27 +154,27 @@ pub enum Step {
 
 // Past the field behind a key. The slice goes as a part of its own: one that is handed to a function that calls
 // itself would lie in memory, in the callers too.
-pub fn past(s: &[u8], from: Cursor, field: u64, wire: u64) -> Skipped
+pub fn past(s: &[u8], from: Cursor, field: u64, wire: u64) -> Option<Cursor>
     ensures { result ≡ skipped_at s.now from.at field wire 16 }
 {
     from.skip(slices::part(s, 0, s.len()), field, wire, GROUPS_DEEP)
 }
 
 // The number behind a key, where its wire type is a number's.
-fn number_behind(s: &[u8], from: Cursor, wire: u64) -> GotNumber
+fn number_behind(s: &[u8], from: Cursor, wire: u64) -> Option<(u64, Cursor)>
     ensures { result ≡ number_behind s.now from.at wire }
 {
     if wire != wire::VARINT {
-        return GotNumber::Broken;
+        return None;
     }
     from.number(s)
 }
 
-fn text_behind(s: &[u8], from: Cursor, wire: u64) -> GotText
+fn text_behind(s: &[u8], from: Cursor, wire: u64) -> Option<(usize, usize, Cursor)>
     ensures { result ≡ text_behind s.now from.at wire }
 {
     if wire != wire::LEN {
-        return GotText::Broken;
+        return None;
     }
     from.text(s)
 }
@@ -186,27 +186,27 @@ pub fn next(s: &[u8], from: usize, message: u64) -> Step
     while at < s.len() {
         let here = Cursor { at };
         match here.key(s) {
-            GotKey::Broken => return Step::Broken,
-            GotKey::Read(field, wire, next) => match kind_of(message, field) {
+            None => return Step::Broken,
+            Some((field, wire, next)) => match kind_of(message, field) {
                 Holds::Unlisted => match past(s, next, field, wire) {
-                    Skipped::Broken => return Step::Broken,
-                    Skipped::Past(after) => {
+                    None => return Step::Broken,
+                    Some(after) => {
                         at = after.at;
                     }
                 },
                 Holds::Number => match number_behind(s, next, wire) {
-                    GotNumber::Broken => return Step::Broken,
-                    GotNumber::Read(value, after) => return Step::Number(field, value, after.at),
+                    None => return Step::Broken,
+                    Some((value, after)) => return Step::Number(field, value, after.at),
                 },
                 Holds::Text => match text_behind(s, next, wire) {
-                    GotText::Broken => return Step::Broken,
-                    GotText::Read(start, len, after) => {
+                    None => return Step::Broken,
+                    Some((start, len, after)) => {
                         return Step::Text(field, start, len, after.at);
                     }
                 },
                 Holds::Message(inner) => match text_behind(s, next, wire) {
-                    GotText::Broken => return Step::Broken,
-                    GotText::Read(start, len, after) => {
+                    None => return Step::Broken,
+                    Some((start, len, after)) => {
                         return Step::Message(field, inner, start, len, after.at);
                     }
                 },
@@ -326,24 +326,24 @@ pub fn judge(s: &[u8], message: u64, ids: usize) -> Verdict
     while at < s.len() {
         let here = Cursor { at };
         match here.key(s) {
-            GotKey::Broken => return Verdict::Broken,
-            GotKey::Read(field, wire, next) => match kind_of(message, field) {
+            None => return Verdict::Broken,
+            Some((field, wire, next)) => match kind_of(message, field) {
                 Holds::Unlisted => match past(s, next, field, wire) {
-                    Skipped::Broken => return Verdict::Broken,
-                    Skipped::Past(after) => {
+                    None => return Verdict::Broken,
+                    Some(after) => {
                         at = after.at;
                     }
                 },
                 Holds::Number => match number_behind(s, next, wire) {
-                    GotNumber::Broken => return Verdict::Broken,
-                    GotNumber::Read(value, after) => {
+                    None => return Verdict::Broken,
+                    Some((value, after)) => {
                         worst = worse(worst, judge_number(message, field, value));
                         at = after.at;
                     }
                 },
                 Holds::Text => match text_behind(s, next, wire) {
-                    GotText::Broken => return Verdict::Broken,
-                    GotText::Read(start, len, after) => {
+                    None => return Verdict::Broken,
+                    Some((start, len, after)) => {
                         worst = worse(
                             worst,
                             judge_text(slices::part(s, start, len), message, field, ids),
@@ -352,8 +352,8 @@ pub fn judge(s: &[u8], message: u64, ids: usize) -> Verdict
                     }
                 },
                 Holds::Message(inner) => match text_behind(s, next, wire) {
-                    GotText::Broken => return Verdict::Broken,
-                    GotText::Read(start, len, after) => {
+                    None => return Verdict::Broken,
+                    Some((start, len, after)) => {
                         worst = worse(worst, judge(slices::part(s, start, len), inner, ids));
                         at = after.at;
                     }

@@ -17,7 +17,7 @@ ghost use Rattle.program_io.specs.Promises.Counts.{IsPrefixLen};
 
 use realtime::Verdict;
 use realtime_read::{FEED_MESSAGE, ID_LIMIT};
-use realtime_views::{Delay, Direction, Event, Item, StopUpdate, TextPart, Time, Timestamp, Trip};
+use realtime_views::{Event, Item, StopUpdate, TextPart, Trip};
 use std::io;
 
 fn write(rt: &impl Print, s: &[u8]) -> io::Result<()> {
@@ -64,17 +64,17 @@ fn wide(z: i32) -> i64 {
     z as i64
 }
 
-fn write_delay(rt: &impl Print, d: Delay) -> io::Result<()> {
+fn write_delay(rt: &impl Print, d: Option<i32>) -> io::Result<()> {
     match d {
-        Delay::Given(z) => write_signed(rt, wide(z)),
-        Delay::Absent => write(rt, b" -"),
+        Some(z) => write_signed(rt, wide(z)),
+        None => write(rt, b" -"),
     }
 }
 
-fn write_time(rt: &impl Print, t: Time) -> io::Result<()> {
+fn write_time(rt: &impl Print, t: Option<i64>) -> io::Result<()> {
     match t {
-        Time::Given(z) => write_signed(rt, z),
-        Time::Absent => write(rt, b" -"),
+        Some(z) => write_signed(rt, z),
+        None => write(rt, b" -"),
     }
 }
 
@@ -109,23 +109,23 @@ fn write_stop(rt: &impl Print, s: &[u8], u: StopUpdate) -> io::Result<()>
     write(rt, b")")
 }
 
-fn write_direction(rt: &impl Print, d: Direction) -> io::Result<()> {
+fn write_direction(rt: &impl Print, d: Option<u32>) -> io::Result<()> {
     match d {
-        Direction::Given(n) => {
+        Some(n) => {
             write(rt, b" ")?;
             write_number(rt, n as u64)
         }
-        Direction::Absent => write(rt, b" -"),
+        None => write(rt, b" -"),
     }
 }
 
-fn write_timestamp(rt: &impl Print, t: Timestamp) -> io::Result<()> {
+fn write_timestamp(rt: &impl Print, t: Option<u64>) -> io::Result<()> {
     match t {
-        Timestamp::Given(n) => {
+        Some(n) => {
             write(rt, b" ")?;
             write_number(rt, n)
         }
-        Timestamp::Absent => write(rt, b" -"),
+        None => write(rt, b" -"),
     }
 }
 

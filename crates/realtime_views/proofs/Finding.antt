@@ -1,5 +1,6 @@
 -- The loop over the messages at field a that `seek` finds, in every type that has messages there, where theirs is one
 -- that their own reader knows (`P`). Assumes nothing.
+use Rattle.std.specs.Prelude.{Some, None}
 use Prim.Native.Nat.{ℕ, ◌-◌, ◌≤◌, ◌<◌}
 use mathlib.Core.Path.{◌≡◌, sym, ap, subst, ◌∙◌}
 use mathlib.Core.List.{List}
@@ -12,7 +13,6 @@ use Rattle.realtime_views.specs.Laws.Fold.{Walked, walk_starts}
 use Rattle.realtime_views.specs.Promises.Fold.{Takes, inside, Made}
 use Rattle.realtime_views.specs.Promises.Reading.{Lens, Ready}
 use Rattle.realtime_views.specs.Promises.Seeks.{Seeks}
-use Rattle.realtime_views.specs.declared.Met.{Met}
 use Rattle.realtime_views.proofs.Reader.{Reading, sought_ends, sought_on}
 
 -- the loop stands at `at` with d, and started at `from` with d₀: a reading for each of the types
@@ -31,14 +31,14 @@ module _ {D B : Type 0} {L : Lens D B} {φ : Takes B} {P : ℕ → Type 0} {a : 
     reading : (t u : ℕ) → feed t a ≡ some (a_message u) → P u → Reading L (inside a φ) feed t s from d₀ at d
     reading t u e p = record { walked = R.of t u e p; within = R.within; inside = R.inside }
 
-    pub found_all : Seeks feed a s at Met.End → (t u : ℕ) → feed t a ≡ some (a_message u) → P u
+    pub found_all : Seeks feed a s at None → (t u : ℕ) → feed t a ≡ some (a_message u) → P u
         → Made (inside a φ) (L.look s d₀) feed t s from (L.look s d)
     found_all S t u e p = (sought_ends a φ (reading t u e p) e S).made
 
     pub found_far : L.In (length s) d
     found_far = L.far at (length s) d R.inside R.within
 
-    pub found_next : {i l n : ℕ} {r : D} (x : List ℕ) → Seeks feed a s at (Met.Sought i l n) → x ≡ take n s
+    pub found_next : {i l n : ℕ} {r : D} (x : List ℕ) → Seeks feed a s at (Some (i, l, n)) → x ≡ take n s
         → ((u : ℕ) → P u → Made φ (L.look x d) feed u x i (L.look x r)) → L.In (length x) r
         → Finding L φ P a s from d₀ n r
     found_next {n = n} {r = r} x S e M W =
@@ -51,7 +51,7 @@ module _ {D B : Type 0} {L : Lens D B} {φ : Takes B} {P : ℕ → Type 0} {a : 
         }
 
 -- less is left behind a message
-pub found_less : {a : ℕ} {s : List ℕ} {at i l n : ℕ} → Seeks feed a s at (Met.Sought i l n)
+pub found_less : {a : ℕ} {s : List ℕ} {at i l n : ℕ} → Seeks feed a s at (Some (i, l, n))
     → length s - n < length s - at
 found_less S = omega (arith, S.lying)
 

@@ -1,19 +1,16 @@
 -- A turn of the loop for one field, in every type that lists it as a number or as a text: the loop goes by wire types,
 -- and what another wire type than the listed kind's has there is broken. Assumes nothing.
+use Rattle.std.specs.Prelude.{Option, Some, None}
 use Prim.Native.Nat.{ℕ, ◌≤◌, ◌<◌}
 use mathlib.Core.Path.{◌≡◌, refl, sym, ap, ◌∙◌}
 use mathlib.Core.List.{List}
 use mathlib.Core.Bool.{true}
-use mathlib.Core.Option.{Option, none, some}
+use mathlib.Core.Option.{Option as LogicOption, none, some}
 use native.Mathlib.Omega.{arith}
 use lib.ListN.{length, drop}
 use Rattle.wire.specs.Laws.At.{text_read}
 use Rattle.wire.specs.Promises.Places.{key_at, number_at, text_at, skipped_at}
 use Rattle.wire.specs.declared.Cursor.{Cursor}
-use Rattle.wire.specs.declared.GotKey.{GotKey}
-use Rattle.wire.specs.declared.GotNumber.{GotNumber}
-use Rattle.wire.specs.declared.GotText.{GotText}
-use Rattle.wire.specs.declared.Skipped.{Skipped}
 use Rattle.realtime.specs.Tree.{Kind, a_number, a_text, a_message, tree}
 use Rattle.realtime.specs.Schema.{feed}
 use Rattle.realtime_read.specs.Laws.Passing.{Passed}
@@ -41,7 +38,7 @@ pub ones_start : {k : ℕ} {s : List ℕ} {from : ℕ} {d : Scalar} → Ready sc
 ones_start R = record { of = λ t p. walk_starts; within = R.within; inside = R.inside }
 
 -- what is listed as a scalar is a number or a text
-by_kind : {P : Type 0} (o : Option Kind) → is_scalar o ≡ true → (o ≡ some a_number → P) → (o ≡ some a_text → P) → P
+by_kind : {P : Type 0} (o : LogicOption Kind) → is_scalar o ≡ true → (o ≡ some a_number → P) → (o ≡ some a_text → P) → P
 by_kind none e n x = let z : ◌≡◌ {A = ℕ} 0 1 = cc in absurd (omega arith)
 by_kind (some a_number) e n x = n refl
 by_kind (some a_text) e n x = x refl
@@ -60,11 +57,11 @@ module _ {k : ℕ} {s : List ℕ} {from : ℕ} {d₀ : Scalar} {at : ℕ} {d : S
   pub ones_end : length s ≤ at → OneReads k s from d₀ d
   ones_end h = record { of = λ t p. (comes_to_end (reading t p) h).made; within = far }
 
-  module _ (h : at < length s) {o : GotKey} (r : o ≡ key_at s at) where
-    pub no_key : o ≡ GotKey.Broken → OneReads k s from d₀ d
+  module _ (h : at < length s) {o : Option (ℕ × ℕ × Cursor)} (r : o ≡ key_at s at) where
+    pub no_key : o ≡ None → OneReads k s from d₀ d
     no_key g = record { of = λ t p. (key_breaks (reading t p) h (sym g ∙ r)).made; within = far }
 
-    module _ {f w : ℕ} {c : Cursor} (g : o ≡ GotKey.Read f w c) where
+    module _ {f w : ℕ} {c : Cursor} (g : o ≡ Some (f, w, c)) where
       other : {n : ℕ} → ((t : ℕ) → Passed feed t s at f n) → (f ≡ k → ⊥) → Ones k s from d₀ n d
       other {n} P q = record {
         of = λ t p. (passes_on (reading t p) (P t) (taking_skips (scalar_at k) q)).walked;
@@ -73,11 +70,11 @@ module _ {k : ℕ} {s : List ℕ} {from : ℕ} {d₀ : Scalar} {at : ℕ} {d : S
       }
 
       -- a text behind the key
-      module _ (e : w ≡ 2) {x : GotText} (y : x ≡ text_at s c.at) where
-        pub broken_text : x ≡ GotText.Broken → OneReads k s from d₀ d
+      module _ (e : w ≡ 2) {x : Option (ℕ × ℕ × Cursor)} (y : x ≡ text_at s c.at) where
+        pub broken_text : x ≡ None → OneReads k s from d₀ d
         broken_text z = ones_break (λ t. text_none s h r g e y feed t z)
 
-        module _ {i l : ℕ} {n : Cursor} (z : x ≡ GotText.Read i l n) where
+        module _ {i l : ℕ} {n : Cursor} (z : x ≡ Some (i, l, n)) where
           past_the_text : (t : ℕ) → Passed feed t s at f n.at
           past_the_text = text_passed s h r g e y z feed
 
@@ -100,11 +97,11 @@ module _ {k : ℕ} {s : List ℕ} {from : ℕ} {d₀ : Scalar} {at : ℕ} {d : S
           other_text = other past_the_text
 
       -- a number
-      module _ (e : w ≡ 0) {x : GotNumber} (y : x ≡ number_at s c.at) where
-        pub broken_number : x ≡ GotNumber.Broken → OneReads k s from d₀ d
+      module _ (e : w ≡ 0) {x : Option (ℕ × Cursor)} (y : x ≡ number_at s c.at) where
+        pub broken_number : x ≡ None → OneReads k s from d₀ d
         broken_number z = ones_break (λ t. number_none s h r g e y feed t z)
 
-        module _ {m : ℕ} {n : Cursor} (z : x ≡ GotNumber.Read m n) where
+        module _ {m : ℕ} {n : Cursor} (z : x ≡ Some (m, n)) where
           past_the_number : (t : ℕ) → Passed feed t s at f n.at
           past_the_number = number_passed s h r g e y z feed
 
@@ -125,11 +122,11 @@ module _ {k : ℕ} {s : List ℕ} {from : ℕ} {d₀ : Scalar} {at : ℕ} {d : S
           other_number = other past_the_number
 
       -- anything else
-      module _ {x : Skipped} (y : x ≡ skipped_at s c.at f w 16) where
-        pub broken_value : x ≡ Skipped.Broken → OneReads k s from d₀ d
+      module _ {x : Option Cursor} (y : x ≡ skipped_at s c.at f w 16) where
+        pub broken_value : x ≡ None → OneReads k s from d₀ d
         broken_value z = ones_break (λ t. other_none s h r g y feed t z)
 
-        module _ {n : Cursor} (z : x ≡ Skipped.Past n) where
+        module _ {n : Cursor} (z : x ≡ Some n) where
           past_it : (t : ℕ) → Passed feed t s at f n.at
           past_it = other_passed s h r g y z feed
 

@@ -1,4 +1,5 @@
 -- A turn of the loop of a reader that answers positions, on plain values. Assumes nothing.
+use Rattle.std.specs.Prelude.{Some, None}
 use Prim.Native.Nat.{ℕ, ◌+◌, ◌≤◌, ◌<◌}
 use mathlib.Core.Path.{◌≡◌, refl, sym, ap, subst, ◌∙◌}
 use mathlib.Core.List.{List}
@@ -12,7 +13,6 @@ use lib.Seq.{take-length}
 use Rattle.basics.specs.Laws.Options.{none_some}
 use Rattle.wire.specs.Laws.At.{key_broken}
 use Rattle.wire.specs.Promises.Places.{key_at}
-use Rattle.wire.specs.declared.GotKey.{GotKey}
 use Rattle.realtime.specs.Tree.{a_message, Schema, Tree, tree, sub}
 use Rattle.realtime_read.specs.Laws.Passing.{Besides, beside_nothing, beside_number, beside_text, beside_message, Passed}
 use Rattle.realtime_read.proofs.Turn.{at_end, key_bad}
@@ -22,7 +22,6 @@ use Rattle.realtime_views.specs.Laws.Fold.{walk_message, folded_join, inside_sub
 use Rattle.realtime_views.specs.Laws.Seeks.{sub_first, sub_none}
 use Rattle.realtime_views.specs.Promises.Seeks.{Seeks}
 use Rattle.realtime_views.specs.Promises.Last.{Single, taking}
-use Rattle.realtime_views.specs.declared.Met.{Met}
 use Rattle.realtime_views.specs.Promises.Fold.{inside, Takes, folded}
 use Rattle.realtime_views.specs.Laws.Reading.{front_rest}
 use Rattle.realtime_views.specs.Promises.Reading.{Lens, Ready, Reads}
@@ -161,7 +160,7 @@ module _ {D B : Type 0} {L : Lens D B} {φ : Takes B} {σ : Schema} {t : ℕ} {s
   pub breaks_off : tree σ t (drop at s) ≡ none → Reads L φ σ t s from d₀ d
   breaks_off e = stops R (record { same = e; forward = tt; typed = tt })
 
-  pub key_breaks : at < length s → GotKey.Broken ≡ key_at s at → Reads L φ σ t s from d₀ d
+  pub key_breaks : at < length s → None ≡ key_at s at → Reads L φ σ t s from d₀ d
   key_breaks h e = stops R (key_bad refl h (key_broken s at e))
 
   pub comes_to_end : length s ≤ at → Reads L φ σ t s from d₀ d
@@ -169,7 +168,7 @@ module _ {D B : Type 0} {L : Lens D B} {φ : Takes B} {σ : Schema} {t : ℕ} {s
 
 -- the messages at field j, found one after the other and read by a reader of their own over d
 pub sought_ready : {D B : Type 0} (L : Lens D B) {σ : Schema} {j : ℕ} {s : List ℕ} {at i l n : ℕ} {d : D} (x : List ℕ)
-    → Seeks σ j s at (Met.Sought i l n) → x ≡ take n s → L.In at d → Ready L x i d
+    → Seeks σ j s at (Some (i, l, n)) → x ≡ take n s → L.In at d → Ready L x i d
 sought_ready L {s = s} {at = at} {i = i} {n = n} {d = d} x S e W = record {
   inside = omega (arith, S.lying, ap length e, length-take n s);
   within = L.far at i d (omega (arith, S.lying)) W;
@@ -188,7 +187,7 @@ module _ {D B : Type 0} {L : Lens D B} (j : ℕ) (φ : Takes B) {σ : Schema} {t
       go none q h = none_some h
       go (some y) q h = p y q (sym (inside_sub j φ (L.look s d) y) ∙ cc)
 
-  pub sought_ends : Seeks σ j s at Met.End → Reads L (inside j φ) σ t s from d₀ d
+  pub sought_ends : Seeks σ j s at None → Reads L (inside j φ) σ t s from d₀ d
   sought_ends S = record {
     made = record {
       of = λ m e. left_is m e (λ y q h.
@@ -197,7 +196,7 @@ module _ {D B : Type 0} {L : Lens D B} (j : ℕ) (φ : Takes B) {σ : Schema} {t
     within = L.far at (length s) d R.inside R.within;
   }
 
-  pub sought_on : {i l n : ℕ} {r : D} (x : List ℕ) → Seeks σ j s at (Met.Sought i l n) → x ≡ take n s
+  pub sought_on : {i l n : ℕ} {r : D} (x : List ℕ) → Seeks σ j s at (Some (i, l, n)) → x ≡ take n s
       → Reads L φ σ u x i d r → Reading L (inside j φ) σ t s from d₀ n r
   sought_on {i} {l} {n} {r} x S e Q =
       let N : n ≤ length s = S.lying.inside in

@@ -1,5 +1,6 @@
 -- Steps over fields of a stop_time_update whose keys have one byte: eight times the field's number, and the wire type.
 -- Assumes nothing.
+use Rattle.std.specs.Prelude.{Option, Some}
 use Prim.Native.Nat.{ℕ, ◌+◌, ◌-◌, ◌*◌, ◌/◌, ◌%◌, ◌^◌, ◌≤◌, ◌<◌}
 use mathlib.Core.Path.{◌≡◌, refl, sym, ap, ◌∙◌}
 use mathlib.Core.Bool.{Bool, true, false, ◌||◌}
@@ -15,8 +16,6 @@ use Rattle.wire.specs.Laws.Wire.{stays, reader_varint, reader_text}
 use Rattle.wire.specs.Laws.At.{ReadAt, TextAt, number_read, text_read}
 use Rattle.wire.specs.Promises.Places.{number_at, text_at}
 use Rattle.wire.specs.declared.Cursor.{Cursor}
-use Rattle.wire.specs.declared.GotNumber.{GotNumber}
-use Rattle.wire.specs.declared.GotText.{GotText}
 use Rattle.realtime.specs.Schema.{field_rows, feed, stop_time_update, stop_time_event}
 use Rattle.realtime_read.specs.Promises.Steps.{Stepped}
 use Rattle.realtime_read.specs.declared.Step.{Step}
@@ -55,7 +54,7 @@ module _ {s : List ℕ} {at : ℕ} (h : at < length s) where
   here n w e l u v = passing.here h (short_key s at n w h e l u v)
 
   -- a number behind the key
-  module _ {o : GotNumber} {m : ℕ} {c : Cursor} (r : o ≡ number_at s (at + 1)) (g : o ≡ GotNumber.Read m c) where
+  module _ {o : Option (ℕ × Cursor)} {m : ℕ} {c : Cursor} (r : o ≡ number_at s (at + 1)) (g : o ≡ Some (m, c)) where
     sequence_step : get_or s at 0 ≡ 8 → Stepped feed stop_time_update s at (Step.Number 1 m c.at)
     unfolding feed field_rows here
     sequence_step e =
@@ -67,7 +66,7 @@ module _ {s : List ℕ} {at : ℕ} (h : at < length s) where
         some_number (here 5 0 e (omega arith) (omega arith) (omega arith)) refl (sym g ∙ r)
 
   -- a text behind it
-  module _ {o : GotText} {i l : ℕ} {c : Cursor} (r : o ≡ text_at s (at + 1)) (g : o ≡ GotText.Read i l c) where
+  module _ {o : Option (ℕ × ℕ × Cursor)} {i l : ℕ} {c : Cursor} (r : o ≡ text_at s (at + 1)) (g : o ≡ Some (i, l, c)) where
     arrival_step : get_or s at 0 ≡ 18 → Stepped feed stop_time_update s at (Step.Message 2 stop_time_event i l c.at)
     unfolding feed field_rows here
     arrival_step e = some_message (here 2 2 e (omega arith) (omega arith) (omega arith)) refl (sym g ∙ r)
@@ -86,7 +85,7 @@ Sequences s from at n = Reading (plain (λ n. n)) (taking sequence) feed stop_ti
 
 -- less is left behind a field, and a text lies inside
 module _ {s : List ℕ} {from at n : ℕ} (R : Sequences s from at n) (h : at < length s) where
-  module _ {o : GotNumber} {m : ℕ} {c : Cursor} (r : o ≡ number_at s (at + 1)) (g : o ≡ GotNumber.Read m c) where
+  module _ {o : Option (ℕ × Cursor)} {m : ℕ} {c : Cursor} (r : o ≡ number_at s (at + 1)) (g : o ≡ Some (m, c)) where
     pub number_less : length s - c.at < length s - at
     number_less =
         let N = number_read s (at + 1) m c (sym g ∙ r) in
@@ -98,7 +97,7 @@ module _ {s : List ℕ} {from at n : ℕ} (R : Sequences s from at n) (h : at < 
           N.inside,
         )
 
-  module _ {o : GotText} {i l : ℕ} {c : Cursor} (r : o ≡ text_at s (at + 1)) (g : o ≡ GotText.Read i l c) where
+  module _ {o : Option (ℕ × ℕ × Cursor)} {i l : ℕ} {c : Cursor} (r : o ≡ text_at s (at + 1)) (g : o ≡ Some (i, l, c)) where
     behind : TextAt s (at + 1) i l c.at
     behind = text_read s (at + 1) i l c (sym g ∙ r)
 
@@ -124,14 +123,14 @@ module _ {s : List ℕ} {from at q : ℕ} {p : TextPart} {k : ℕ} {a d : EventN
   short_end h e = stops_end R (at_end refl h) e
 
   module _ (h : at < length s) where
-    module _ {o : GotNumber} {m : ℕ} {c : Cursor} (r : o ≡ number_at s (at + 1)) (g : o ≡ GotNumber.Read m c) where
+    module _ {o : Option (ℕ × Cursor)} {m : ℕ} {c : Cursor} (r : o ≡ number_at s (at + 1)) (g : o ≡ Some (m, c)) where
       pub short_sequence : get_or s at 0 ≡ 8 → Stops s from c.at m p k a d
       short_sequence e = stops_sequence R (sequence_step h r g e) refl
 
       pub short_relationship : get_or s at 0 ≡ 40 → Stops s from c.at q p m a d
       short_relationship e = stops_relationship R (relationship_step h r g e) refl
 
-    module _ {o : GotText} {i l : ℕ} {c : Cursor} (r : o ≡ text_at s (at + 1)) (g : o ≡ GotText.Read i l c) where
+    module _ {o : Option (ℕ × ℕ × Cursor)} {i l : ℕ} {c : Cursor} (r : o ≡ text_at s (at + 1)) (g : o ≡ Some (i, l, c)) where
       pub short_stop : get_or s at 0 ≡ 34 → Stops s from c.at q (record { start = i; len = l }) k a d
       short_stop e = stops_stop R (stop_step h r g e) refl
 
@@ -148,14 +147,14 @@ module _ {s : List ℕ} {from at n : ℕ} (R : Sequences s from at n) where
   sequences_end h = says R (at_end refl h)
 
   module _ (h : at < length s) where
-    module _ {o : GotNumber} {m : ℕ} {c : Cursor} (r : o ≡ number_at s (at + 1)) (g : o ≡ GotNumber.Read m c) where
+    module _ {o : Option (ℕ × Cursor)} {m : ℕ} {c : Cursor} (r : o ≡ number_at s (at + 1)) (g : o ≡ Some (m, c)) where
       pub next_sequence : get_or s at 0 ≡ 8 → Sequences s from c.at m
       next_sequence e = mine_number sequence R (sequence_step h r g e) refl refl tt
 
       pub past_relationship : get_or s at 0 ≡ 40 → Sequences s from c.at n
       past_relationship e = other_number sequence R (relationship_step h r g e) (λ z. omega arith)
 
-    module _ {o : GotText} {i l : ℕ} {c : Cursor} (r : o ≡ text_at s (at + 1)) (g : o ≡ GotText.Read i l c) where
+    module _ {o : Option (ℕ × ℕ × Cursor)} {i l : ℕ} {c : Cursor} (r : o ≡ text_at s (at + 1)) (g : o ≡ Some (i, l, c)) where
       pub past_part : {b : Bool} → b ≡ is_part (get_or s at 0) → b ≡ true → Sequences s from c.at n
       past_part e t = go (eqb (get_or s at 0) 18) refl (eqb (get_or s at 0) 26) refl (eqb (get_or s at 0) 34) refl
           (sym e ∙ t)

@@ -1,4 +1,5 @@
 -- A turn of the loops over a stop_time_update and over an event: each field a reading of its own. Assumes nothing.
+use Rattle.std.specs.Prelude.{Option, Some, None}
 use mathlib.Core.Bool.{cond}
 use Prim.Native.Nat.{ℕ, ◌+◌, ◌≤◌, ◌<◌}
 use mathlib.Core.Path.{◌≡◌, refl, sym, ap, subst, ◌∙◌}
@@ -9,9 +10,6 @@ use lib.ListN.{length, take, drop, length-take}
 use borrow.Author.Tests.{eq-eqb, ne_eqb}
 use Rattle.wire.specs.Promises.Places.{key_at, number_at, skipped_at}
 use Rattle.wire.specs.declared.Cursor.{Cursor}
-use Rattle.wire.specs.declared.GotKey.{GotKey}
-use Rattle.wire.specs.declared.GotNumber.{GotNumber}
-use Rattle.wire.specs.declared.Skipped.{Skipped}
 use Rattle.realtime.specs.Tree.{a_number, a_text, a_message, Schema, tree}
 use Rattle.realtime.specs.Schema.{field_rows, feed, stop_time_update, stop_time_event}
 use Rattle.realtime_read.specs.Laws.Passing.{Passed}
@@ -109,16 +107,16 @@ module _ {s : List ℕ} {from : ℕ} {b : EventNumbers} {at : ℕ} {e i : Number
   event_breaks : tree feed stop_time_event (drop at s) ≡ none → EventReads s from b (record { delay = e; time = i })
   event_breaks h = record { delay = breaks_off R.delay h; time = breaks_off R.time h }
 
-  module _ (h : at < length s) {o : GotKey} (k : o ≡ key_at s at) where
-    pub event_no_key : o ≡ GotKey.Broken → EventReads s from b (record { delay = e; time = i })
+  module _ (h : at < length s) {o : Option (ℕ × ℕ × Cursor)} (k : o ≡ key_at s at) where
+    pub event_no_key : o ≡ None → EventReads s from b (record { delay = e; time = i })
     event_no_key g = record { delay = key_breaks R.delay h (sym g ∙ k); time = key_breaks R.time h (sym g ∙ k) }
 
-    module _ {f w : ℕ} {c : Cursor} (g : o ≡ GotKey.Read f w c) where
-      module _ (z : w ≡ 0) {p : GotNumber} (q : p ≡ number_at s c.at) where
-        pub event_no_number : p ≡ GotNumber.Broken → EventReads s from b (record { delay = e; time = i })
+    module _ {f w : ℕ} {c : Cursor} (g : o ≡ Some (f, w, c)) where
+      module _ (z : w ≡ 0) {p : Option (ℕ × Cursor)} (q : p ≡ number_at s c.at) where
+        pub event_no_number : p ≡ None → EventReads s from b (record { delay = e; time = i })
         event_no_number r = event_breaks (number_none s h k g z q feed stop_time_event r)
 
-        module _ {m : ℕ} {a : Cursor} (r : p ≡ GotNumber.Read m a) where
+        module _ {m : ℕ} {a : Cursor} (r : p ≡ Some (m, a)) where
           step : feed stop_time_event f ≡ some a_number → Stepped feed stop_time_event s at (Step.Number f m a.at)
           step = number_step s h k g z q r feed stop_time_event
 
@@ -148,11 +146,11 @@ module _ {s : List ℕ} {from : ℕ} {b : EventNumbers} {at : ℕ} {e i : Number
                 time = passes_on R.time over (taking_skips time v);
               }
 
-      module _ (z : w ≡ 0 → ⊥) {p : Skipped} (q : p ≡ skipped_at s c.at f w 16) where
-        pub event_no_other : p ≡ Skipped.Broken → EventReads s from b (record { delay = e; time = i })
+      module _ (z : w ≡ 0 → ⊥) {p : Option Cursor} (q : p ≡ skipped_at s c.at f w 16) where
+        pub event_no_other : p ≡ None → EventReads s from b (record { delay = e; time = i })
         event_no_other r = event_breaks (other_none s h k g q feed stop_time_event r)
 
-        module _ {a : Cursor} (r : p ≡ Skipped.Past a) where
+        module _ {a : Cursor} (r : p ≡ Some a) where
           beyond : Passed feed stop_time_event s at f a.at
           beyond = other_passed s h k g q r feed stop_time_event
 

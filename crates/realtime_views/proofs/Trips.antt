@@ -1,5 +1,6 @@
 -- A turn of the loops over a trip_update and over an entity: the last values of the trips and the last delay in one
 -- walk. Assumes nothing.
+use Rattle.std.specs.Prelude.{Option, Some, None}
 use Prim.Native.Nat.{ℕ, ◌+◌, ◌-◌, ◌≤◌, ◌<◌}
 use mathlib.Core.Path.{◌≡◌, refl, sym, ap, subst, ◌∙◌}
 use mathlib.Core.List.{List, [], ◌∷◌}
@@ -8,10 +9,6 @@ use native.Mathlib.Omega.{arith}
 use lib.ListN.{length, take, drop}
 use Rattle.wire.specs.Promises.Places.{key_at, number_at, text_at, skipped_at}
 use Rattle.wire.specs.declared.Cursor.{Cursor}
-use Rattle.wire.specs.declared.GotKey.{GotKey}
-use Rattle.wire.specs.declared.GotNumber.{GotNumber}
-use Rattle.wire.specs.declared.GotText.{GotText}
-use Rattle.wire.specs.declared.Skipped.{Skipped}
 use Rattle.realtime.specs.Tree.{tree}
 use Rattle.realtime.specs.Schema.{field_rows, feed, feed_entity, trip_update, trip_descriptor}
 use Rattle.realtime_read.specs.Laws.Passing.{Passed}
@@ -23,7 +20,6 @@ use Rattle.realtime_views.specs.Promises.Reading.{Ready, Reads}
 use Rattle.realtime_views.specs.Promises.Seeks.{Seeks}
 use Rattle.realtime_views.specs.Promises.Scalars.{scalar, scalars, blank, own, scalar_at, takes_along, TripReady}
 use Rattle.realtime_views.specs.Promises.Scalars.{UpdateReads, TripReads}
-use Rattle.realtime_views.specs.declared.Met.{Met}
 use Rattle.realtime_views.specs.declared.Scalar.{Scalar}
 use Rattle.realtime_views.specs.declared.Scalars.{Scalars}
 use Rattle.realtime_views.specs.declared.TripScalars.{TripScalars}
@@ -51,18 +47,18 @@ module _ {s : List ℕ} {from : ℕ} {b : TripScalars} {at : ℕ} {d : Scalars} 
     updates_break : tree feed trip_update (drop at s) ≡ none → UpdateReads s from b (record { trip = d; delay = u })
     updates_break h = record { trip = breaks_off R.trip h; delay = breaks_off R.delay h }
 
-    module _ (h : at < length s) {o : GotKey} (k : o ≡ key_at s at) where
-      pub updates_no_key : o ≡ GotKey.Broken → UpdateReads s from b (record { trip = d; delay = u })
+    module _ (h : at < length s) {o : Option (ℕ × ℕ × Cursor)} (k : o ≡ key_at s at) where
+      pub updates_no_key : o ≡ None → UpdateReads s from b (record { trip = d; delay = u })
       updates_no_key g =
           record { trip = key_breaks R.trip h (sym g ∙ k); delay = key_breaks R.delay h (sym g ∙ k) }
 
-      module _ {f w : ℕ} {c : Cursor} (g : o ≡ GotKey.Read f w c) where
+      module _ {f w : ℕ} {c : Cursor} (g : o ≡ Some (f, w, c)) where
         -- a message, or a text: the trip is read
-        module _ (z : w ≡ 2) {p : GotText} (q : p ≡ text_at s c.at) where
-          pub updates_no_text : p ≡ GotText.Broken → UpdateReads s from b (record { trip = d; delay = u })
+        module _ (z : w ≡ 2) {p : Option (ℕ × ℕ × Cursor)} (q : p ≡ text_at s c.at) where
+          pub updates_no_text : p ≡ None → UpdateReads s from b (record { trip = d; delay = u })
           updates_no_text r = updates_break (text_none s h k g z q feed trip_update r)
 
-          module _ {i l : ℕ} {a : Cursor} (r : p ≡ GotText.Read i l a) where
+          module _ {i l : ℕ} {a : Cursor} (r : p ≡ Some (i, l, a)) where
             over : Passed feed trip_update s at f a.at
             over = text_passed s h k g z q r feed trip_update
 
@@ -90,11 +86,11 @@ module _ {s : List ℕ} {from : ℕ} {b : TripScalars} {at : ℕ} {d : Scalars} 
                 }
 
         -- a number: the delay is read
-        module _ (z : w ≡ 0) {p : GotNumber} (q : p ≡ number_at s c.at) where
-          pub updates_no_number : p ≡ GotNumber.Broken → UpdateReads s from b (record { trip = d; delay = u })
+        module _ (z : w ≡ 0) {p : Option (ℕ × Cursor)} (q : p ≡ number_at s c.at) where
+          pub updates_no_number : p ≡ None → UpdateReads s from b (record { trip = d; delay = u })
           updates_no_number r = updates_break (number_none s h k g z q feed trip_update r)
 
-          module _ {m : ℕ} {a : Cursor} (r : p ≡ GotNumber.Read m a) where
+          module _ {m : ℕ} {a : Cursor} (r : p ≡ Some (m, a)) where
             across : Passed feed trip_update s at f a.at
             across = number_passed s h k g z q r feed trip_update
 
@@ -115,11 +111,11 @@ module _ {s : List ℕ} {from : ℕ} {b : TripScalars} {at : ℕ} {d : Scalars} 
                   delay = passes_on R.delay across (taking_skips (scalar_at 5) v);
                 }
 
-        module _ (y : w ≡ 2 → ⊥) (z : w ≡ 0 → ⊥) {p : Skipped} (q : p ≡ skipped_at s c.at f w 16) where
-          pub updates_no_other : p ≡ Skipped.Broken → UpdateReads s from b (record { trip = d; delay = u })
+        module _ (y : w ≡ 2 → ⊥) (z : w ≡ 0 → ⊥) {p : Option Cursor} (q : p ≡ skipped_at s c.at f w 16) where
+          pub updates_no_other : p ≡ None → UpdateReads s from b (record { trip = d; delay = u })
           updates_no_other r = updates_break (other_none s h k g q feed trip_update r)
 
-          pub updates_other : {a : Cursor} → p ≡ Skipped.Past a → Updates s from b a.at d u
+          pub updates_other : {a : Cursor} → p ≡ Some a → Updates s from b a.at d u
           unfolding feed field_rows
           updates_other r =
               let P = other_passed s h k g q r feed trip_update in
@@ -141,9 +137,9 @@ entities_start {s} {from} h e = record {
   delay = begins (record { inside = h; within = tt });
 }
 
-module _ {s : List ℕ} {from at : ℕ} {d : TripScalars} (R : Entities s from at d) {o : Met}
+module _ {s : List ℕ} {from at : ℕ} {d : TripScalars} (R : Entities s from at d) {o : Option (ℕ × ℕ × ℕ)}
     (S : Seeks feed 3 s at o) where
-  pub entities_end : o ≡ Met.End → TripReads s from d
+  pub entities_end : o ≡ None → TripReads s from d
   unfolding feed field_rows
   entities_end e =
       let S' = subst (Seeks feed 3 s at) e S in
@@ -152,8 +148,8 @@ module _ {s : List ℕ} {from at : ℕ} {d : TripScalars} (R : Entities s from a
         delay = sought_ends 3 (taking (scalar_at 5)) R.delay refl S';
       }
 
-  module _ {i l n : ℕ} (e : o ≡ Met.Sought i l n) where
-    found : Seeks feed 3 s at (Met.Sought i l n)
+  module _ {i l n : ℕ} (e : o ≡ Some (i, l, n)) where
+    found : Seeks feed 3 s at (Some (i, l, n))
     found = subst (Seeks feed 3 s at) e S
 
     pub entities_less : length s - n < length s - at

@@ -1,4 +1,5 @@
 -- What the typed answers of the scalars say is what the trees say. Assumes nothing.
+use Rattle.std.specs.Prelude.{Some, None}
 use Prim.Native.Nat.{ℕ, ◌+◌, ◌≤◌}
 use mathlib.Core.Path.{◌≡◌, refl, sym, ap, subst, ◌∙◌}
 use mathlib.Core.List.{List, [], ◌∷◌}
@@ -37,8 +38,6 @@ use Rattle.realtime_views.specs.declared.Scalars.{Scalars}
 use Rattle.realtime_views.specs.declared.TextPart.{TextPart}
 use Rattle.realtime_views.specs.declared.Number.{Number}
 use Rattle.realtime_views.specs.declared.EventNumbers.{EventNumbers}
-use Rattle.realtime_views.specs.declared.Delay.{Delay}
-use Rattle.realtime_views.specs.declared.Time.{Time}
 use Rattle.realtime_views.specs.declared.Header.{Header}
 use Rattle.realtime_views.specs.declared.Trip.{Trip}
 use Rattle.realtime_views.specs.declared.StopUpdate.{StopUpdate}
@@ -186,11 +185,11 @@ value_given none = refl
 value_given (some n) = refl
 
 delay_view : (b : Bool) (n : ℕ)
-    → view_delay (cond b (Delay.Given (int32 n)) Delay.Absent) ≡ map int32 (cond b (some n) none)
+    → view_delay (cond b (Some (int32 n)) None) ≡ map int32 (cond b (some n) none)
 delay_view true n = refl
 delay_view false n = refl
 
-time_view : (b : Bool) (n : ℕ) → view_time (cond b (Time.Given (int64 n)) Time.Absent) ≡
+time_view : (b : Bool) (n : ℕ) → view_time (cond b (Some (int64 n)) None) ≡
     map int64 (cond b (some n) none)
 time_view true n = refl
 time_view false n = refl

@@ -1,4 +1,5 @@
 -- A turn of the loop of `next_item`, on plain values. Assumes nothing.
+use Rattle.std.specs.Prelude.{Some, None}
 use Prim.Native.Nat.{ℕ, ◌+◌, ◌-◌, ◌≤◌, ◌<◌}
 use mathlib.Core.Path.{◌≡◌, refl, sym, ap, ◌∙◌}
 use mathlib.Core.List.{List, ◌∷◌, ◌++◌}
@@ -12,7 +13,6 @@ use Rattle.realtime_views.specs.Laws.Reading.{front_part, front_rest}
 use Rattle.realtime_views.specs.Laws.Seeks.{sub_first, sub_none, rep_join}
 use Rattle.realtime_views.specs.Promises.Seeks.{Holding, Seeks}
 use Rattle.realtime_views.specs.Promises.Walks.{left_of, left, SoundWalk, ahead, NextItem, NextEntity, NextUpdate}
-use Rattle.realtime_views.specs.declared.Met.{Met}
 use Rattle.realtime_views.specs.declared.Walk.{Walk}
 use Rattle.realtime_views.specs.declared.Item.{Item}
 
@@ -50,7 +50,7 @@ module _ {a k : ℕ} {s : List ℕ} {w : Walk} {outer stop at : ℕ} (L : Leads 
       in_view a k (tree feed u (drop at x)) (tree feed t (drop outer s)) l
       (ap (λ y. left_of a k (tree feed u (drop at y)) (tree feed t (drop outer s))) X ∙ L.of t u v H G l e)
 
-  pub yields : {i m n : ℕ} → Seeks feed k x at (Met.Sought i m n)
+  pub yields : {i m n : ℕ} → Seeks feed k x at (Some (i, m, n))
       → NextItem a k s w (Item.At i m (record { outer = outer; end = stop; at = n }))
   yields {i} {m} {n} S = record {
     of = λ t u v H G l e.
@@ -79,8 +79,8 @@ module _ {a k : ℕ} {s : List ℕ} {w : Walk} {outer stop at : ℕ} (L : Leads 
           ∙ front_part s stop i m (omega (arith, S.lying, size)) (omega (arith, L.sound))
 
   -- the message that is open has no more
-  module _ (E : Seeks feed k x at Met.End) where
-    pub all_done : Seeks feed a s outer Met.End → NextItem a k s w Item.Done
+  module _ (E : Seeks feed k x at None) where
+    pub all_done : Seeks feed a s outer None → NextItem a k s w Item.Done
     all_done S = record {
       of = λ t u v H G l e.
           left_here t u v H G l e (λ y z p q r.
@@ -88,7 +88,7 @@ module _ {a k : ℕ} {s : List ℕ} {w : Walk} {outer stop at : ℕ} (L : Leads 
       lying = tt;
     }
 
-    module _ {i m n : ℕ} (S : Seeks feed a s outer (Met.Sought i m n)) where
+    module _ {i m n : ℕ} (S : Seeks feed a s outer (Some (i, m, n))) where
       pub opens_less : length s - n + (length s - i) < length s - outer + (length s - at)
       opens_less = omega (arith, S.lying, L.sound)
 

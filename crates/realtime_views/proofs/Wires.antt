@@ -1,5 +1,6 @@
 -- Loops that go by the wire type of a field: what they know of it. A field that stands with another wire type than its
 -- kind's has no tree, so that a reading passes it as any other field. Assumes nothing.
+use Rattle.std.specs.Prelude.{Option, Some, None}
 use Prim.Native.Nat.{ℕ, ◌+◌, ◌-◌, ◌≤◌, ◌<◌}
 use mathlib.Core.Path.{◌≡◌, refl, sym, ap, subst, ◌∙◌}
 use mathlib.Core.List.{List}
@@ -14,10 +15,6 @@ use Rattle.wire.specs.Wire.{key}
 use Rattle.wire.specs.Laws.At.{ReadAt, key_read}
 use Rattle.wire.specs.Promises.Places.{key_at, number_at, text_at, skipped_at}
 use Rattle.wire.specs.declared.Cursor.{Cursor}
-use Rattle.wire.specs.declared.GotKey.{GotKey}
-use Rattle.wire.specs.declared.GotNumber.{GotNumber}
-use Rattle.wire.specs.declared.GotText.{GotText}
-use Rattle.wire.specs.declared.Skipped.{Skipped}
 use Rattle.realtime.specs.Tree.{a_number, a_text, a_message, Schema, tree}
 use Rattle.realtime.specs.Schema.{feed}
 use Rattle.realtime_read.specs.Laws.Passing.{Passed}
@@ -35,19 +32,19 @@ less : {σ : Schema} {t : ℕ} {s : List ℕ} {at f n : ℕ} → Passed σ t s a
 less P = omega (arith, P.ahead, P.inside)
 
 -- what is known where a key was read, and what stands behind it: the field is passed, or there is no tree
-module _ (s : List ℕ) {at : ℕ} (h : at < length s) {o : GotKey} {f w : ℕ} {c : Cursor} (k : o ≡ key_at s at)
-    (g : o ≡ GotKey.Read f w c) where
+module _ (s : List ℕ) {at : ℕ} (h : at < length s) {o : Option (ℕ × ℕ × Cursor)} {f w : ℕ} {c : Cursor} (k : o ≡ key_at s at)
+    (g : o ≡ Some (f, w, c)) where
   pub keyed : ReadAt key s at (record { number = f; wire = w }) c.at
   keyed = key_read s at f w c (sym g ∙ k)
 
   pub keyed_as : (v : ℕ) → w ≡ v → ReadAt key s at (record { number = f; wire = v }) c.at
   keyed_as v e = subst (λ j. ReadAt key s at (record { number = f; wire = j }) c.at) e keyed
 
-  module _ (z : w ≡ 0) {p : GotNumber} (q : p ≡ number_at s c.at) where
-    pub number_none : (σ : Schema) (t : ℕ) → p ≡ GotNumber.Broken → tree σ t (drop at s) ≡ none
+  module _ (z : w ≡ 0) {p : Option (ℕ × Cursor)} (q : p ≡ number_at s c.at) where
+    pub number_none : (σ : Schema) (t : ℕ) → p ≡ None → tree σ t (drop at s) ≡ none
     number_none σ t r = breaks_number σ t h (keyed_as 0 z) (sym r ∙ q)
 
-    module _ {m : ℕ} {a : Cursor} (r : p ≡ GotNumber.Read m a) where
+    module _ {m : ℕ} {a : Cursor} (r : p ≡ Some (m, a)) where
       pub number_passed : (σ : Schema) (t : ℕ) → Passed σ t s at f a.at
       number_passed σ t = passes_number h (keyed_as 0 z) (sym r ∙ q)
 
@@ -57,11 +54,11 @@ module _ (s : List ℕ) {at : ℕ} (h : at < length s) {o : GotKey} {f w : ℕ} 
       pub number_step : (σ : Schema) (t : ℕ) → σ t f ≡ some a_number → Stepped σ t s at (Step.Number f m a.at)
       number_step σ t e = some_number (here h (keyed_as 0 z)) e (sym r ∙ q)
 
-  module _ (z : w ≡ 2) {p : GotText} (q : p ≡ text_at s c.at) where
-    pub text_none : (σ : Schema) (t : ℕ) → p ≡ GotText.Broken → tree σ t (drop at s) ≡ none
+  module _ (z : w ≡ 2) {p : Option (ℕ × ℕ × Cursor)} (q : p ≡ text_at s c.at) where
+    pub text_none : (σ : Schema) (t : ℕ) → p ≡ None → tree σ t (drop at s) ≡ none
     text_none σ t r = breaks_text σ t h (keyed_as 2 z) (sym r ∙ q)
 
-    module _ {i l : ℕ} {a : Cursor} (r : p ≡ GotText.Read i l a) where
+    module _ {i l : ℕ} {a : Cursor} (r : p ≡ Some (i, l, a)) where
       pub text_passed : (σ : Schema) (t : ℕ) → Passed σ t s at f a.at
       text_passed σ t = passes_text h (keyed_as 2 z) (sym r ∙ q)
 
@@ -75,11 +72,11 @@ module _ (s : List ℕ) {at : ℕ} (h : at < length s) {o : GotKey} {f w : ℕ} 
           → Stepped σ t s at (Step.Message f u i l a.at)
       message_step σ t e = some_message (here h (keyed_as 2 z)) e (sym r ∙ q)
 
-  module _ {p : Skipped} (q : p ≡ skipped_at s c.at f w 16) where
-    pub other_none : (σ : Schema) (t : ℕ) → p ≡ Skipped.Broken → tree σ t (drop at s) ≡ none
+  module _ {p : Option Cursor} (q : p ≡ skipped_at s c.at f w 16) where
+    pub other_none : (σ : Schema) (t : ℕ) → p ≡ None → tree σ t (drop at s) ≡ none
     other_none σ t r = breaks σ t h keyed (sym r ∙ q)
 
-    module _ {a : Cursor} (r : p ≡ Skipped.Past a) where
+    module _ {a : Cursor} (r : p ≡ Some a) where
       pub other_passed : (σ : Schema) (t : ℕ) → Passed σ t s at f a.at
       other_passed σ t = passes h keyed (sym r ∙ q)
 
@@ -92,10 +89,10 @@ module _ (σ : Schema) (t : ℕ) {s : List ℕ} {at : ℕ} (h : at < length s) {
   pub no_number : σ t f ≡ some a_number → (w ≡ 0 → ⊥) → tree σ t (drop at s) ≡ none
   no_number e p =
       (turn.no_number (here {σ = σ} {t = t} h K) e
-      (sym (ap (λ b. cond b (number_at s next) GotNumber.Broken) (ne_eqb w 0 p)))).same
+      (sym (ap (λ b. cond b (number_at s next) None) (ne_eqb w 0 p)))).same
 
-  not_behind : (w ≡ 2 → ⊥) → GotText.Broken ≡ cond (eqb w 2) (text_at s next) GotText.Broken
-  not_behind p = sym (ap (λ b. cond b (text_at s next) GotText.Broken) (ne_eqb w 2 p))
+  not_behind : (w ≡ 2 → ⊥) → None ≡ cond (eqb w 2) (text_at s next) None
+  not_behind p = sym (ap (λ b. cond b (text_at s next) None) (ne_eqb w 2 p))
 
   pub no_text : σ t f ≡ some a_text → (w ≡ 2 → ⊥) → tree σ t (drop at s) ≡ none
   no_text e p = (turn.no_text (here {σ = σ} {t = t} h K) e (not_behind p)).same

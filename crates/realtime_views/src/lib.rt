@@ -17,11 +17,9 @@ ghost use Rattle.realtime_views.specs.Promises.Walks.{NextEntity, NextItem, Next
 ghost use Rattle.realtime_views.specs.Promises.Starts.{at_items, at_merged, at_plain};
 ghost use Rattle.realtime_views.specs.Promises.Views.{DeletedRead, HeaderRead, SequenceRead, StopRead, TripRead};
 
-use realtime_read::fields::{
-    feed_entity, feed_message, stop_time_event, stop_time_update, trip_update,
-};
+use realtime_read::fields::{feed_entity, feed_message, stop_time_event, stop_time_update, trip_update};
 use realtime_read::{FEED_HEADER, STOP_TIME_UPDATE, Step, TRIP_DESCRIPTOR, next};
-use wire::{Cursor, GotKey, GotNumber, GotText, Skipped};
+use wire::Cursor;
 
 // The values of the enums that count.
 const DIFFERENTIAL: u64 = 1;
@@ -130,41 +128,33 @@ fn over_message(s: &[u8], from: usize, message: u64, before: Scalars) -> Scalars
     }
 }
 
-// Where the next message at a field stands.
-#[derive(Drop)]
-pub enum Met {
-    // start, length, next place
-    Sought(usize, usize, usize),
-    End,
-}
-
 // The next message at field `k`, from a boundary between two fields on. What else stands there is passed by its wire
 // type, whatever is listed: a call for each field, and what it answers through memory, takes twice the time.
-fn seek(s: &[u8], from: usize, k: u64) -> Met
+fn seek(s: &[u8], from: usize, k: u64) -> Option<(usize, usize, usize)>
     ensures { Seeks feed k s.now from result }
 {
     let mut at = from;
     while at < s.len() {
         let here = Cursor { at };
-        let GotKey::Read(field, wire, next) = here.key(s) else {
-            return Met::End;
+        let Some((field, wire, next)) = here.key(s) else {
+            return None;
         };
         if wire == wire::LEN {
-            let GotText::Read(start, len, after) = next.text(s) else {
-                return Met::End;
+            let Some((start, len, after)) = next.text(s) else {
+                return None;
             };
             if field == k {
-                return Met::Sought(start, len, after.at);
+                return Some((start, len, after.at));
             }
             at = after.at;
         } else {
-            let Skipped::Past(after) = realtime_read::past(s, next, field, wire) else {
-                return Met::End;
+            let Some(after) = realtime_read::past(s, next, field, wire) else {
+                return None;
             };
             at = after.at;
         }
     }
-    Met::End
+    None
 }
 
 // The last values of the messages at field `a`, of type `inner`, all merged.
@@ -175,7 +165,7 @@ fn over_field(s: &[u8], from: usize, a: u64, inner: u64, before: Scalars) -> Sca
     let mut at = from;
     let mut d = before;
     loop {
-        let Met::Sought(start, _, after) = seek(s, at, a) else {
+        let Some((start, _, after)) = seek(s, at, a) else {
             return d;
         };
         d = over_message(slices::part(s, 0, after), start, inner, d);
@@ -192,11 +182,11 @@ fn over_scalar(s: &[u8], from: usize, k: u64, before: Scalar) -> Scalar
     let mut d = before;
     while at < s.len() {
         let here = Cursor { at };
-        let GotKey::Read(field, wire, next) = here.key(s) else {
+        let Some((field, wire, next)) = here.key(s) else {
             return d;
         };
         if wire == wire::LEN {
-            let GotText::Read(start, len, after) = next.text(s) else {
+            let Some((start, len, after)) = next.text(s) else {
                 return d;
             };
             if field == k {
@@ -204,7 +194,7 @@ fn over_scalar(s: &[u8], from: usize, k: u64, before: Scalar) -> Scalar
             }
             at = after.at;
         } else if wire == wire::VARINT {
-            let GotNumber::Read(value, after) = next.number(s) else {
+            let Some((value, after)) = next.number(s) else {
                 return d;
             };
             if field == k {
@@ -212,7 +202,7 @@ fn over_scalar(s: &[u8], from: usize, k: u64, before: Scalar) -> Scalar
             }
             at = after.at;
         } else {
-            let Skipped::Past(after) = realtime_read::past(s, next, field, wire) else {
+            let Some(after) = realtime_read::past(s, next, field, wire) else {
                 return d;
             };
             at = after.at;
@@ -229,7 +219,7 @@ fn over_scalar_in(s: &[u8], from: usize, a: u64, k: u64, before: Scalar) -> Scal
     let mut at = from;
     let mut d = before;
     loop {
-        let Met::Sought(start, _, after) = seek(s, at, a) else {
+        let Some((start, _, after)) = seek(s, at, a) else {
             return d;
         };
         d = over_scalar(slices::part(s, 0, after), start, k, d);
@@ -276,11 +266,11 @@ fn over_update(s: &[u8], from: usize, before: TripScalars) -> TripScalars
     let mut delay = before.delay;
     while at < s.len() {
         let here = Cursor { at };
-        let GotKey::Read(field, wire, next) = here.key(s) else {
+        let Some((field, wire, next)) = here.key(s) else {
             return TripScalars { trip, delay };
         };
         if wire == wire::LEN {
-            let GotText::Read(start, _, after) = next.text(s) else {
+            let Some((start, _, after)) = next.text(s) else {
                 return TripScalars { trip, delay };
             };
             let end = after.at;
@@ -289,7 +279,7 @@ fn over_update(s: &[u8], from: usize, before: TripScalars) -> TripScalars
             }
             at = end;
         } else if wire == wire::VARINT {
-            let GotNumber::Read(value, after) = next.number(s) else {
+            let Some((value, after)) = next.number(s) else {
                 return TripScalars { trip, delay };
             };
             if field == trip_update::DELAY {
@@ -297,7 +287,7 @@ fn over_update(s: &[u8], from: usize, before: TripScalars) -> TripScalars
             }
             at = after.at;
         } else {
-            let Skipped::Past(after) = realtime_read::past(s, next, field, wire) else {
+            let Some(after) = realtime_read::past(s, next, field, wire) else {
                 return TripScalars { trip, delay };
             };
             at = after.at;
@@ -317,7 +307,7 @@ fn over_updates(s: &[u8], from: usize) -> TripScalars
         delay: Scalar::Nothing,
     };
     loop {
-        let Met::Sought(start, _, after) = seek(s, at, feed_entity::TRIP_UPDATE) else {
+        let Some((start, _, after)) = seek(s, at, feed_entity::TRIP_UPDATE) else {
             return d;
         };
         d = over_update(slices::part(s, 0, after), start, d);
@@ -332,36 +322,10 @@ pub struct TextPart {
     pub len: usize,
 }
 
-#[derive(Clone, Copy)]
-pub enum Timestamp {
-    Given(u64),
-    Absent,
-}
-
-#[derive(Clone, Copy)]
-pub enum Direction {
-    Given(u32),
-    Absent,
-}
-
-// In seconds.
-#[derive(Clone, Copy)]
-pub enum Delay {
-    Given(i32),
-    Absent,
-}
-
-// Seconds since 1970 UTC.
-#[derive(Clone, Copy)]
-pub enum Time {
-    Given(i64),
-    Absent,
-}
-
 #[derive(Drop)]
 pub struct Header {
     pub differential: bool,
-    pub timestamp: Timestamp,
+    pub timestamp: Option<u64>,
 }
 
 #[derive(Clone, Copy)]
@@ -371,14 +335,14 @@ pub struct Trip {
     pub date: TextPart,
     pub route: TextPart,
     pub cancelled: bool,
-    pub direction: Direction,
-    pub delay: Delay,
+    pub direction: Option<u32>,
+    pub delay: Option<i32>,
 }
 
 #[derive(Drop)]
 pub struct Event {
-    pub delay: Delay,
-    pub time: Time,
+    pub delay: Option<i32>,
+    pub time: Option<i64>,
 }
 
 #[derive(Drop)]
@@ -426,33 +390,33 @@ pub fn span_of(x: Scalar) -> TextPart
     }
 }
 
-fn timestamp_of(x: Scalar) -> Timestamp
+fn timestamp_of(x: Scalar) -> Option<u64>
     ensures { result ≡ to_timestamp x }
 {
     match x {
-        Scalar::Number(n) => Timestamp::Given(n),
-        Scalar::Text { start: _, len: _ } => Timestamp::Absent,
-        Scalar::Nothing => Timestamp::Absent,
+        Scalar::Number(n) => Some(n),
+        Scalar::Text { start: _, len: _ } => None,
+        Scalar::Nothing => None,
     }
 }
 
-fn direction_of(x: Scalar) -> Direction
+fn direction_of(x: Scalar) -> Option<u32>
     ensures { result ≡ to_direction x }
 {
     match x {
-        Scalar::Number(n) => Direction::Given(uint32(n)),
-        Scalar::Text { start: _, len: _ } => Direction::Absent,
-        Scalar::Nothing => Direction::Absent,
+        Scalar::Number(n) => Some(uint32(n)),
+        Scalar::Text { start: _, len: _ } => None,
+        Scalar::Nothing => None,
     }
 }
 
-fn delay_of(x: Scalar) -> Delay
+fn delay_of(x: Scalar) -> Option<i32>
     ensures { result ≡ to_delay x }
 {
     match x {
-        Scalar::Number(n) => Delay::Given(int32(n)),
-        Scalar::Text { start: _, len: _ } => Delay::Absent,
-        Scalar::Nothing => Delay::Absent,
+        Scalar::Number(n) => Some(int32(n)),
+        Scalar::Text { start: _, len: _ } => None,
+        Scalar::Nothing => None,
     }
 }
 
@@ -531,11 +495,11 @@ fn over_event(s: &[u8], from: usize, before: EventNumbers) -> EventNumbers
     let mut time = before.time;
     while at < s.len() {
         let here = Cursor { at };
-        let GotKey::Read(field, wire, next) = here.key(s) else {
+        let Some((field, wire, next)) = here.key(s) else {
             return EventNumbers { delay, time };
         };
         if wire == wire::VARINT {
-            let GotNumber::Read(value, after) = next.number(s) else {
+            let Some((value, after)) = next.number(s) else {
                 return EventNumbers { delay, time };
             };
             if field == stop_time_event::DELAY {
@@ -545,7 +509,7 @@ fn over_event(s: &[u8], from: usize, before: EventNumbers) -> EventNumbers
             }
             at = after.at;
         } else {
-            let Skipped::Past(after) = realtime_read::past(s, next, field, wire) else {
+            let Some(after) = realtime_read::past(s, next, field, wire) else {
                 return EventNumbers { delay, time };
             };
             at = after.at;
@@ -554,22 +518,22 @@ fn over_event(s: &[u8], from: usize, before: EventNumbers) -> EventNumbers
     EventNumbers { delay, time }
 }
 
-fn delay_from(n: Number) -> Delay
+fn delay_from(n: Number) -> Option<i32>
     ensures { result ≡ from_delay n }
 {
     if n.given == 1 {
-        return Delay::Given(int32(n.value));
+        return Some(int32(n.value));
     }
-    Delay::Absent
+    None
 }
 
-fn time_from(n: Number) -> Time
+fn time_from(n: Number) -> Option<i64>
     ensures { result ≡ from_time n }
 {
     if n.given == 1 {
-        return Time::Given(int64(n.value));
+        return Some(int64(n.value));
     }
-    Time::Absent
+    None
 }
 
 fn event_from(e: EventNumbers) -> Event
@@ -658,19 +622,19 @@ fn over_stop(s: &[u8], from: usize) -> StopUpdate
         let b = s[at];
         let here = Cursor { at: at + 1 };
         if b == SEQUENCE_KEY {
-            let GotNumber::Read(value, after) = here.number(s) else {
+            let Some((value, after)) = here.number(s) else {
                 return any_stop(s, from);
             };
             sequence = value;
             at = after.at;
         } else if b == RELATIONSHIP_KEY {
-            let GotNumber::Read(value, after) = here.number(s) else {
+            let Some((value, after)) = here.number(s) else {
                 return any_stop(s, from);
             };
             relationship = value;
             at = after.at;
         } else {
-            let GotText::Read(start, len, after) = here.text(s) else {
+            let Some((start, len, after)) = here.text(s) else {
                 return any_stop(s, from);
             };
             let end = after.at;
@@ -733,18 +697,18 @@ fn last_sequence(s: &[u8], from: usize) -> u64
         let b = s[at];
         let here = Cursor { at: at + 1 };
         if b == SEQUENCE_KEY {
-            let GotNumber::Read(value, after) = here.number(s) else {
+            let Some((value, after)) = here.number(s) else {
                 return any_sequence(s, from);
             };
             last = value;
             at = after.at;
         } else if b == RELATIONSHIP_KEY {
-            let GotNumber::Read(_, after) = here.number(s) else {
+            let Some((_, after)) = here.number(s) else {
                 return any_sequence(s, from);
             };
             at = after.at;
         } else if is_part(b) {
-            let GotText::Read(_, _, after) = here.text(s) else {
+            let Some((_, _, after)) = here.text(s) else {
                 return any_sequence(s, from);
             };
             at = after.at;
@@ -828,13 +792,13 @@ pub fn next_item(s: &[u8], a: u64, k: u64, walk: Walk) -> Item
     let mut at = walk.at;
     loop {
         match seek(slices::part(s, 0, end), at, k) {
-            Met::Sought(start, len, after) => {
+            Some((start, len, after)) => {
                 at = after;
                 let walk = Walk { outer, end, at };
                 return Item::At { start, len, walk };
             }
-            Met::End => {
-                let Met::Sought(start, _, after) = seek(s, outer, a) else {
+            None => {
+                let Some((start, _, after)) = seek(s, outer, a) else {
                     return Item::Done;
                 };
                 at = start;

@@ -9,9 +9,7 @@ ghost use Rattle.replay_turn.specs.Lent.{lent_to};
 ghost use Rattle.replay_calls.specs.Replay.{ReplayHolds};
 ghost use Rattle.replay_calls.specs.Promises.Turns.{Overlays, TurnsEnd, ScriptEnds};
 
-use formats_write::Put;
 use panel_output::Ending;
-use replay_script::Standing;
 
 // The turns of `count` calls, of which the first stands at `start`: the place behind what they told.
 fn take_turns(
@@ -26,7 +24,7 @@ fn take_turns(
     keys: &mut [u8],
     marks: &mut [u32],
     order: &mut [u32],
-) -> Put
+) -> Option<usize>
     requires overlays { Overlays n lent a.old b.old }
     requires a_value { take n a.old ≡ fresh_overlay (sized n) }
     ensures { TurnsEnd (sized n) (lent_to lent (length out.old) (length keys.old)
@@ -40,15 +38,15 @@ fn take_turns(
     while 0 < left {
         let r = replay_turn::take_turn(n, lent, s, at, first, a, b, out, p, keys, marks, order);
         let place = r.place;
-        let Put::At(q) = place else {
-            return Put::Full;
+        let Some(q) = place else {
+            return None;
         };
         p = q;
         at = r.next;
         first = r.first;
         left -= 1;
     }
-    Put::At(p)
+    Some(p)
 }
 
 // A fresh overlay in the first n bytes.
@@ -79,7 +77,7 @@ fn run_script(
     if lent < n {
         return Ending::Refused(1);
     }
-    let Standing::Many(count, start) = replay_script::calls(s) else {
+    let Some((count, start)) = replay_script::calls(s) else {
         return Ending::Refused(1);
     };
     begin(n, a);

@@ -10,7 +10,6 @@ ghost use Rattle.replay_writing.specs.Promises.Ran.{Sound};
 ghost use Rattle.replay_reading.specs.Promises.Told.{ToldReport, lengths_of, ReadsCardWork, CardFits, Answers};
 ghost use Rattle.replay_reading.specs.Promises.Told.{ToldCardOf, ToldCard};
 
-use formats_write::Put;
 use replay_script::Asked;
 
 // The published lengths of a card's working buffers: of numbers, of places, of what is known.
@@ -28,18 +27,18 @@ pub fn octet(k: u32) -> u8
 }
 
 // A REPORT: its number at p, and its output behind it.
-pub fn report(n: usize, q: Asked, s: &[u8], old: &[u8], out: &mut [u8], p: usize) -> Put
+pub fn report(n: usize, q: Asked, s: &[u8], old: &[u8], out: &mut [u8], p: usize) -> Option<usize>
     requires { Sound n s.now q }
     ensures { ToldReport (sized n) s.now q old.now out.old p out.new
         result }
 {
     if out.len() <= p {
-        return Put::Full;
+        return None;
     }
     let size = q.out;
     let from = p + 1;
     if out.len() - from < size {
-        return Put::Full;
+        return None;
     }
     let to = from + size;
     let feed = q.feed;
@@ -47,7 +46,7 @@ pub fn report(n: usize, q: Asked, s: &[u8], old: &[u8], out: &mut [u8], p: usize
     let feed_to = feed.to;
     let k = panel_report::report(n, old, &s[feed_from..feed_to], &mut out[from..to]);
     out[p] = octet(k);
-    Put::At(to)
+    Some(to)
 }
 
 // The lengths of a card's working buffers.
@@ -135,19 +134,19 @@ fn run_card_here(n: usize, w: CardWork, old: &[u8], card: &[u8], out: &mut [u8])
 }
 
 // A card whose working buffers are lent: its number at p, and its output behind it.
-fn card_of(n: usize, q: Asked, w: CardWork, s: &[u8], old: &[u8], out: &mut [u8], p: usize) -> Put
+fn card_of(n: usize, q: Asked, w: CardWork, s: &[u8], old: &[u8], out: &mut [u8], p: usize) -> Option<usize>
     requires sound { Sound n s.now q }
     requires card_fits { CardFits w 256 256 8208 4096 }
     ensures { ToldCardOf (sized n) s.now q (lengths_of w) old.now out.old p
         out.new result }
 {
     if out.len() <= p {
-        return Put::Full;
+        return None;
     }
     let size = q.out;
     let from = p + 1;
     if out.len() - from < size {
-        return Put::Full;
+        return None;
     }
     let to = from + size;
     let input = q.input;
@@ -155,12 +154,12 @@ fn card_of(n: usize, q: Asked, w: CardWork, s: &[u8], old: &[u8], out: &mut [u8]
     let card_to = input.to;
     let k = run_card_here(n, w, old, &s[card_from..card_to], &mut out[from..to]);
     out[p] = octet(k);
-    Put::At(to)
+    Some(to)
 }
 
 // A CARD: its number at p, and its output behind it; Full, too, where it asks for longer working buffers than the
 // published ones.
-pub fn card(n: usize, q: Asked, s: &[u8], old: &[u8], out: &mut [u8], p: usize) -> Put
+pub fn card(n: usize, q: Asked, s: &[u8], old: &[u8], out: &mut [u8], p: usize) -> Option<usize>
     requires { Sound n s.now q }
     ensures { ToldCard (sized n) s.now q old.now out.old p out.new
         result }
@@ -169,5 +168,5 @@ pub fn card(n: usize, q: Asked, s: &[u8], old: &[u8], out: &mut [u8], p: usize) 
     if is_lent(w) {
         return card_of(n, q, w, s, old, out, p);
     }
-    Put::Full
+    None
 }

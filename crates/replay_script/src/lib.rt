@@ -1,7 +1,7 @@
 // A script of calls, read where it stands: what each asks for.
 #![tactic(auto)]
 
-use formats::{Skip, Span};
+use formats::Span;
 
 mod table;
 
@@ -82,29 +82,22 @@ pub fn length_at(s: &[u8], at: usize, i: u64) -> usize
 }
 
 // The place past the script at the start.
-fn past(s: &[u8]) -> Skip
+fn past(s: &[u8]) -> Option<usize>
     ensures { result ≡ skip_to script s.now 0 }
 {
     formats::pass(&FORMS, DEPTH, SCRIPT, s, 0)
 }
 
-// How many calls a script has, and where the first stands; or it is none.
-#[derive(Drop)]
-pub enum Standing {
-    Many(u64, usize),
-    Broken,
-}
-
 // The calls of a script that ends at the last byte.
-pub fn calls(s: &[u8]) -> Standing
+pub fn calls(s: &[u8]) -> Option<(u64, usize)>
     ensures { Counted s.now result }
 {
-    let Skip::At(end) = past(s) else {
-        return Standing::Broken;
+    let Some(end) = past(s) else {
+        return None;
     };
     if end < s.len() {
-        return Standing::Broken;
+        return None;
     }
     let n = formats_read::number(s, 0);
-    Standing::Many(n.value, n.next)
+    Some((n.value, n.next))
 }

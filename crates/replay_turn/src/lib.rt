@@ -9,14 +9,12 @@ ghost use Rattle.replay_writing.specs.Promises.Ran.{Sound};
 ghost use Rattle.replay_turn.specs.Lent.{lent_to};
 ghost use Rattle.replay_turn.specs.Promises.Turns.{current, accepted_of, TellsNumber, ToldWriting, Turned};
 
-use formats_write::Put;
 use replay_script::Asked;
-use replay_writing::Ran;
 
 // After a call: the next place of the output; whether the new overlay is the one to go on with; the call's end.
 #[derive(Drop)]
 struct Step {
-    place: Put,
+    place: Option<usize>,
     moved: bool,
     next: usize,
 }
@@ -24,27 +22,27 @@ struct Step {
 // The same, with whether the first of the two overlays is the one to go on with.
 #[derive(Drop)]
 pub struct Turn {
-    pub place: Put,
+    pub place: Option<usize>,
     pub first: bool,
     pub next: usize,
 }
 
-fn is_accepted(r: Ran) -> bool
+fn is_accepted(r: Option<u32>) -> bool
     ensures { result ≡ accepted_of r }
 {
     match r {
-        Ran::Unlent => false,
-        Ran::Number(k) => k == 0,
+        None => false,
+        Some(k) => k == 0,
     }
 }
 
 // The number of a writing call, at p.
-fn tell(out: &mut [u8], p: usize, r: Ran) -> Put
+fn tell(out: &mut [u8], p: usize, r: Option<u32>) -> Option<usize>
     ensures { TellsNumber out.old p out.new r result }
 {
     match r {
-        Ran::Unlent => Put::Full,
-        Ran::Number(k) => formats_write::byte(out, Put::At(p), replay_reading::octet(k)),
+        None => None,
+        Some(k) => formats_write::byte(out, Some(p), replay_reading::octet(k)),
     }
 }
 

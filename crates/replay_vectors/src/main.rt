@@ -10,7 +10,6 @@ mod memory;
 
 ghost use Rattle.std.specs.Prelude.{◌≤◌, ◌<◌, length, IfOk};
 
-use replay_script::Standing;
 use std::io;
 
 // How long an overlay is here.
@@ -60,7 +59,7 @@ fn past(p: usize, kind: u64, size: usize, end: usize) -> usize
 fn write_numbers(rt: &impl Print, s: &[u8], told: &[u8]) -> io::Result<usize>
     ensures { IfOk result (λ end. end ≤ length told.now) }
 {
-    let Standing::Many(count, start) = replay_script::calls(s) else {
+    let Some((count, start)) = replay_script::calls(s) else {
         return Ok(0);
     };
     let mut left = count;

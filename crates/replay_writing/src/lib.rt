@@ -1,7 +1,7 @@
 // The calls of a script that write an overlay, each into a part of what is lent.
 #![tactic(auto)]
 
-ghost use Rattle.std.specs.Prelude.{◌≡◌, true, [], ◌∷◌, ℕ, ◌≤◌, leb, ℤ, length};
+ghost use Rattle.std.specs.Prelude.{◌≡◌, true, [], ◌∷◌, ℕ, ◌≤◌, leb, ℤ, length, Some};
 ghost use Rattle.std.proofs.Math.Seq.{slice};
 ghost use Rattle.formats_read.specs.Promises.Here.{Here};
 ghost use Rattle.panel.specs.Calls as calls;
@@ -12,24 +12,17 @@ ghost use Rattle.replay_writing.specs.Promises.Ran.{ReadsWork, within3, Fits, So
 
 use replay_script::Asked;
 
-// How a call of a script ended: with its number; or it asks for more than is lent, and was not run.
-#[derive(Clone, Copy)]
-pub enum Ran {
-    Unlent,
-    Number(u32),
-}
-
-fn fresh(n: usize, lent: usize, out: usize, new: &mut [u8]) -> Ran
+fn fresh(n: usize, lent: usize, out: usize, new: &mut [u8]) -> Option<u32>
     requires { lent ≤ length new.old }
     ensures { RanAs (leb out lent) (sized n) [] (calls.fresh out) new.new result }
 {
     if lent < out {
-        return Ran::Unlent;
+        return None;
     }
-    Ran::Number(panel_report::fresh(n, &mut new[..out]))
+    Some(panel_report::fresh(n, &mut new[..out]))
 }
 
-fn alert_sheet(n: usize, lent: usize, q: Asked, s: &[u8], old: &[u8], new: &mut [u8]) -> Ran
+fn alert_sheet(n: usize, lent: usize, q: Asked, s: &[u8], old: &[u8], new: &mut [u8]) -> Option<u32>
     requires lent_in_bounds { lent ≤ length new.old }
     requires spans { Spans s.now q }
     ensures { RanAs (leb q.out lent) (sized n) old.now
@@ -38,7 +31,7 @@ fn alert_sheet(n: usize, lent: usize, q: Asked, s: &[u8], old: &[u8], new: &mut 
 {
     let out = q.out;
     if lent < out {
-        return Ran::Unlent;
+        return None;
     }
     let feed = q.feed;
     let input = q.input;
@@ -46,7 +39,7 @@ fn alert_sheet(n: usize, lent: usize, q: Asked, s: &[u8], old: &[u8], new: &mut 
     let feed_to = feed.to;
     let from = input.from;
     let to = input.to;
-    Ran::Number(panel_sheets::alert_sheet(
+    Some(panel_sheets::alert_sheet(
         n,
         old,
         &s[feed_from..feed_to],
@@ -55,7 +48,7 @@ fn alert_sheet(n: usize, lent: usize, q: Asked, s: &[u8], old: &[u8], new: &mut 
     ))
 }
 
-fn vehicle_sheet(n: usize, lent: usize, q: Asked, s: &[u8], old: &[u8], new: &mut [u8]) -> Ran
+fn vehicle_sheet(n: usize, lent: usize, q: Asked, s: &[u8], old: &[u8], new: &mut [u8]) -> Option<u32>
     requires lent_in_bounds { lent ≤ length new.old }
     requires spans { Spans s.now q }
     ensures { (z : ℤ) (e : ℕ) → Here clock_form s.now q.clock e z
@@ -65,7 +58,7 @@ fn vehicle_sheet(n: usize, lent: usize, q: Asked, s: &[u8], old: &[u8], new: &mu
 {
     let out = q.out;
     if lent < out {
-        return Ran::Unlent;
+        return None;
     }
     let feed = q.feed;
     let input = q.input;
@@ -74,7 +67,7 @@ fn vehicle_sheet(n: usize, lent: usize, q: Asked, s: &[u8], old: &[u8], new: &mu
     let from = input.from;
     let to = input.to;
     let clock = formats_read::signed(s, q.clock);
-    Ran::Number(panel_sheets::vehicle_sheet(
+    Some(panel_sheets::vehicle_sheet(
         n,
         old,
         &s[feed_from..feed_to],
@@ -127,7 +120,7 @@ fn run_message(
     ensures { RanAs true (sized n) old.now
         (calls.message (slice q.feed.from q.feed.to s.now)
         (slice q.input.from q.input.to s.now) q.out
-        (w.keys ∷ w.marks ∷ w.order ∷ [])) new.new (Ran.Number result) }
+        (w.keys ∷ w.marks ∷ w.order ∷ [])) new.new (Some result) }
 {
     let out = q.out;
     let feed = q.feed;
@@ -161,7 +154,7 @@ fn message(
     keys: &mut [u8],
     marks: &mut [u32],
     order: &mut [u32],
-) -> Ran
+) -> Option<u32>
     requires lent_in_bounds { lent ≤ length new.old }
     requires sound { Sound n s.now q }
     ensures { MessageRan (sized n) lent (length keys.old ∷ length marks.old
@@ -170,9 +163,9 @@ fn message(
 {
     let w = message_work(s, q.work);
     if is_lent(w, keys.len(), marks.len(), order.len()) & (q.out <= lent) {
-        return Ran::Number(run_message(n, w, q, s, old, new, keys, marks, order));
+        return Some(run_message(n, w, q, s, old, new, keys, marks, order));
     }
-    Ran::Unlent
+    None
 }
 
 // A CALL THAT WRITES AN OVERLAY, by its kind: into the first bytes of `new`, and on the first elements of the others.
@@ -186,7 +179,7 @@ pub fn write(
     keys: &mut [u8],
     marks: &mut [u32],
     order: &mut [u32],
-) -> Ran
+) -> Option<u32>
     requires lent_in_bounds { lent ≤ length new.old }
     requires sound { Sound n s.now q }
     ensures { WritesAs (sized n) lent (length keys.old ∷ length marks.old
@@ -206,5 +199,5 @@ pub fn write(
     if kind == 3 {
         return vehicle_sheet(n, lent, q, s, old, new);
     }
-    Ran::Unlent
+    None
 }

@@ -15,7 +15,7 @@ use Rattle.slices.specs.Promises.Agreement.{alike_from, common_of}
 use Rattle.basics.specs.Texts.{same}
 use Rattle.slices.specs.Laws.Lists.{and_left, and_right}
 use Rattle.basics.specs.Laws.Texts.{same_true}
-use Rattle.slices.specs.declared.Order.TheVariants.{Less, Same, More}
+use Rattle.std.specs.declared.cmp.Ordering.TheVariants.{Less, Equal, Greater}
 
 -- a and b agree before i: what they have in common goes on there
 pub record Common (a b : List ℕ) (i : ℕ) : Type 0 where
@@ -139,11 +139,11 @@ module _ (a b : List ℕ) (n : ℕ) (c : n ≡ common_of a b) where
   behind : lex_of a b ≡ lex_of (drop n a) (drop n b)
   behind = rw c (lex_common a b)
 
-  pub lex_same : length a ≤ n → length b ≤ n → Same ≡ lex_of a b
+  pub lex_same : length a ≤ n → length b ≤ n → Equal ≡ lex_of a b
   unfolding lex_of
   lex_same p q = sym (behind ∙ rw (drop_of_length-le a p, drop_of_length-le b q))
 
-  pub lex_longer : n < length a → length b ≤ n → More ≡ lex_of a b
+  pub lex_longer : n < length a → length b ≤ n → Greater ≡ lex_of a b
   unfolding lex_of
   lex_longer p q = sym (behind ∙ rw (drop-cons a n 0 p, drop_of_length-le b q))
 
@@ -155,7 +155,7 @@ module _ (a b : List ℕ) (n : ℕ) (c : n ≡ common_of a b) where
   unfolding lex_of
   lex_less p q l = sym (behind ∙ rw (drop-cons a n 0 p, drop-cons b n 0 q, lt-ltb (get_or a n 0) (get_or b n 0) l))
 
-  pub lex_more : n < length a → n < length b → get_or b n 0 ≤ get_or a n 0 → More ≡ lex_of a b
+  pub lex_more : n < length a → n < length b → get_or b n 0 ≤ get_or a n 0 → Greater ≡ lex_of a b
   unfolding lex_of
   lex_more p q l =
       let other : get_or a n 0 ≡ get_or b n 0 → ⊥ = rw c (common_next a b (omega arith) (omega arith)) in

@@ -1,4 +1,5 @@
 -- Coordinates and their bits, by the tests that the code makes.
+use Rattle.std.specs.Prelude.{Option}
 use mathlib.Core.Path.{◌≡◌, refl, sym, ap, ◌∙◌, subst}
 use mathlib.Core.Bool.{Bool, true, false, not}
 use Prim.Native.Nat.{ℕ, ◌%◌, ◌≤◌, ◌<◌}
@@ -15,7 +16,6 @@ use mir.Facts.{to_z-of_z}
 use mir.Syntax.{w64}
 use mir.Val.{SFits, to_z, of_z}
 use Rattle.formats.specs.Number.{zig, number_w, little_w}
-use Rattle.formats_write.specs.declared.Put.{Put}
 use Rattle.formats_write.specs.Laws.Adds.{then, same}
 use Rattle.formats_write.specs.Promises.Adds.{Adds}
 use Rattle.formats_write.specs.Promises.Given.{optional_w}
@@ -68,7 +68,7 @@ place_is e f g h i s = rw (e, f, g, h, to_z-of_z s, i) refl
 
 pub place_out : (v : VehiclePlace) {m n : ℕ} → m ≡ bits_of v.latitude → n ≡ bits_of v.longitude
     → SFits w64 v.updated
-    → {l o p q : List ℕ} {r i j k : Put} → Adds l r o i (optional_w (little_w 8) (inr m))
+    → {l o p q : List ℕ} {r i j k : Option ℕ} → Adds l r o i (optional_w (little_w 8) (inr m))
     → Adds o i p j (optional_w (little_w 8) (inr n))
     → Adds p j q k (optional_w (λ z. number_w (zig z)) (inr (to_z w64 (of_z w64 v.updated)))) → Adds l r q k (place_w v)
 place_out v e f s a b c =

@@ -10,8 +10,6 @@ ghost use Rattle.formats_write.specs.Promises.Adds.{Adds};
 ghost use Rattle.vehicle_place.specs.Promises.Coordinates.{coordinate_of, bits_of};
 ghost use Rattle.vehicle_place.specs.Promises.Place.{ReadsPlace, place_w};
 
-use formats::{OptionalNumber, OptionalSigned};
-use formats_write::Put;
 
 #[derive(Drop)]
 pub enum Coordinate {
@@ -79,12 +77,12 @@ pub fn read(s: &[u8], latitude: usize, longitude: usize, updated: usize) -> Vehi
 }
 
 // A place as three optional values that are there.
-pub fn write(out: &mut [u8], w: Put, v: VehiclePlace) -> Put
+pub fn write(out: &mut [u8], w: Option<usize>, v: VehiclePlace) -> Option<usize>
     ensures { Adds out.old w out.new result (place_w v) }
 {
     let latitude = v.latitude;
     let longitude = v.longitude;
-    let w1 = formats_write::optional_float(out, w, OptionalNumber::Present(latitude.to_bits()));
-    let w2 = formats_write::optional_float(out, w1, OptionalNumber::Present(longitude.to_bits()));
-    formats_write::optional_signed(out, w2, OptionalSigned::Present(v.updated))
+    let w1 = formats_write::optional_float(out, w, Some(latitude.to_bits()));
+    let w2 = formats_write::optional_float(out, w1, Some(longitude.to_bits()));
+    formats_write::optional_signed(out, w2, Some(v.updated))
 }

@@ -1,4 +1,5 @@
 -- A loop over numbers one behind the other: how it ends, breaks off and goes on. Assumes nothing.
+use Rattle.std.specs.Prelude.{Some, None}
 use Prim.Native.Nat.{ℕ, ◌-◌, ◌≤◌, ◌<◌}
 use mathlib.Core.Path.{◌≡◌, refl, ap, ◌∙◌}
 use mathlib.Core.List.{List, [], ◌∷◌}
@@ -12,7 +13,6 @@ use Rattle.wire.specs.Laws.Fields.{many_step}
 use Rattle.wire.specs.Laws.At.{number_read, number_broken}
 use Rattle.wire.specs.Promises.Places.{number_at}
 use Rattle.wire.specs.declared.Cursor.{Cursor}
-use Rattle.wire.specs.declared.GotNumber.{GotNumber}
 use Rattle.wire_probes.specs.Probes.{xor_of, xor_numbers}
 
 varint_nil : varint [] ≡ broken
@@ -36,10 +36,10 @@ module _ (s : List ℕ) (acc at : ℕ) (inv : Passed s acc at) where
   pub xor_ends : length s ≤ at → acc ≡ xor_numbers s
   xor_ends h = rw (inv, drop_of_length-le s h, many_end)
 
-  pub xor_breaks : at < length s → GotNumber.Broken ≡ number_at s at → 0 ≡ xor_numbers s
+  pub xor_breaks : at < length s → None ≡ number_at s at → 0 ≡ xor_numbers s
   xor_breaks h e = rw (inv, many_broken (drop at s) (omega (arith, length-drop at s)) (number_broken s at e))
 
-  module _ (n : ℕ) (c : Cursor) (e : GotNumber.Read n c ≡ number_at s at) where
+  module _ (n : ℕ) (c : Cursor) (e : Some (n, c) ≡ number_at s at) where
     pub xor_more : Passed s (bit_xor acc n) c.at
     xor_more =
         inv

@@ -3,8 +3,8 @@ use Rattle.std.specs.Prelude.{cond, ℕ, ◌-◌, List, [], ◌∷◌, length, d
 use Rattle.std.proofs.Math.Option.{Option, none, some}
 use Rattle.std.specs.Int.Bits.{bit_xor}
 use Rattle.slices.specs.Lists.{pasted}
-use Rattle.slices.specs.declared.Order.{Order}
-use Rattle.slices.specs.declared.Order.TheVariants.{Less, Same, More}
+use Rattle.std.specs.declared.cmp.Ordering.{Ordering}
+use Rattle.std.specs.declared.cmp.Ordering.TheVariants.{Less, Equal, Greater}
 use Rattle.wire.specs.Wire.{Read, broken, read, varint, Field, field, many}
 
 abbrev pub end_of : List ℕ → Read Field → ℕ
@@ -31,7 +31,7 @@ xor_numbers s = xor_of 0 (many varint (length s) s)
 abbrev pub copied : List ℕ → List ℕ → List ℕ
 copied d s = cond (leb (length s) (length d)) (pasted d 0 s) d
 
-abbrev pub order_number : Order → ℕ
+abbrev pub order_number : Ordering → ℕ
 order_number Less = 0
-order_number Same = 1
-order_number More = 2
+order_number Equal = 1
+order_number Greater = 2

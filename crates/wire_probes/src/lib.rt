@@ -6,8 +6,8 @@ ghost use Rattle.std.specs.Prelude.{◌≡◌, length, replicate};
 ghost use Rattle.slices.specs.Lists.{zeros, lex_of};
 ghost use Rattle.wire_probes.specs.Probes.{field_end, xor_numbers, copied, order_number};
 
-use slices::Order;
-use wire::{Cursor, GotKey, GotNumber, Skipped};
+use std::cmp::Ordering;
+use wire::Cursor;
 
 // Where the field that starts at `at` ends; 0 where it is broken.
 #[unsafe(no_mangle)]
@@ -16,10 +16,10 @@ pub extern "C" fn probes_field_end(s: &[u8], at: usize) -> usize
 {
     let here = Cursor { at };
     match here.key(s) {
-        GotKey::Broken => 0,
-        GotKey::Read(number, wire, next) => match next.skip(s, number, wire, 16) {
-            Skipped::Broken => 0,
-            Skipped::Past(after) => after.at,
+        None => 0,
+        Some((number, wire, next)) => match next.skip(s, number, wire, 16) {
+            None => 0,
+            Some(after) => after.at,
         },
     }
 }
@@ -34,8 +34,8 @@ pub extern "C" fn probes_xor_numbers(s: &[u8]) -> u64
     while at < s.len() {
         let here = Cursor { at };
         match here.number(s) {
-            GotNumber::Broken => return 0,
-            GotNumber::Read(value, next) => {
+            None => return 0,
+            Some((value, next)) => {
                 acc = acc ^ value;
                 at = next.at;
             }
@@ -76,8 +76,8 @@ pub extern "C" fn probes_compare(a: &[u8], b: &[u8]) -> u8
     ensures { result ≡ order_number (lex_of a.now b.now) }
 {
     match slices::compare(a, b) {
-        Order::Less => 0,
-        Order::Same => 1,
-        Order::More => 2,
+        Ordering::Less => 0,
+        Ordering::Equal => 1,
+        Ordering::Greater => 2,
     }
 }

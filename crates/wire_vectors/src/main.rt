@@ -10,7 +10,7 @@
 ghost use Rattle.std.specs.Prelude.{◌≤◌, length};
 
 use std::io;
-use wire::{Cursor, GotKey, GotNumber, GotText, Skipped};
+use wire::Cursor;
 
 // An answer in numbers: 1 and what was read, or zeros where the bytes are broken.
 #[derive(Drop)]
@@ -42,34 +42,34 @@ fn read_whole(a: u64, b: u64, next: usize) -> Answer {
 fn number(s: &[u8]) -> Answer {
     let c = Cursor { at: 0 };
     match c.number(s) {
-        GotNumber::Broken => broken(),
-        GotNumber::Read(value, next) => read_whole(value, 0, next.at),
+        None => broken(),
+        Some((value, next)) => read_whole(value, 0, next.at),
     }
 }
 
 fn key(s: &[u8]) -> Answer {
     let c = Cursor { at: 0 };
     match c.key(s) {
-        GotKey::Broken => broken(),
-        GotKey::Read(number, wire, next) => read_whole(number, wire, next.at),
+        None => broken(),
+        Some((number, wire, next)) => read_whole(number, wire, next.at),
     }
 }
 
 fn text(s: &[u8]) -> Answer {
     let c = Cursor { at: 0 };
     match c.text(s) {
-        GotText::Broken => broken(),
-        GotText::Read(start, len, next) => read_whole(start as u64, len as u64, next.at),
+        None => broken(),
+        Some((start, len, next)) => read_whole(start as u64, len as u64, next.at),
     }
 }
 
 fn field(s: &[u8]) -> Answer {
     let c = Cursor { at: 0 };
     match c.key(s) {
-        GotKey::Broken => broken(),
-        GotKey::Read(number, wire, next) => match next.skip(s, number, wire, 16) {
-            Skipped::Broken => broken(),
-            Skipped::Past(after) => read_whole(0, 0, after.at),
+        None => broken(),
+        Some((number, wire, next)) => match next.skip(s, number, wire, 16) {
+            None => broken(),
+            Some(after) => read_whole(0, 0, after.at),
         },
     }
 }

@@ -8,8 +8,8 @@ returns-then-g-gt4 c = search (name_long)
 pub returns-then-not-short_names_equal : goal.returns-then-not-short_names_equal
 returns-then-not-short_names_equal c = search (name_other)
 
-pub returns-in-At : goal.returns-in-At
-returns-in-At c = search (name_coded)
+pub returns-in-Some : goal.returns-in-Some
+returns-in-Some c = search (name_coded)
 
-pub returns-in-Nothing : goal.returns-in-Nothing
-returns-in-Nothing c = search (name_plain)
+pub returns-in-None : goal.returns-in-None
+returns-in-None c = search (name_plain)

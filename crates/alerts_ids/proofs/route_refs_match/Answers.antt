@@ -23,32 +23,32 @@ returns-in_default-product_code_token c = search (refs_informed_plain)
 pub slice_bounds-same_ignoring_case-count : goal.slice_bounds-same_ignoring_case-count
 slice_bounds-same_ignoring_case-count c =
     let coded = c.product_code_token.ensures in
-    omega (arith, code_forward coded c.in-At.is)
+    omega (arith, code_forward coded c.in-Some.is)
 
 pub slice_bounds-same_ignoring_case-start : goal.slice_bounds-same_ignoring_case-start
 slice_bounds-same_ignoring_case-start c =
     let coded = c.product_code_token.ensures in
-    omega (arith, code_forward coded c.in-At.is, code_within coded c.in-At.is)
+    omega (arith, code_forward coded c.in-Some.is, code_within coded c.in-Some.is)
 
 pub slice_bounds-same_ignoring_case-end : goal.slice_bounds-same_ignoring_case-end
 slice_bounds-same_ignoring_case-end c =
     let coded = c.product_code_token.ensures in
-    omega (arith, code_forward coded c.in-At.is, code_within coded c.in-At.is)
+    omega (arith, code_forward coded c.in-Some.is, code_within coded c.in-Some.is)
 
 pub slice_bounds-same_ignoring_case-count-2 : goal.slice_bounds-same_ignoring_case-count-2
 slice_bounds-same_ignoring_case-count-2 c =
     let coded = c.product_code_token-2.ensures in
-    omega (arith, code_forward coded c.in-At-product_code_token.is)
+    omega (arith, code_forward coded c.in-Some-product_code_token.is)
 
 pub slice_bounds-same_ignoring_case-start-2 : goal.slice_bounds-same_ignoring_case-start-2
 slice_bounds-same_ignoring_case-start-2 c =
     let coded = c.product_code_token-2.ensures in
-    omega (arith, code_forward coded c.in-At-product_code_token.is, code_within coded c.in-At-product_code_token.is)
+    omega (arith, code_forward coded c.in-Some-product_code_token.is, code_within coded c.in-Some-product_code_token.is)
 
 pub slice_bounds-same_ignoring_case-end-2 : goal.slice_bounds-same_ignoring_case-end-2
 slice_bounds-same_ignoring_case-end-2 c =
     let coded = c.product_code_token-2.ensures in
-    omega (arith, code_forward coded c.in-At-product_code_token.is, code_within coded c.in-At-product_code_token.is)
+    omega (arith, code_forward coded c.in-Some-product_code_token.is, code_within coded c.in-Some-product_code_token.is)
 
 pub returns : goal.returns
 returns c = search (refs_coded)

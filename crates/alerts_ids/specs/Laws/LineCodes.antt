@@ -1,5 +1,5 @@
 -- Law. The number of a product code, and the name of a line by its number.
-use Rattle.std.specs.Prelude.{◌≡◌, refl, List, [], ◌∷◌, Bool, true, false, cond, ◌&&◌, ℕ, suc, ◌+◌, ◌-◌, ◌*◌, ◌≤◌, ◌<◌, eqb, leb, length, get_or, drop}
+use Rattle.std.specs.Prelude.{◌≡◌, refl, List, [], ◌∷◌, Bool, true, false, cond, ◌&&◌, ℕ, suc, ◌+◌, ◌-◌, ◌*◌, ◌≤◌, ◌<◌, eqb, leb, length, get_or, drop, Option, Some}
 use Rattle.std.proofs.Common.{sym, ap, ◌∙◌, arith, leb-true, le-leb, le-ltb, lt-ltb, ne_eqb}
 use Rattle.std.proofs.Math.Option.{some}
 use Rattle.std.proofs.lemmas.Bool.{lt-leb}
@@ -8,8 +8,6 @@ use Rattle.basics.specs.Laws.Booleans.{both_true, and_no, and_yes}
 use Rattle.basics.specs.Laws.Lists.{headed}
 use Rattle.alerts.specs.Text.{upper_byte, upper, digit}
 use Rattle.alerts.specs.Applies.{is_code, products, name_of, decimal_value, code_number, line_name, idfm_product_to_short}
-use Rattle.alerts_ids.specs.declared.products.Line.{Line}
-use Rattle.alerts_ids.specs.declared.products.Line.TheVariants.{Short}
 use Rattle.alerts_ids.specs.Promises.Products.{Wrote, Named}
 
 -- ---- the five digits
@@ -109,16 +107,16 @@ long_name {k} l W = record { kept = W.kept; within = W.within; is = W.is ∙ rw 
 -- ---- which it is
 
 module _ (code : List ℕ) {n : ℕ} (e : n ≡ code_number (upper code)) where
-  pub below : {r : Line} {old new : List ℕ} → n < 1371 → Named (name_of (upper code) products) r old new
+  pub below : {r : Option ℕ} {old new : List ℕ} → n < 1371 → Named (name_of (upper code) products) r old new
       → Named (idfm_product_to_short code) r old new
   below h N = record { kept = N.kept; within = N.within; is = rw (← e, lt-leb 1371 n h) N.is }
 
-  pub above : {r : Line} {old new : List ℕ} → 1371 ≤ n → 1384 < n → Named (name_of (upper code) products) r old new
+  pub above : {r : Option ℕ} {old new : List ℕ} → 1371 ≤ n → 1384 < n → Named (name_of (upper code) products) r old new
       → Named (idfm_product_to_short code) r old new
   above h i N = record { kept = N.kept; within = N.within; is = rw (← e, le-leb 1371 n h, lt-leb n 1384 i) N.is }
 
   pub worked_out : {r : ℕ} {old new : List ℕ} → 1371 ≤ n → n ≤ 1384 → Wrote (line_name (n - 1370)) r old new
-      → Named (idfm_product_to_short code) (Short r) old new
+      → Named (idfm_product_to_short code) (Some r) old new
   worked_out h i W = record {
     kept = W.kept;
     within = W.within;

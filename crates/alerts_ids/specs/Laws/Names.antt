@@ -1,5 +1,5 @@
 -- Law. Route ids, short names and modes compared, by the answers of the tests in the order of the code.
-use Rattle.std.specs.Prelude.{◌≡◌, refl, List, [], ◌∷◌, Bool, true, false, not, ◌&&◌, ℕ, ◌≤◌, ◌<◌, length, drop}
+use Rattle.std.specs.Prelude.{◌≡◌, refl, List, [], ◌∷◌, Bool, true, false, not, ◌&&◌, ℕ, ◌≤◌, ◌<◌, length, drop, Option, Some, None}
 use Rattle.std.proofs.Common.{sym, ap, ◌∙◌, arith, le-leb}
 use Rattle.std.proofs.lemmas.Bool.{lt-leb, not-false}
 use Rattle.basics.specs.Lists.{any, is_empty}
@@ -9,8 +9,6 @@ use Rattle.basics.specs.Laws.Texts.{same_true}
 use Rattle.alerts.specs.Text.{text, upper, same_ignoring_case, trim}
 use Rattle.alerts.specs.Applies.{product_code_token, segment, decided, tails_match, route_refs_match}
 use Rattle.alerts.specs.Applies.{short_names_equal, is_none, by_name, rail_modes, is_rail_like_mode}
-use Rattle.alerts_ids.specs.declared.Token.{Token}
-use Rattle.alerts_ids.specs.declared.Token.TheVariants.{At, Nothing}
 use Rattle.alerts_ids.specs.Promises.Cuts.{part_of, token_of, Coded}
 
 pub empty : (s : List ℕ) → length s ≡ 0 → is_empty s ≡ true
@@ -22,10 +20,10 @@ nonempty [] h = absurd (h refl)
 nonempty (b ∷ s) h = refl
 
 -- where a code stands
-pub code_forward : {x : List ℕ} {o : Token} {a b : ℕ} → Coded x o → o ≡ At a b → a ≤ b
+pub code_forward : {x : List ℕ} {o : Option (ℕ × ℕ)} {a b : ℕ} → Coded x o → o ≡ Some (a, b) → a ≤ b
 code_forward {x} c e = (rw e at c.inside).0
 
-pub code_within : {x : List ℕ} {o : Token} {a b : ℕ} → Coded x o → o ≡ At a b → b ≤ length x
+pub code_within : {x : List ℕ} {o : Option (ℕ × ℕ)} {a b : ℕ} → Coded x o → o ≡ Some (a, b) → b ≤ length x
 code_within {x} c e = (rw e at c.inside).1
 
 -- ---- the tails of two route ids
@@ -56,21 +54,21 @@ module _ (leg informed : List ℕ) where
       (tails_match (segment leg) (segment informed))
   by_codes t h k e f = rw (nonempty leg h, nonempty informed k, sym e ∙ f) refl
 
-  pub refs_leg_plain : (t u : Bool) (o : Token) → (length leg ≡ 0 → ⊥) → (length informed ≡ 0 → ⊥)
-      → t ≡ same leg informed → t ≡ false → Coded leg o → o ≡ Nothing
+  pub refs_leg_plain : (t u : Bool) (o : Option (ℕ × ℕ)) → (length leg ≡ 0 → ⊥) → (length informed ≡ 0 → ⊥)
+      → t ≡ same leg informed → t ≡ false → Coded leg o → o ≡ None
       → u ≡ tails_match (segment leg) (segment informed) → u ≡ route_refs_match leg informed
   refs_leg_plain t u o h k e f co eo g =
       sym (by_codes t h k e f ∙ rw (co.is ∙ ap (token_of leg) eo) (sym g))
 
-  pub refs_informed_plain : (t u : Bool) (o w : Token) (a b : ℕ) → (length leg ≡ 0 → ⊥) → (length informed ≡ 0 → ⊥)
-      → t ≡ same leg informed → t ≡ false → Coded leg o → o ≡ At a b → Coded informed w → w ≡ Nothing
+  pub refs_informed_plain : (t u : Bool) (o w : Option (ℕ × ℕ)) (a b : ℕ) → (length leg ≡ 0 → ⊥) → (length informed ≡ 0 → ⊥)
+      → t ≡ same leg informed → t ≡ false → Coded leg o → o ≡ Some (a, b) → Coded informed w → w ≡ None
       → u ≡ tails_match (segment leg) (segment informed) → u ≡ route_refs_match leg informed
   refs_informed_plain t u o w a b h k e f co eo cw ew g =
       sym (by_codes t h k e f
       ∙ rw (co.is ∙ ap (token_of leg) eo, cw.is ∙ ap (token_of informed) ew) (sym g))
 
-  pub refs_coded : (t u : Bool) (o w : Token) (a b c d : ℕ) → (length leg ≡ 0 → ⊥) → (length informed ≡ 0 → ⊥)
-      → t ≡ same leg informed → t ≡ false → Coded leg o → o ≡ At a b → Coded informed w → w ≡ At c d
+  pub refs_coded : (t u : Bool) (o w : Option (ℕ × ℕ)) (a b c d : ℕ) → (length leg ≡ 0 → ⊥) → (length informed ≡ 0 → ⊥)
+      → t ≡ same leg informed → t ≡ false → Coded leg o → o ≡ Some (a, b) → Coded informed w → w ≡ Some (c, d)
       → u ≡ same_ignoring_case (part_of leg a b) (part_of informed c d) → u ≡ route_refs_match leg informed
   refs_coded t u o w a b c d h k e f co eo cw ew g =
       sym (by_codes t h k e f
@@ -100,12 +98,12 @@ module _ (short x g : List ℕ) where
   pub name_other : (t : Bool) → g ≡ segment x → t ≡ short_names_equal short g → not t ≡ true → false ≡ by_name short x
   name_other t e f h = sym (rw (← e, ← f, not_true t h) refl)
 
-  pub name_coded : (t : Bool) (o : Token) (a b : ℕ) → g ≡ segment x → Coded x o → o ≡ At a b → false ≡ by_name short x
+  pub name_coded : (t : Bool) (o : Option (ℕ × ℕ)) (a b : ℕ) → g ≡ segment x → Coded x o → o ≡ Some (a, b) → false ≡ by_name short x
   name_coded t o a b e co eo =
       sym (rw (co.is ∙ ap (token_of x) eo, and_no (short_names_equal short (segment x))) refl)
 
-  pub name_plain : (t : Bool) (o : Token) → g ≡ segment x → length g ≤ 4 → t ≡ short_names_equal short g
-      → not t ≡ false → Coded x o → o ≡ Nothing → true ≡ by_name short x
+  pub name_plain : (t : Bool) (o : Option (ℕ × ℕ)) → g ≡ segment x → length g ≤ 4 → t ≡ short_names_equal short g
+      → not t ≡ false → Coded x o → o ≡ None → true ≡ by_name short x
   name_plain t o e k f h co eo =
       sym (rw (co.is ∙ ap (token_of x) eo, ← e, ← f, not-false t h, le-leb (length g) 4 k) refl)
 

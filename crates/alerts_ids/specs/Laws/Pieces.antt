@@ -1,6 +1,6 @@
 -- Law. The pieces of a text: where one more cut or one more byte stands, the last piece that a test takes, the first
 -- product code.
-use Rattle.std.specs.Prelude.{◌≡◌, refl, List, [], ◌∷◌, ◌++◌, Bool, true, false, cond, not, ◌&&◌, ℕ, suc, ◌+◌, ◌-◌, ◌≤◌, ◌<◌, eqb, leb, length, get_or, take, drop}
+use Rattle.std.specs.Prelude.{◌≡◌, refl, List, [], ◌∷◌, ◌++◌, Bool, true, false, cond, not, ◌&&◌, ℕ, suc, ◌+◌, ◌-◌, ◌≤◌, ◌<◌, eqb, leb, length, get_or, take, drop, Some, None}
 use Rattle.std.proofs.Common.{sym, ap, ◌∙◌, append-nil, add-one, arith, length-drop, drop_of_length-le, take-append-drop, drop-cons, take-suc, take-add, get_or-drop, drop-drop, eq-eqb, ne_eqb, eqb-true, lt-ltb, le-ltb, le-leb}
 use Rattle.std.proofs.Math.Option.{some}
 use Rattle.std.proofs.Math.Seq.{take-length}
@@ -9,7 +9,6 @@ use Rattle.basics.specs.Lists.{all, any}
 use Rattle.basics.specs.Laws.Booleans.{false_true, and_true, not_true}
 use Rattle.alerts.specs.Text.{upper_byte, upper, digit, alphanumeric, trim_end, trim, onto, split}
 use Rattle.alerts.specs.Applies.{is_code, first_code, product_code_token, last_of, rfind}
-use Rattle.alerts_ids.specs.declared.Token.TheVariants.{At, Nothing}
 use Rattle.alerts_ids.specs.Promises.Cuts.{part_of, cuts, pieces_before, LastPiece, takes, breaks, pieces_after}
 use Rattle.alerts_ids.specs.Promises.Cuts.{FirstPiece, Coded}
 
@@ -328,14 +327,14 @@ module _ (x : List ℕ) (a e : ℕ) (t : Bool) where
       u.whole ∙ ap first_code f.pieces
       ∙ ap (λ p. cond (is_code p) (some (upper p)) (first_code (pieces_after x e))) (trim_plain (part_of x a e) f.plain)
 
-  pub code_found : Uncoded x a → FirstPiece x a e → t ≡ is_code (part_of x a e) → t ≡ true → Coded x (At a e)
+  pub code_found : Uncoded x a → FirstPiece x a e → t ≡ is_code (part_of x a e) → t ≡ true → Coded x (Some (a, e))
   code_found u f et g = record {
     is = one_run u f ∙ rw (sym et ∙ g) refl;
     inside = (f.forward, f.within);
   }
 
   pub no_code : Uncoded x a → FirstPiece x a e → t ≡ is_code (part_of x a e) → t ≡ false → length x ≤ e
-      → Coded x Nothing
+      → Coded x None
   no_code u f et g h = record {
     is = one_run u f ∙ rw (sym et ∙ g, le-ltb e (length x) h) refl;
     inside = tt;

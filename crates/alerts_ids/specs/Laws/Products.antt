@@ -1,12 +1,11 @@
 -- Law. The table of product codes, row by row.
-use Rattle.std.specs.Prelude.{◌≡◌, refl, List, ◌++◌, Bool, true, false, cond, ℕ, zero, suc, ◌+◌, ◌*◌, ◌-◌, ◌≤◌, ◌<◌, length, take, drop}
+use Rattle.std.specs.Prelude.{◌≡◌, refl, List, ◌++◌, Bool, true, false, cond, ℕ, zero, suc, ◌+◌, ◌*◌, ◌-◌, ◌≤◌, ◌<◌, length, take, drop, Some, None}
 use Rattle.std.proofs.Common.{sym, ap, ◌∙◌, arith, length-append, length-drop, length-take, drop-drop}
 use Rattle.std.proofs.Math.Option.{some}
 use Rattle.std.proofs.Math.Seq.{take-append_seam}
 use Rattle.slices.specs.Lists.{pasted}
 use Rattle.alerts.specs.Text.{upper, same_ignoring_case, trim_end}
 use Rattle.alerts.specs.Applies.{name_of}
-use Rattle.alerts_ids.specs.declared.products.Line.TheVariants.{Short, Unknown}
 use Rattle.alerts_ids.specs.Promises.Products.{name_in, rows, Wrote, Named}
 use Rattle.alerts_ids.specs.Laws.Ends.{end_shorter}
 
@@ -73,7 +72,7 @@ module _ {code t : List ℕ} {n at left : ℕ} {old new : List ℕ} (S : Seeking
 
   pub row_found : {b : Bool} {k : ℕ} {out : List ℕ} → 0 < left
       → b ≡ same_ignoring_case code (take (at + 6 - at) (drop at t)) → b ≡ true → Wrote (name_in t at) k new out
-      → Named (name_of (upper code) (rows n t)) (Short k) old out
+      → Named (name_of (upper code) (rows n t)) (Some k) old out
   row_found z e f W = record {
     kept = W.kept ∙ S.kept;
     within = W.within;
@@ -84,7 +83,7 @@ module _ {code t : List ℕ} {n at left : ℕ} {old new : List ℕ} (S : Seeking
       → Seeking code t n (at + 9) (left - 1) old new
   seeking_on z e f = record { kept = S.kept; within = omega (arith, S.within); whole = told z e ∙ rw f refl }
 
-  pub none_found : left ≤ 0 → Named (name_of (upper code) (rows n t)) Unknown old new
+  pub none_found : left ≤ 0 → Named (name_of (upper code) (rows n t)) None old new
   none_found z =
       let k : left ≡ 0 = omega arith in
       record { kept = S.kept; within = omega arith; is = S.whole ∙ rw k refl }

@@ -1,14 +1,12 @@
 -- Promise. Where a text is cut: at its last byte of a kind, into the pieces of an id, around a product code.
-use Rattle.std.specs.Prelude.{◌≡◌, List, [], ◌∷◌, ◌++◌, Bool, true, false, cond, not, ◌&&◌, ◌||◌, ℕ, zero, suc, ◌-◌, ◌≤◌, eqb, ltb, length, take, drop}
-use Rattle.std.proofs.Math.Option.{Option, none, some}
+use Rattle.std.specs.Prelude.{◌≡◌, List, [], ◌∷◌, ◌++◌, Bool, true, false, cond, not, ◌&&◌, ◌||◌, ℕ, zero, suc, ◌-◌, ◌≤◌, eqb, ltb, length, take, drop, Option, Some, None}
+use Rattle.std.proofs.Math.Option.{Option as LogicOption, none, some}
 use Rattle.basics.specs.Lists.{all, any, is_empty}
 use Rattle.alerts.specs.Text.{upper, alphanumeric, rsplit_once, split}
 use Rattle.alerts.specs.Applies.{product_code_token}
-use Rattle.alerts_ids.specs.declared.Token.{Token}
-use Rattle.alerts_ids.specs.declared.Token.TheVariants.{At, Nothing}
 
 -- the parts before and after the place r, none where r is the length
-abbrev pub cut_at : ℕ → List ℕ → Option (List ℕ × List ℕ)
+abbrev pub cut_at : ℕ → List ℕ → LogicOption (List ℕ × List ℕ)
 cut_at r s = cond (ltb r (length s)) (some (take r s, drop (suc r) s)) none
 
 pub record LastOf (c : ℕ) (s : List ℕ) (r : ℕ) : Type 0 where
@@ -50,14 +48,14 @@ pub record FirstPiece (x : List ℕ) (a e : ℕ) : Type 0 where
   pub pieces : split breaks (drop a x) ≡ part_of x a e ∷ pieces_after x e
 
 -- a product code, by its place
-abbrev pub token_of : List ℕ → Token → Option (List ℕ)
-token_of x Nothing = none
-token_of x (At a e) = some (upper (part_of x a e))
+abbrev pub token_of : List ℕ → Option (ℕ × ℕ) → LogicOption (List ℕ)
+token_of x None = none
+token_of x (Some (a, e)) = some (upper (part_of x a e))
 
-abbrev pub Inside : List ℕ → Token → Type 0
-Inside x Nothing = Unit {0}
-Inside x (At a e) = (a ≤ e) × (e ≤ length x)
+abbrev pub Inside : List ℕ → Option (ℕ × ℕ) → Type 0
+Inside x None = Unit {0}
+Inside x (Some (a, e)) = (a ≤ e) × (e ≤ length x)
 
-pub record Coded (x : List ℕ) (r : Token) : Type 0 where
+pub record Coded (x : List ℕ) (r : Option (ℕ × ℕ)) : Type 0 where
   pub is : product_code_token x ≡ token_of x r
   pub inside : Inside x r

@@ -1,9 +1,7 @@
 -- Promise. The table of product codes as the code keeps it, and a name written into a lent slice.
-use Rattle.std.specs.Prelude.{◌≡◌, List, [], ◌∷◌, ℕ, zero, suc, ◌+◌, ◌≤◌, length, take, drop}
-use Rattle.std.proofs.Math.Option.{Option, none, some}
+use Rattle.std.specs.Prelude.{◌≡◌, List, [], ◌∷◌, ℕ, zero, suc, ◌+◌, ◌≤◌, length, take, drop, Option, Some, None}
+use Rattle.std.proofs.Math.Option.{Option as LogicOption, none, some}
 use Rattle.alerts.specs.Text.{upper, trim_end}
-use Rattle.alerts_ids.specs.declared.products.Line.{Line}
-use Rattle.alerts_ids.specs.declared.products.Line.TheVariants.{Short, Unknown}
 
 -- n rows of nine bytes: a code, and a name filled with spaces
 abbrev pub name_in : List ℕ → ℕ → List ℕ
@@ -19,15 +17,15 @@ pub record Wrote (name : List ℕ) (r : ℕ) (old new : List ℕ) : Type 0 where
   pub within : r ≤ length new
   pub is : take r new ≡ name
 
-abbrev pub shown_in : List ℕ → Line → Option (List ℕ)
-shown_in new (Short n) = some (take n new)
-shown_in new Unknown = none
+abbrev pub shown_in : List ℕ → Option ℕ → LogicOption (List ℕ)
+shown_in new (Some n) = some (take n new)
+shown_in new None = none
 
-abbrev pub taken : Line → ℕ
-taken (Short n) = n
-taken Unknown = 0
+abbrev pub taken : Option ℕ → ℕ
+taken (Some n) = n
+taken None = 0
 
-pub record Named (o : Option (List ℕ)) (r : Line) (old new : List ℕ) : Type 0 where
+pub record Named (o : LogicOption (List ℕ)) (r : Option ℕ) (old new : List ℕ) : Type 0 where
   pub kept : length new ≡ length old
   pub within : taken r ≤ length new
   pub is : o ≡ shown_in new r

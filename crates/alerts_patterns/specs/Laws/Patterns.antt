@@ -1,10 +1,9 @@
 -- Law. A table of patterns, piece by piece: where a piece ends, what is filled in, what is still to be tried.
-use Rattle.std.specs.Prelude.{◌≡◌, refl, List, [], ◌∷◌, ◌++◌, Bool, true, false, cond, ◌||◌, ℕ, suc, ◌+◌, ◌-◌, ◌≤◌, ◌<◌, eqb, length, get_or, take, drop}
+use Rattle.std.specs.Prelude.{◌≡◌, refl, List, [], ◌∷◌, ◌++◌, Bool, true, false, cond, ◌||◌, ℕ, suc, ◌+◌, ◌-◌, ◌≤◌, ◌<◌, eqb, length, get_or, take, drop, Option}
 use Rattle.std.proofs.Common.{sym, ap, ◌∙◌, append-nil, add-one, arith, drop_of_length-le, length-drop, drop-cons, drop-drop, eq-eqb, ne_eqb}
 use Rattle.std.proofs.Math.Seq.{take-length}
 use Rattle.basics.specs.Lists.{any}
 use Rattle.alerts.specs.Text.{find, onto}
-use Rattle.alerts_patterns.specs.declared.Occurrence.{Occurrence}
 use Rattle.alerts_patterns.specs.Promises.Occurrence.{found_of}
 use Rattle.alerts_patterns.specs.Promises.Tables.{up_to, name_filled, pieces}
 use Rattle.basics.specs.Laws.Booleans.{or_false}
@@ -58,13 +57,13 @@ filled_here name (b ∷ p) h = go (eqb b 0x23) h (filled_here name p)
 pub tail_whole : (i : ℕ) (s : List ℕ) → take (length s - i) (drop i s) ≡ drop i s
 tail_whole i s = ap (λ n. take n (drop i s)) (sym (length-drop i s)) ∙ take-length (drop i s)
 
-pub unfilled : (s name p : List ℕ) (h : ℕ) (r : Occurrence) → h ≡ 0 + up_to 0x23 (drop 0 p) → length p ≤ h
+pub unfilled : (s name p : List ℕ) (h : ℕ) (r : Option ℕ) → h ≡ 0 + up_to 0x23 (drop 0 p) → length p ≤ h
     → r ≡ found_of (find (p ++ [] ++ []) s) → r ≡ found_of (find (name_filled name p) s)
 unfilled s name p h r e g x =
     x ∙ ap (λ l. found_of (find l s))
     (append-nil (p ++ []) ∙ append-nil p ∙ sym (filled_none name p (omega (arith, e, g))))
 
-pub fills : (s name p : List ℕ) (h : ℕ) (r : Occurrence) → h ≡ 0 + up_to 0x23 (drop 0 p) → h < length p
+pub fills : (s name p : List ℕ) (h : ℕ) (r : Option ℕ) → h ≡ 0 + up_to 0x23 (drop 0 p) → h < length p
     → r ≡ found_of (find (take h p ++ name ++ take (length p - (h + 1)) (drop (h + 1) p)) s)
     → r ≡ found_of (find (name_filled name p) s)
 fills s name p h r e g x =

@@ -1,12 +1,10 @@
 -- Law. A text searched for a pattern, place by place: what each turn knows, and what a pattern in parts is.
-use Rattle.std.specs.Prelude.{◌≡◌, refl, List, [], ◌∷◌, ◌++◌, Bool, true, false, cond, not, ◌&&◌, ◌||◌, ℕ, zero, suc, ◌+◌, ◌-◌, ◌≤◌, ◌<◌, eqb, length, get_or, drop}
+use Rattle.std.specs.Prelude.{◌≡◌, refl, List, [], ◌∷◌, ◌++◌, Bool, true, false, cond, not, ◌&&◌, ◌||◌, ℕ, zero, suc, ◌+◌, ◌-◌, ◌≤◌, ◌<◌, eqb, length, get_or, drop, Option, Some, None}
 use Rattle.std.proofs.Common.{sym, ap, ◌∙◌, add-one, arith, add_assoc, drop_of_length-le, length-append, length-drop, drop-cons, drop-drop, eq-eqb, ne_eqb}
-use Rattle.std.proofs.Math.Option.{Option, none, some}
+use Rattle.std.proofs.Math.Option.{Option as LogicOption, none, some}
 use Rattle.std.proofs.lemmas.Bool.{not-true, not-false}
 use Rattle.alerts.specs.Text.{begins, ends, contains, later, find}
 use Rattle.alerts_patterns.specs.Promises.Occurrence.{found_of}
-use Rattle.alerts_patterns.specs.declared.Occurrence.{Occurrence}
-use Rattle.alerts_patterns.specs.declared.Occurrence.TheVariants.{At, Nowhere}
 use Rattle.basics.specs.Texts.{same}
 use Rattle.basics.specs.Laws.Texts.{same_true}
 use Rattle.basics.specs.Laws.Booleans.{false_true, or_false}
@@ -86,7 +84,7 @@ module _ (b n a s : List ℕ) (i : ℕ) where
   then_after t u v e h f k g = sym (parts b n a s i ∙ rw (← e, not-false t h, ← f, not-false u k, ← g) refl)
 
 -- the first place of p in s is the first place from i on
-abbrev pub moved : ℕ → Option ℕ → Option ℕ
+abbrev pub moved : ℕ → LogicOption ℕ → LogicOption ℕ
 moved i none = none
 moved i (some k) = some (i + k)
 
@@ -97,7 +95,7 @@ pub record Unfound (p s : List ℕ) (i : ℕ) : Type 0 where
 pub unfound_start : (p s : List ℕ) → Unfound p s 0
 unfound_start p s = record { within = omega arith; whole = go (find p s) }
   where
-    go : (o : Option ℕ) → o ≡ moved 0 o
+    go : (o : LogicOption ℕ) → o ≡ moved 0 o
     go none = refl
     go (some k) = ap some (omega arith)
 
@@ -106,12 +104,12 @@ find_begins [] [] e = refl
 find_begins (a ∷ p) [] e = false_true e
 find_begins p (b ∷ s) e = rw e refl
 
-moved_later : (i : ℕ) (o : Option ℕ) → moved i (later o) ≡ moved (i + 1) o
+moved_later : (i : ℕ) (o : LogicOption ℕ) → moved i (later o) ≡ moved (i + 1) o
 moved_later i none = refl
 moved_later i (some k) = ap some (omega arith)
 
 pub found_here : (p s : List ℕ) (i : ℕ) (t : Bool) → Unfound p s i → t ≡ begins p (drop i s) → t ≡ true
-    → At i ≡ found_of (find p s)
+    → Some i ≡ found_of (find p s)
 found_here p s i t u e h =
     sym (ap found_of (u.whole ∙ ap (moved i) (find_begins p (drop i s) (sym e ∙ h)) ∙ ap some (omega arith)))
 
@@ -127,7 +125,7 @@ unfound_more p s i t u g e h = record {
         (ap (λ t. cond t (some 0) (later (find p (drop (suc i) s)))) (ap (begins p) (sym (drop-cons s i 0 g)) ∙ x))
 
 pub nowhere : (p s : List ℕ) (i : ℕ) (t : Bool) → Unfound p s i → length s ≤ i → t ≡ begins p (drop i s) → t ≡ false
-    → Nowhere ≡ found_of (find p s)
+    → None ≡ found_of (find p s)
 nowhere p s i t u g e h =
     let last : begins p [] ≡ false = rw (drop_of_length-le s g) at (sym e ∙ h) in
     sym (ap found_of (u.whole ∙ ap (λ l. moved i (find p l)) (drop_of_length-le s g) ∙ ap (moved i) (none_left p last)))
@@ -137,7 +135,7 @@ nowhere p s i t u g e h =
     none_left (a ∷ p) x = refl
 
 -- what is found is contained
-abbrev somewhere : Option ℕ → Bool
+abbrev somewhere : LogicOption ℕ → Bool
 somewhere none = false
 somewhere (some i) = true
 
@@ -146,23 +144,23 @@ contains_find [] [] = refl
 contains_find (a ∷ p) [] = refl
 contains_find p (b ∷ s) = rw (contains_find p s) (go (begins p (b ∷ s)) (find p s))
   where
-    go : (t : Bool) (o : Option ℕ) → t || somewhere o ≡ somewhere (cond t (some 0) (later o))
+    go : (t : Bool) (o : LogicOption ℕ) → t || somewhere o ≡ somewhere (cond t (some 0) (later o))
     go true o = refl
     go false none = refl
     go false (some i) = refl
 
-found_somewhere : (f : Option ℕ) (i : ℕ) → found_of f ≡ At i → somewhere f ≡ true
+found_somewhere : (f : LogicOption ℕ) (i : ℕ) → found_of f ≡ Some i → somewhere f ≡ true
 found_somewhere none i e = absurd (let z : ◌≡◌ {A = ℕ} 0 1 = cc in omega arith)
 found_somewhere (some k) i e = refl
 
-found_nowhere : (f : Option ℕ) → found_of f ≡ Nowhere → somewhere f ≡ false
+found_nowhere : (f : LogicOption ℕ) → found_of f ≡ None → somewhere f ≡ false
 found_nowhere none e = refl
 found_nowhere (some k) e = absurd (let z : ◌≡◌ {A = ℕ} 0 1 = cc in omega arith)
 
-pub found_contained : (p s : List ℕ) (i : ℕ) (o : Occurrence) → o ≡ found_of (find p s) → o ≡ At i → true ≡ contains p s
+pub found_contained : (p s : List ℕ) (i : ℕ) (o : Option ℕ) → o ≡ found_of (find p s) → o ≡ Some i → true ≡ contains p s
 found_contained p s i o e h = sym (contains_find p s ∙ found_somewhere (find p s) i (sym e ∙ h))
 
-pub nowhere_contained : (p s : List ℕ) (o : Occurrence) → o ≡ found_of (find p s) → o ≡ Nowhere → false ≡ contains p s
+pub nowhere_contained : (p s : List ℕ) (o : Option ℕ) → o ≡ found_of (find p s) → o ≡ None → false ≡ contains p s
 nowhere_contained p s o e h = sym (contains_find p s ∙ found_nowhere (find p s) (sym e ∙ h))
 
 -- an end in the text, from where it begins

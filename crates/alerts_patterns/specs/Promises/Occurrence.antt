@@ -1,13 +1,11 @@
 -- Promise. How the code says where a text is found, and how far a search may skip.
-use Rattle.std.specs.Prelude.{◌≡◌, List, [], ◌∷◌, Bool, true, false, ◌&&◌, ◌||◌, ℕ, ◌+◌, ◌≤◌, ◌<◌, eqb, leb, length, get_or, drop}
-use Rattle.std.proofs.Math.Option.{Option, none, some}
+use Rattle.std.specs.Prelude.{◌≡◌, List, [], ◌∷◌, Bool, true, false, ◌&&◌, ◌||◌, ℕ, ◌+◌, ◌≤◌, ◌<◌, eqb, leb, length, get_or, drop, Option, Some, None}
+use Rattle.std.proofs.Math.Option.{Option as LogicOption, none, some}
 use Rattle.alerts.specs.Text.{begins}
-use Rattle.alerts_patterns.specs.declared.Occurrence.{Occurrence}
-use Rattle.alerts_patterns.specs.declared.Occurrence.TheVariants.{At, Nowhere}
 
-abbrev pub found_of : Option ℕ → Occurrence
-found_of none = Nowhere
-found_of (some i) = At i
+abbrev pub found_of : LogicOption ℕ → Option ℕ
+found_of none = None
+found_of (some i) = Some i
 
 -- p stands nowhere from i on before r
 pub record Skips (p s : List ℕ) (i r : ℕ) : Type 0 where

@@ -1,15 +1,14 @@
 -- Law. Each answer of the probes of a whole alert is the promised one.
-use Rattle.std.specs.Prelude.{◌≡◌, refl, List, [], Bool, true, false, cond, not, ℕ, ◌≤◌, ◌<◌, leb, eqb, length, replicate}
+use Rattle.std.proofs.lemmas.Option.{some_pair_parts}
+use Rattle.std.specs.Prelude.{◌≡◌, refl, List, [], Bool, true, false, cond, not, ℕ, ◌≤◌, ◌<◌, leb, eqb, length, replicate, Option, Some, None}
 use Rattle.std.proofs.Common.{sym, ap, ◌∙◌, inl, inr, arith, le-leb, leb-true, eqb-true}
-use Rattle.std.proofs.Math.Option.{Option, none, some}
+use Rattle.std.proofs.Math.Option.{Option as LogicOption, none, some}
 use Rattle.std.proofs.Math.Seq.{slice}
 use Rattle.std.proofs.lemmas.Bool.{lt-leb, not-true, not-false}
 use Rattle.basics.specs.Options.{Maybe}
 use Rattle.basics.specs.Laws.Booleans.{and_true, and_no, false_true}
 use Rattle.formats.specs.Class.{Class, utf8}
 use Rattle.formats.specs.Format.{read, text, optional}
-use Rattle.formats_judge.specs.declared.Judge.{Judge}
-use Rattle.formats_judge.specs.declared.Judge.TheVariants.{At, Broken}
 use Rattle.formats_judge.specs.Judged.{ok, first_failing, verdict, judged, judge_to}
 use Rattle.formats_read.specs.Promises.Here.{here}
 use Rattle.alerts.specs.Alert.{alert, Alert, header, description, cause, or_empty_text}
@@ -23,24 +22,24 @@ use Rattle.alerts_probes.specs.Probes.{is_fine, applies_in, applies_to, label_in
 
 -- ---- whether an alert within its limits stands in front
 
-at_broken : {A : Type 0} {p n : ℕ} → At p n ≡ Broken → A
+at_broken : {A : Type 0} {p n : ℕ} → ◌≡◌ {A = Option (ℕ × ℕ)} (Some (p, n)) None → A
 at_broken e = let z : ◌≡◌ {A = ℕ} 0 1 = cc in absurd (omega arith)
 
-at_verdict : {p n q m : ℕ} → At p n ≡ At q m → n ≡ m
-at_verdict e = cc
+at_verdict : {p n q m : ℕ} → ◌≡◌ {A = Option (ℕ × ℕ)} (Some (p, n)) (Some (q, m)) → n ≡ m
+at_verdict e = (some_pair_parts _ _ _ _ e).1
 
-module _ (s : List ℕ) {r : Judge} (j : r ≡ judge_to alert s 0) where
-  pub stands_broken : r ≡ Broken → false ≡ is_fine (read alert s)
+module _ (s : List ℕ) {r : Option (ℕ × ℕ)} (j : r ≡ judge_to alert s 0) where
+  pub stands_broken : r ≡ None → false ≡ is_fine (read alert s)
   stands_broken e = go (read alert s) (sym j ∙ e)
     where
-      go : (o : Option (Alert × List ℕ)) → judged (verdict alert) s o ≡ Broken → false ≡ is_fine o
+      go : (o : LogicOption (Alert × List ℕ)) → judged (verdict alert) s o ≡ None → false ≡ is_fine o
       go none h = refl
       go (some x) h = at_broken h
 
-  pub stands_at : {p n : ℕ} → r ≡ At p n → eqb n 0 ≡ is_fine (read alert s)
+  pub stands_at : {p n : ℕ} → r ≡ Some (p, n) → eqb n 0 ≡ is_fine (read alert s)
   stands_at {p} {n} e = go (read alert s) (sym e ∙ j)
     where
-      go : (o : Option (Alert × List ℕ)) → At p n ≡ judged (verdict alert) s o → eqb n 0 ≡ is_fine o
+      go : (o : LogicOption (Alert × List ℕ)) → Some (p, n) ≡ judged (verdict alert) s o → eqb n 0 ≡ is_fine o
       go none h = at_broken h
       go (some x) h = ap (λ m. eqb m 0) (at_verdict h)
 
@@ -98,13 +97,13 @@ module _ (old s trip route short from to mode : List ℕ) where
         pub answer_none : not t ≡ true → 2 ≡ applies_to (length old) s trip route short from to mode
         answer_none f = sym (asks ∙ go (read alert s) (sym e ∙ not-true t f))
           where
-            go : (o : Option (Alert × List ℕ)) → is_fine o ≡ false → applies_in o trip route short from to mode ≡ 2
+            go : (o : LogicOption (Alert × List ℕ)) → is_fine o ≡ false → applies_in o trip route short from to mode ≡ 2
             go none h = refl
             go (some x) h = rw h refl
 
         module _ (f : not t ≡ false) {r : Bool} {new : List ℕ}
             (A : Applied trip route short from to mode s 0 r old new) where
-          answered : (o : Option (Alert × List ℕ)) → read alert s ≡ o → is_fine o ≡ true
+          answered : (o : LogicOption (Alert × List ℕ)) → read alert s ≡ o → is_fine o ≡ true
               → applies_in o trip route short from to mode ≡ cond r 1 0
           answered none k h = false_true h
           answered (some (a, rest)) k h =
@@ -124,7 +123,7 @@ module _ (s : List ℕ) {t : Bool} (e : t ≡ is_fine (read alert s)) where
   pub label_none : not t ≡ true → LabelShown s 0 0
   label_none f = record { is = go (read alert s) (sym e ∙ not-true t f); forward = omega arith; within = omega arith }
     where
-      go : (o : Option (Alert × List ℕ)) → is_fine o ≡ false → [] ≡ label_in o
+      go : (o : LogicOption (Alert × List ℕ)) → is_fine o ≡ false → [] ≡ label_in o
       go none h = refl
       go (some x) h = sym (rw h refl)
 
@@ -135,6 +134,6 @@ module _ (s : List ℕ) {t : Bool} (e : t ≡ is_fine (read alert s)) where
     within = L.within;
   }
     where
-      go : (o : Option (Alert × List ℕ)) → read alert s ≡ o → is_fine o ≡ true → slice a b s ≡ label_in o
+      go : (o : LogicOption (Alert × List ℕ)) → read alert s ≡ o → is_fine o ≡ true → slice a b s ≡ label_in o
       go none k h = false_true h
       go (some (v, rest)) k h = L.is (here alert s 0 v rest (omega arith) k) ∙ sym (rw h refl)

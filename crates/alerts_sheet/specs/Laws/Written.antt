@@ -1,5 +1,5 @@
 -- Law. What is written for an id, for the ids of an entity's alert, for the alert and for a sheet, part by part.
-use Rattle.std.specs.Prelude.{ℕ, ◌+◌, ◌-◌, ◌≤◌, ◌≡◌, refl, Bool, true, false, cond, ◌&&◌, List, [], ◌∷◌, ◌++◌, eqb, leb, length, take, drop}
+use Rattle.std.specs.Prelude.{ℕ, ◌+◌, ◌-◌, ◌≤◌, ◌≡◌, refl, Bool, true, false, cond, ◌&&◌, List, [], ◌∷◌, ◌++◌, eqb, leb, length, take, drop, Option}
 use Rattle.std.proofs.Common.{sym, ap, ◌∙◌, arith, length-append, length-drop, length-take-le, lt-ltb, leb-true}
 use Rattle.std.proofs.Math.Option.{some-injective}
 use Rattle.std.proofs.lemmas.List.{length-map}
@@ -7,8 +7,6 @@ use Rattle.std.proofs.Math.Seq.{slice, take-length}
 use Rattle.basics.specs.Laws.Booleans.{and_true}
 use Rattle.formats.specs.Number.{number_w}
 use Rattle.formats.specs.Readers.{many_w}
-use Rattle.formats_write.specs.declared.Put.{Put}
-use Rattle.formats.specs.declared.OptionalText.{OptionalText}
 use Rattle.formats_write.specs.Laws.Adds.{then, same}
 use Rattle.formats_write.specs.Laws.Over.{put_over}
 use Rattle.formats_write.specs.Laws.Slices.{slice_is}
@@ -23,6 +21,7 @@ use Rattle.alerts_views.specs.Promises.Views.{WordsRead, Writable, few, ids_in, 
 use Rattle.alerts_sheet.specs.declared.Ids.{Ids}
 use Rattle.alerts_sheet.specs.Promises.Written.{ListedIds, Sheetable, WrittenAlert, WrittenAlerts, WrittenIds}
 use Rattle.alerts_sheet.specs.Promises.Written.{WrittenSheet, named, named_ids}
+use Rattle.formats.specs.declared.Span.{Span}
 
 -- a part of s
 pub part_length : (s : List ℕ) (t : TextPart) → PartInside (length s) t → length (part_in s t) ≡ t.len
@@ -34,7 +33,7 @@ part_is s t h =
     sym (slice_is t.start (t.start + t.len) s (omega arith) h) ∙ ap (λ k. take k (drop t.start s)) d
 
 -- the feed's id, ':' and an id
-pub id_adds : {l₀ l₁ l₂ l₃ l₄ : List ℕ} {r₀ r₁ r₂ r₃ r₄ : Put} (name s : List ℕ) (t : TextPart)
+pub id_adds : {l₀ l₁ l₂ l₃ l₄ : List ℕ} {r₀ r₁ r₂ r₃ r₄ : Option ℕ} (name s : List ℕ) (t : TextPart)
     → PartInside (length s) t → Adds l₀ r₀ l₁ r₁ (number_w (length name + 1 + t.len))
     → (0 ≤ length name → length name ≤ length name → Adds l₁ r₁ l₂ r₂ (slice 0 (length name) name))
     → Adds l₂ r₂ l₃ r₃ (58 ∷ [])
@@ -70,7 +69,7 @@ one_byte : (n : ℕ) → n ≤ 32 → number_w n ≡ n ∷ []
 one_byte n h = rw (lt-ltb n 128 (omega arith)) refl
 
 -- the ids with their count in front
-pub ids_adds : {kind : ℕ} {name s : List ℕ} {i n : ℕ} {l₀ l₁ l₂ l₃ : List ℕ} {r₀ r₁ r₃ : Put} {k : Ids} → Writable s i n
+pub ids_adds : {kind : ℕ} {name s : List ℕ} {i n : ℕ} {l₀ l₁ l₂ l₃ : List ℕ} {r₀ r₁ r₃ : Option ℕ} {k : Ids} → Writable s i n
     → Adds l₀ r₀ l₁ r₁ (0 ∷ []) → ListedIds kind name s i n l₁ r₁ l₂ k → Adds l₂ r₀ l₃ r₃ (k.count ∷ [])
     → WrittenIds kind name s i n l₀ r₀ l₃ k.next
 ids_adds {kind} {name} {k} W a L b = record {
@@ -83,8 +82,8 @@ ids_adds {kind} {name} {k} W a L b = record {
 }
 
 -- an alert: its words, no cause, its ids
-pub alert_adds : {name s : List ℕ} {i n : ℕ} {l₀ l₁ l₂ l₃ l₄ l₅ l₆ : List ℕ} {r₀ r₁ r₂ r₃ r₄ r₅ r₆ : Put}
-    {h d : OptionalText} → WordsRead s i n 10 h → WordsRead s i n 11 d
+pub alert_adds : {name s : List ℕ} {i n : ℕ} {l₀ l₁ l₂ l₃ l₄ l₅ l₆ : List ℕ} {r₀ r₁ r₂ r₃ r₄ r₅ r₆ : Option ℕ}
+    {h d : Option Span} → WordsRead s i n 10 h → WordsRead s i n 11 d
     → (Inside s h → Adds l₀ r₀ l₁ r₁ (optional_w text_w (given_text s h)))
     → (Inside s d → Adds l₁ r₁ l₂ r₂ (optional_w text_w (given_text s d))) → Adds l₂ r₂ l₃ r₃ (0 ∷ [])
     → WrittenIds 4 name s i n l₃ r₃ l₄ r₄ → WrittenIds 2 name s i n l₄ r₄ l₅ r₅ → WrittenIds 5 name s i n l₅ r₅ l₆ r₆
@@ -98,7 +97,7 @@ alert_adds H D a b c t u v = record {
 }
 
 -- a sheet: its version, how many alerts, each of them
-pub sheet_adds : {name s : List ℕ} {n : ℕ} {l₀ l₁ l₂ l₃ : List ℕ} {r₀ r₁ r₂ r₃ : Put} → Sheetable s n
+pub sheet_adds : {name s : List ℕ} {n : ℕ} {l₀ l₁ l₂ l₃ : List ℕ} {r₀ r₁ r₂ r₃ : Option ℕ} → Sheetable s n
     → Adds l₀ r₀ l₁ r₁ (1 ∷ []) → Adds l₁ r₁ l₂ r₂ (number_w n) → WrittenAlerts name s l₂ r₂ l₃ r₃
     → WrittenSheet name s l₀ r₀ l₃ r₃
 unfolding sheet_in

@@ -1,10 +1,9 @@
 -- Promise. What is written of a message's alerts: the ids of an entity's selectors, its alert, and all that are kept.
-use Rattle.std.specs.Prelude.{ℕ, ◌≤◌, ◌≡◌, List, ◌∷◌, ◌++◌, map, true, length}
+use Rattle.std.specs.Prelude.{ℕ, ◌≤◌, ◌≡◌, List, ◌∷◌, ◌++◌, map, true, length, Option}
 use Rattle.std.proofs.Math.Option.{some}
 use Rattle.basics.specs.Lists.{all}
 use Rattle.formats.specs.Format.{write}
 use Rattle.formats.specs.Readers.{many_w}
-use Rattle.formats_write.specs.declared.Put.{Put}
 use Rattle.formats_write.specs.Promises.Adds.{Adds}
 use Rattle.formats_write.specs.Promises.Given.{text_w}
 use Rattle.realtime.specs.Tree.{Tree, tree}
@@ -29,16 +28,16 @@ abbrev pub named_ids : ℕ → List ℕ → Tree → List (List ℕ)
 named_ids kind name e = ids_by (id_of kind) name (selectors e)
 
 -- one after the other, and how many they are
-pub record ListedIds (kind : ℕ) (name s : List ℕ) (i n : ℕ) (l : List ℕ) (r : Put) (m : List ℕ) (k : Ids) : Type 0 where
+pub record ListedIds (kind : ℕ) (name s : List ℕ) (i n : ℕ) (l : List ℕ) (r : Option ℕ) (m : List ℕ) (k : Ids) : Type 0 where
   pub adds : (e : Tree) → entity_at s i n ≡ some e → Adds l r m k.next (many_w text_w (named_ids kind name e))
   pub counted : (e : Tree) → entity_at s i n ≡ some e → k.count ≡ length (named_ids kind name e)
 
-pub record WrittenIds (kind : ℕ) (name s : List ℕ) (i n : ℕ) (l : List ℕ) (r : Put) (m : List ℕ) (q : Put) :
+pub record WrittenIds (kind : ℕ) (name s : List ℕ) (i n : ℕ) (l : List ℕ) (r : Option ℕ) (m : List ℕ) (q : Option ℕ) :
     Type 0 where
   pub of : (e : Tree) → entity_at s i n ≡ some e → Adds l r m q (write ids (named_ids kind name e))
 
 -- an entity's alert
-pub record WrittenAlert (name s : List ℕ) (i n : ℕ) (l : List ℕ) (r : Put) (m : List ℕ) (q : Put) : Type 0 where
+pub record WrittenAlert (name s : List ℕ) (i n : ℕ) (l : List ℕ) (r : Option ℕ) (m : List ℕ) (q : Option ℕ) : Type 0 where
   pub of : (e : Tree) → entity_at s i n ≡ some e → Adds l r m q (write alert (alert_in name e))
 
 -- a message whose alerts can be written: not broken, and each that is kept has few ids
@@ -53,9 +52,9 @@ pub record Sheetable (s : List ℕ) (n : ℕ) : Type 0 where
   pub counted : n ≡ length (kept_in alerts.message)
 
 -- the alerts of a message, and its sheet
-pub record WrittenAlerts (name s : List ℕ) (l : List ℕ) (r : Put) (m : List ℕ) (q : Put) : Type 0 where
+pub record WrittenAlerts (name s : List ℕ) (l : List ℕ) (r : Option ℕ) (m : List ℕ) (q : Option ℕ) : Type 0 where
   pub of : (t : Tree) → tree feed alert_message s ≡ some t
       → Adds l r m q (many_w (write alert) (map (alert_in name) (kept_in t)))
 
-pub record WrittenSheet (name s : List ℕ) (l : List ℕ) (r : Put) (m : List ℕ) (q : Put) : Type 0 where
+pub record WrittenSheet (name s : List ℕ) (l : List ℕ) (r : Option ℕ) (m : List ℕ) (q : Option ℕ) : Type 0 where
   pub of : (t : Tree) → tree feed alert_message s ≡ some t → Adds l r m q (write alert_sheet (sheet_in name t))

@@ -1,21 +1,21 @@
 -- Promise. What the code's answers on an entity's alert say of the bytes: whether it counts, its words, its selectors'
 -- ids and how many there are.
-use Rattle.std.specs.Prelude.{ℕ, ◌+◌, ◌≤◌, min, ◌≡◌, List, Bool, true, cond, ◌&&◌, eqb, leb, length, take, drop}
-use Rattle.std.proofs.Math.Option.{Option, some}
+use Rattle.std.specs.Prelude.{ℕ, ◌+◌, ◌≤◌, min, ◌≡◌, List, Bool, true, cond, ◌&&◌, eqb, leb, length, take, drop, Option}
+use Rattle.std.proofs.Math.Option.{Option as LogicOption, some}
 use Rattle.basics.specs.Lists.{filter, all}
-use Rattle.formats.specs.declared.OptionalText.{OptionalText}
 use Rattle.formats_write.specs.Promises.Given.{given_text, Inside}
 use Rattle.realtime.specs.Tree.{Tree, tree, sub, rep}
 use Rattle.realtime.specs.Schema.{feed, alert_message, alert_entity, entity_selector}
 use Rattle.realtime_views.specs.declared.TextPart.{TextPart}
 use Rattle.realtime_views.specs.Promises.Views.{part_in, PartInside}
 use Rattle.alerts_feed.specs.Sheet.{has_alert, translated, trip_id, route_id, stop_id, ids_of}
+use Rattle.formats.specs.declared.Span.{Span}
 
 -- the entity, and the selector, in l bytes at i of s
-abbrev pub entity_at : List ℕ → ℕ → ℕ → Option Tree
+abbrev pub entity_at : List ℕ → ℕ → ℕ → LogicOption Tree
 entity_at s i l = tree feed alert_entity (take l (drop i s))
 
-abbrev pub selector_at : List ℕ → ℕ → ℕ → Option Tree
+abbrev pub selector_at : List ℕ → ℕ → ℕ → LogicOption Tree
 selector_at s i l = tree feed entity_selector (take l (drop i s))
 
 -- the selectors, 5, of all the alerts, 5, of an entity
@@ -42,7 +42,7 @@ pub record LeftRead (s : List ℕ) (i l : ℕ) (r : Bool) : Type 0 where
   pub of : (e : Tree) → entity_at s i l ≡ some e → r ≡ has_alert e
 
 -- the words of header_text, k is 10, or of description_text, 11
-pub record WordsRead (s : List ℕ) (i l k : ℕ) (r : OptionalText) : Type 0 where
+pub record WordsRead (s : List ℕ) (i l k : ℕ) (r : Option Span) : Type 0 where
   pub of : (e : Tree) → entity_at s i l ≡ some e → given_text s r ≡ translated (sub k (sub 5 e))
   pub inside : Inside s r
 

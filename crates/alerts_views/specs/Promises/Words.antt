@@ -1,8 +1,7 @@
 -- Promise. The parts that an alert's words and its presence are read by: the first message at a field, a translation's
 -- text, and is_deleted.
-use Rattle.std.specs.Prelude.{ℕ, ◌+◌, ◌≤◌, ◌≡◌, List, [], ◌∷◌, Bool, true, length, take, drop}
+use Rattle.std.specs.Prelude.{ℕ, ◌+◌, ◌≤◌, ◌≡◌, List, [], ◌∷◌, Bool, true, length, take, drop, Option}
 use Rattle.std.proofs.Math.Option.{some}
-use Rattle.formats.specs.declared.OptionalText.{OptionalText}
 use Rattle.formats_write.specs.Promises.Given.{given_text, Inside}
 use Rattle.realtime.specs.Tree.{a_message, Tree, tree, last, rep}
 use Rattle.realtime.specs.Schema.{feed, alert}
@@ -12,6 +11,7 @@ use Rattle.realtime_views.specs.Promises.Scalars.{is_scalar}
 use Rattle.realtime_views.specs.Promises.Seeks.{Holding}
 use Rattle.alerts_feed.specs.Sheet.{text_given}
 use Rattle.alerts_views.specs.Promises.Views.{entity_at}
+use Rattle.formats.specs.declared.Span.{Span}
 
 -- at field k of an alert stand strings, in them translations, 1, and in these a text, 1
 pub record Worded (k : ℕ) : Type 0 where
@@ -37,7 +37,7 @@ pub record FirstRead (k : ℕ) (s : List ℕ) (i l : ℕ) (r : Item) : Type 0 wh
   pub inside : ItemInside s r
 
 -- THE TEXT, 1, of the translation in l bytes at i, in every type that lists it
-pub record TextRead (s : List ℕ) (i l : ℕ) (r : OptionalText) : Type 0 where
+pub record TextRead (s : List ℕ) (i l : ℕ) (r : Option Span) : Type 0 where
   pub of : (t : ℕ) → is_scalar (feed t 1) ≡ true → (m : Tree) → tree feed t (take l (drop i s)) ≡ some m
       → given_text s r ≡ text_given (last 1 m)
   pub inside : Inside s r

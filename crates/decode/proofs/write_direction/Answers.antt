@@ -7,8 +7,8 @@ use Rattle.decode.proofs.write_direction.Goals as goal
 pub shape_of-keys : goal.shape_of-keys
 shape_of-keys c = written_whole c.decimal.ensures
 
-pub returns-in-Given : goal.returns-in-Given
-returns-in-Given c = rw c.in-Given.is c.decimal.ensures
+pub returns-in-Some : goal.returns-in-Some
+returns-in-Some c = rw c.in-Some.is c.decimal.ensures
 
-pub returns-in-Absent : goal.returns-in-Absent
-returns-in-Absent c = rw c.in-Absent.is (none c.args.keys.now c.args.at (omega arith))
+pub returns-in-None : goal.returns-in-None
+returns-in-None c = rw c.in-None.is (none c.args.keys.now c.args.at (omega arith))

@@ -3,5 +3,5 @@ use mathlib.Core.Path.{sym, ap}
 use Rattle.decode_probes.specs.Indexing.{unfailed}
 use Rattle.decode_probes.proofs.is_unfailed.Goals as goal
 
-pub returns-in-At : goal.returns-in-At
-returns-in-At c = ap unfailed (sym c.in-At.is)
+pub returns-in-Some : goal.returns-in-Some
+returns-in-Some c = ap unfailed (sym c.in-Some.is)

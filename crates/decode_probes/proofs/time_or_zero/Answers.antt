@@ -8,10 +8,10 @@ use Rattle.realtime_views.specs.Promises.Views.{view_time}
 use Rattle.decode_probes.specs.Answers.{or_nought}
 use Rattle.decode_probes.proofs.time_or_zero.Goals as goal
 
-pub returns-in-Given : goal.returns-in-Given
-returns-in-Given c =
-    let f : SFits w64 c.in-Given.n = search rules in
-    to_z-of_z f ∙ ap (λ x. or_nought (view_time x)) (sym c.in-Given.is)
+pub returns-in-Some : goal.returns-in-Some
+returns-in-Some c =
+    let f : SFits w64 c.in-Some.n = search rules in
+    to_z-of_z f ∙ ap (λ x. or_nought (view_time x)) (sym c.in-Some.is)
 
-pub returns-in-Absent : goal.returns-in-Absent
-returns-in-Absent c = ap (λ x. or_nought (view_time x)) (sym c.in-Absent.is)
+pub returns-in-None : goal.returns-in-None
+returns-in-None c = ap (λ x. or_nought (view_time x)) (sym c.in-None.is)

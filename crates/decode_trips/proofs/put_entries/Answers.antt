@@ -20,7 +20,7 @@ pub returns-in_default : goal.returns-in_default
 returns-in_default c = was_full _ c.in_default.is
 
 pub returns-then-out-at : goal.returns-then-out-at
-returns-then-out-at c = too_far _ c.in-At.is c.if-out-at.true
+returns-then-out-at c = too_far _ c.in-Some.is c.if-out-at.true
 
 pub loop-i-init : goal.loop-i-init
 loop-i-init c = (
@@ -56,7 +56,7 @@ loop-i-preserved c = (
 
 pub returns : goal.returns
 returns c =
-    from_at c.in-At.is
+    from_at c.in-Some.is
     (entries_done c.args.message.now c.args.old.now c.args.keys.now
     c.args.marks.now c.args.order.now c.loop-i.invariant.0 c.loop-i-test.false
     c.loop-i.invariant.1)

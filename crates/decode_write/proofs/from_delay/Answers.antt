@@ -12,12 +12,12 @@ use Rattle.decode_write.proofs.from_delay.Goals as goal
 
 pub overflow_cast-result : goal.overflow_cast-result
 overflow_cast-result c =
-    let f : SFits w32 c.in-Given.z = search rules in
+    let f : SFits w32 c.in-Some.z = search rules in
     rw (to_z-of_z f) (sfits_widen tt f)
 
-pub returns-in-Given : goal.returns-in-Given
-returns-in-Given c =
-    let f : SFits w32 c.in-Given.z = search rules in
-    let g : SFits w64 c.in-Given.z = sfits_widen tt f in
+pub returns-in-Some : goal.returns-in-Some
+returns-in-Some c =
+    let f : SFits w32 c.in-Some.z = search rules in
+    let g : SFits w64 c.in-Some.z = sfits_widen tt f in
     ap (λ z. inr (to_z w64 (of_z w64 z))) (to_z-of_z f)
-    ∙ (ap inr (to_z-of_z g) ∙ ap (λ x. maybe (view_delay x)) (sym c.in-Given.is))
+    ∙ (ap inr (to_z-of_z g) ∙ ap (λ x. maybe (view_delay x)) (sym c.in-Some.is))

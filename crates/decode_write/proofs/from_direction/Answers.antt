@@ -5,5 +5,5 @@ use Rattle.basics.specs.Options.{maybe}
 use Rattle.realtime_views.specs.Promises.Views.{view_direction}
 use Rattle.decode_write.proofs.from_direction.Goals as goal
 
-pub returns-in-Given : goal.returns-in-Given
-returns-in-Given c = ap (λ x. maybe (view_direction x)) (sym c.in-Given.is)
+pub returns-in-Some : goal.returns-in-Some
+returns-in-Some c = ap (λ x. maybe (view_direction x)) (sym c.in-Some.is)

@@ -9,7 +9,7 @@ use Rattle.basics.specs.Options.{maybe}
 use Rattle.realtime_views.specs.Promises.Views.{view_time}
 use Rattle.decode_write.proofs.from_time.Goals as goal
 
-pub returns-in-Given : goal.returns-in-Given
-returns-in-Given c =
-    let f : SFits w64 c.in-Given.z = search rules in
-    ap inr (to_z-of_z f) ∙ ap (λ x. maybe (view_time x)) (sym c.in-Given.is)
+pub returns-in-Some : goal.returns-in-Some
+returns-in-Some c =
+    let f : SFits w64 c.in-Some.z = search rules in
+    ap inr (to_z-of_z f) ∙ ap (λ x. maybe (view_time x)) (sym c.in-Some.is)

@@ -8,10 +8,10 @@ pub returns-in_default : goal.returns-in_default
 returns-in_default c = was_full (number_w c.args.n) c.in_default.is
 
 pub returns-then-out-lt10 : goal.returns-then-out-lt10
-returns-then-out-lt10 c = from_at c.in-At.is c.number.ensures
+returns-then-out-lt10 c = from_at c.in-Some.is c.number.ensures
 
 pub returns-then-out-at : goal.returns-then-out-at
-returns-then-out-at c = from_at c.in-At.is c.number-then-out-at.ensures
+returns-then-out-at c = from_at c.in-Some.is c.number-then-out-at.ensures
 
 pub returns : goal.returns
-returns c = from_at c.in-At.is c.add_number.ensures
+returns c = from_at c.in-Some.is c.add_number.ensures

@@ -11,11 +11,11 @@ use Rattle.formats_write.proofs.Laws as laws
 use Rattle.decode_write.specs.Promises.Written.{signed_w}
 use Rattle.decode_write.proofs.put_signed.Goals as goal
 
-pub returns-in-Absent : goal.returns-in-Absent
-returns-in-Absent c = laws.absent_is signed_w (ap given_signed c.in-Absent.is) c.byte.ensures
+pub returns-in-None : goal.returns-in-None
+returns-in-None c = laws.absent_is signed_w (ap given_signed c.in-None.is) c.byte.ensures
 
-pub returns-in-Present : goal.returns-in-Present
-returns-in-Present c =
-    let f : SFits w64 c.in-Present.z = search rules in
-    laws.present_is signed_w _ (ap given_signed c.in-Present.is) c.byte-q.ensures
+pub returns-in-Some : goal.returns-in-Some
+returns-in-Some c =
+    let f : SFits w64 c.in-Some.z = search rules in
+    laws.present_is signed_w _ (ap given_signed c.in-Some.is) c.byte-q.ensures
     (same c.put_number.ensures (ap number_w (c.to_zigzag.ensures ∙ ap zig (to_z-of_z f))))

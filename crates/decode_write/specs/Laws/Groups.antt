@@ -1,24 +1,22 @@
 -- Law. A number's groups, where there is room for all of them.
-use Rattle.std.specs.Prelude.{ℕ, ◌+◌, ◌-◌, ◌/◌, ◌%◌, ◌≤◌, ◌<◌, ◌≡◌, refl, List, length, set}
+use Rattle.std.specs.Prelude.{ℕ, ◌+◌, ◌-◌, ◌/◌, ◌%◌, ◌≤◌, ◌<◌, ◌≡◌, refl, List, length, set, Option, Some, None}
 use Rattle.std.proofs.Common.{◌∙◌, arith, length-set}
 use Rattle.formats.specs.Number.{groups_w, number_w}
 use Rattle.formats.specs.Promises.Number.{top}
-use Rattle.formats_write.specs.declared.Put.{Put}
-use Rattle.formats_write.specs.declared.Put.TheVariants.{At, Full}
 use Rattle.formats_write.specs.Promises.Adds.{Adds}
 use Rattle.formats_write.proofs.Laws as laws
 
 pub last_group : {l : List ℕ} {at : ℕ} (k n : ℕ) → n < 128 → at + k < length l
-    → Adds l (At at) (set l at n) (At (at + 1)) (groups_w k n)
+    → Adds l (Some at) (set l at n) (Some (at + 1)) (groups_w k n)
 last_group k n h i = laws.group_one k n (laws.byte_in refl (omega arith)) h refl
 
 pub first_group : {l : List ℕ} {at n : ℕ} → n < 128 → at + 9 < length l
-    → Adds l (At at) (set l at n) (At (at + 1)) (number_w n)
+    → Adds l (Some at) (set l at n) (Some (at + 1)) (number_w n)
 first_group {n} h i = last_group 9 n h i
 
 pub more_groups : {l o : List ℕ} {at r : ℕ} (k n : ℕ) → 128 ≤ n → n < top k → at + k < length l
-    → Adds (set l at (128 + n % 128)) (At (at + 1)) o (At r) (groups_w (k - 1) (n / 128))
-    → Adds l (At at) o (At r) (groups_w k n)
+    → Adds (set l at (128 + n % 128)) (Some (at + 1)) o (Some r) (groups_w (k - 1) (n / 128))
+    → Adds l (Some at) o (Some r) (groups_w k n)
 more_groups k n h u i g = laws.group_more k n (laws.byte_in refl (omega arith)) g h u refl
 
 pub room_left : (l : List ℕ) (at k n v : ℕ) → 128 ≤ n → n < top k → at + k < length l
@@ -26,24 +24,24 @@ pub room_left : (l : List ℕ) (at k n v : ℕ) → 128 ≤ n → n < top k → 
 room_left l at k n v h u i = rw (length-set l at v) (omega (arith, laws.another k n h u))
 
 -- from a place that is one
-pub from_at : {l m : List ℕ} {w q : Put} {at : ℕ} {x : List ℕ} → w ≡ At at → Adds l (At at) m q x → Adds l w m q x
+pub from_at : {l m : List ℕ} {w q : Option ℕ} {at : ℕ} {x : List ℕ} → w ≡ Some at → Adds l (Some at) m q x → Adds l w m q x
 from_at e a = rw e a
 
-pub was_full : {l : List ℕ} {w : Put} (x : List ℕ) → w ≡ Full → Adds l w l Full x
+pub was_full : {l : List ℕ} {w : Option ℕ} (x : List ℕ) → w ≡ None → Adds l w l None x
 was_full x e = laws.was_full e
 
-pub same_size : (l : List ℕ) (at v : ℕ) {m : List ℕ} {w q : Put} {x : List ℕ} → Adds (set l at v) w m q x
+pub same_size : (l : List ℕ) (at v : ℕ) {m : List ℕ} {w q : Option ℕ} {x : List ℕ} → Adds (set l at v) w m q x
     → length m ≡ length l
 same_size l at v a = a.size ∙ length-set l at v
 
 -- the same, to a next place that is written otherwise
 more_at : {l o : List ℕ} {at r : ℕ} (k n p : ℕ) → p ≡ at + 1 → 128 ≤ n → n < top k → at + k < length l
-    → Adds (set l at (128 + n % 128)) (At p) o (At r) (groups_w (k - 1) (n / 128))
-    → Adds l (At at) o (At r) (groups_w k n)
+    → Adds (set l at (128 + n % 128)) (Some p) o (Some r) (groups_w (k - 1) (n / 128))
+    → Adds l (Some at) o (Some r) (groups_w k n)
 more_at k n p e h u i g = more_groups k n h u i (rw e at g)
 
 last_at : {l : List ℕ} {at : ℕ} (k n r : ℕ) → r ≡ at + 1 → n < 128 → at + k < length l
-    → Adds l (At at) (set l at n) (At r) (groups_w k n)
+    → Adds l (Some at) (set l at n) (Some r) (groups_w k n)
 last_at k n r e h i = rw e (last_group k n h i)
 
 -- five groups
@@ -76,7 +74,7 @@ module _ (l : List ℕ) (at n : ℕ) (lo : 268435456 ≤ n) (hi : n < 3435973836
       → o ≡ set (set (set (set (set l at (128 + n % 128)) (at + 1) (128 + n / 128 % 128))
       (at + 2) (128 + n / 128 / 128 % 128)) (at + 3) (128 + n / 128 / 128 / 128 % 128))
       (at + 4) (n / 128 / 128 / 128 / 128)
-      → Adds l (At at) o (At (at + 5)) (number_w n)
+      → Adds l (Some at) o (Some (at + 5)) (number_w n)
   five_groups z =
       rw z
       (more_at 9 n (at + 1) (omega arith) (omega arith) (omega arith) room

@@ -1,5 +1,5 @@
 -- Law. A trip's record, written from an entity of the message or copied from the old overlay, and an index's entry.
-use Rattle.std.specs.Prelude.{ℕ, ◌+◌, ◌-◌, ◌*◌, ◌≤◌, ◌<◌, ◌≡◌, refl, Bool, true, false, List, ◌++◌, ltb, length, get_or, take, drop}
+use Rattle.std.specs.Prelude.{ℕ, ◌+◌, ◌-◌, ◌*◌, ◌≤◌, ◌<◌, ◌≡◌, refl, Bool, true, false, List, ◌++◌, ltb, length, get_or, take, drop, Option}
 use Rattle.std.proofs.Math.Path.{sym, ap}
 use Rattle.std.proofs.Common.{ap₂, ◌∙◌, append_assoc, arith}
 use Rattle.std.proofs.Math.Seq.{slice}
@@ -8,7 +8,6 @@ use Rattle.basics.specs.Lists.{All}
 use Rattle.basics.specs.Options.{maybe}
 use Rattle.formats.specs.Number.{number_w}
 use Rattle.formats.specs.Format.{write}
-use Rattle.formats_write.specs.declared.Put.{Put}
 use Rattle.formats_write.specs.Laws.Adds.{then, same}
 use Rattle.formats_write.specs.Laws.Slices.{slice_is}
 use Rattle.formats_write.specs.Promises.Adds.{Adds}
@@ -80,7 +79,7 @@ module _ {s : List ℕ} {from to : ℕ} {u : List ℕ} {n : ℕ} (R : Readable f
       counted : n ≡ length (updates_at s (laid n u))
       counted = sym (map_length (update_at s) (laid n u) ∙ laid_length n u)
 
-      pub record_adds : {l₀ l₁ l₂ l₃ : List ℕ} {r₀ r₁ r₂ r₃ : Put} → Adds l₀ r₀ l₁ r₁ (head_w (view_trip s t))
+      pub record_adds : {l₀ l₁ l₂ l₃ : List ℕ} {r₀ r₁ r₂ r₃ : Option ℕ} → Adds l₀ r₀ l₁ r₁ (head_w (view_trip s t))
           → Adds l₁ r₁ l₂ r₂ (number_w n) → Adds l₂ r₂ l₃ r₃ (updates_w s u n)
           → Adds l₀ r₀ l₃ r₃ (write trip (record_at s (from, to)))
       record_adds a b c =
@@ -99,7 +98,7 @@ module _ {s o : List ℕ} {from to : ℕ} (F : Fit s o (from, to)) where
     pub new_calm : crowded (held_at s o (from, to)) ≡ false → crowded (record_at s (from, to)) ≡ false
     new_calm e = rw is_new_holds at e
 
-    pub new_adds : {l m : List ℕ} {r q : Put} → Adds l r m q (write trip (record_at s (from, to)))
+    pub new_adds : {l m : List ℕ} {r q : Option ℕ} → Adds l r m q (write trip (record_at s (from, to)))
         → Adds l r m q (write trip (held_at s o (from, to)))
     new_adds a = rw is_new_holds a
 
@@ -110,7 +109,7 @@ module _ {s o : List ℕ} {from to : ℕ} (F : Fit s o (from, to)) where
     pub old_beyond : beyond ≤ to
     old_beyond = omega (arith, (F.old is_old).forward)
 
-    pub old_adds : {l m : List ℕ} {r q : Put}
+    pub old_adds : {l m : List ℕ} {r q : Option ℕ}
         → (from - beyond ≤ to - beyond → to - beyond ≤ length o
         → Adds l r m q (slice (from - beyond) (to - beyond) o))
         → Adds l r m q (write trip (held_at s o (from, to)))
@@ -125,7 +124,7 @@ module _ {s o keys marks : List ℕ} {j : ℕ} (G : GoodSlot s o keys marks j) {
   pub slot_calm : crowded (held_at s o (from, to)) ≡ false
   slot_calm = rw (f, e) G.calm
 
-  pub entry_adds : {l m n : List ℕ} {r q k : Put} {size : ℕ} → size ≡ get_or marks (3 * j) 0
+  pub entry_adds : {l m n : List ℕ} {r q k : Option ℕ} {size : ℕ} → size ≡ get_or marks (3 * j) 0
       → (key_bytes * j ≤ key_bytes * j + size → key_bytes * j + size ≤ length keys
       → Adds l r m q (text_w (slice (key_bytes * j) (key_bytes * j + size) keys)))
       → Adds m q n k (write trip (held_at s o (from, to)))

@@ -1,5 +1,5 @@
 -- Law. The slots of an index, one after the other: what is written for each, and that it can be.
-use Rattle.std.specs.Prelude.{ℕ, zero, suc, ◌+◌, ◌≤◌, ◌<◌, ◌≡◌, refl, Bool, true, false, ◌||◌, length, get_or, take}
+use Rattle.std.specs.Prelude.{ℕ, zero, suc, ◌+◌, ◌≤◌, ◌<◌, ◌≡◌, refl, Bool, true, false, ◌||◌, length, get_or, take, Option}
 use Rattle.std.proofs.Common.{sym, ◌∙◌, add-one, arith, take-suc}
 use Rattle.std.proofs.Math.Path.{ap}
 use mathlib.Core.List.{List, [], ◌∷◌, ◌++◌}
@@ -9,7 +9,6 @@ use Rattle.formats.specs.Number.{number_w}
 use Rattle.formats.specs.Format.{list, write}
 use Rattle.formats.specs.Readers.{many_w}
 use Rattle.formats_read.specs.Laws.Progress.{one_more}
-use Rattle.formats_write.specs.declared.Put.{Put}
 use Rattle.formats_write.specs.Laws.Adds.{none, then, same}
 use Rattle.formats_write.specs.Promises.Adds.{Adds}
 use Rattle.maps.proofs.Laws.Map.{map_length}
@@ -38,11 +37,11 @@ module _ (s o keys marks order : List ℕ) where
   abbrev pub entries_w : ℕ → List ℕ
   entries_w i = many_w (write trip_entry) (held s o (index keys marks order i))
 
-  pub no_entries : {l : List ℕ} {r : Put} → Adds l r l r (entries_w 0)
+  pub no_entries : {l : List ℕ} {r : Option ℕ} → Adds l r l r (entries_w 0)
   unfolding held
   no_entries = none
 
-  pub entries_more : {l m n : List ℕ} {r q k : Put} (i : ℕ) → i < length order → {j : ℕ} → j ≡ get_or order i 0
+  pub entries_more : {l m n : List ℕ} {r q k : Option ℕ} (i : ℕ) → i < length order → {j : ℕ} → j ≡ get_or order i 0
       → Adds l r m q (entries_w i) → Adds m q n k (write trip_entry (held_entry s o (slot_entry keys marks j)))
       → Adds l r n k (entries_w (i + 1))
   unfolding held
@@ -54,7 +53,7 @@ module _ (s o keys marks order : List ℕ) where
       (sym (ap (held s o) (index_more keys marks order i h)
       ∙ map_append (held_at s o) (index keys marks order i) (e ∷ []))))
 
-  pub entries_done : {l m : List ℕ} {r q : Put} {i n : ℕ} → i ≤ n → n ≤ i → Adds l r m q (entries_w i)
+  pub entries_done : {l m : List ℕ} {r q : Option ℕ} {i n : ℕ} → i ≤ n → n ≤ i → Adds l r m q (entries_w i)
       → Adds l r m q (entries_w n)
   entries_done {i} {n} h k a = let e : i ≡ n = omega arith in same a (ap entries_w e)
 
@@ -103,7 +102,7 @@ module _ (s o keys marks : List ℕ) where
   good_slots {order} {n} W = good_all (take n order) (keys_lie W.sound) W.fit W.calm
 
   -- all of them
-  pub trips_adds : {l m p : List ℕ} {r q k : Put} {order : List ℕ} {n : ℕ} → SoundIndex keys marks order n
+  pub trips_adds : {l m p : List ℕ} {r q k : Option ℕ} {order : List ℕ} {n : ℕ} → SoundIndex keys marks order n
       → Adds l r m q (number_w n) → Adds m q p k (entries_w s o keys marks order n)
       → Adds l r p k (write (list most_trips trip_entry) (held s o (index keys marks order n)))
   unfolding held

@@ -1,5 +1,5 @@
 -- Law. What is written for a stop update and for a trip's record, part by part.
-use Rattle.std.specs.Prelude.{ℕ, zero, suc, ◌+◌, ◌-◌, ◌*◌, ◌≤◌, ◌<◌, ◌≡◌, refl, Bool, true, false, List, [], ◌∷◌, ◌++◌, ◌⊎◌, length, get_or, take, drop}
+use Rattle.std.specs.Prelude.{ℕ, zero, suc, ◌+◌, ◌-◌, ◌*◌, ◌≤◌, ◌<◌, ◌≡◌, refl, Bool, true, false, List, [], ◌∷◌, ◌++◌, ◌⊎◌, length, get_or, take, drop, Option}
 use Rattle.std.proofs.Math.Path.{sym, ap}
 use Rattle.std.proofs.Common.{subst, ◌∙◌, append_assoc, arith, add-one, length-drop, get_or-drop, length-take-le}
 use Rattle.std.proofs.Math.Seq.{slice}
@@ -9,7 +9,6 @@ use Rattle.maps.specs.Map.{map_values}
 use Rattle.formats.specs.Number.{number_w}
 use Rattle.formats.specs.Readers.{many_w}
 use Rattle.formats.specs.Format.{◌&◌, write}
-use Rattle.formats_write.specs.declared.Put.{Put}
 use Rattle.formats_write.specs.Laws.Adds.{then, same}
 use Rattle.formats_write.specs.Laws.Slices.{slice_is}
 use Rattle.formats_write.specs.Promises.Adds.{Adds}
@@ -31,7 +30,7 @@ use Rattle.decode_updates.specs.Line.{laid}
 use Rattle.decode_updates.specs.Updates.{updates_at}
 
 -- a text of s
-pub text_adds : {l m n : List ℕ} {r q k : Put} (s : List ℕ) (t : TextPart) → PartInside (length s) t
+pub text_adds : {l m n : List ℕ} {r q k : Option ℕ} (s : List ℕ) (t : TextPart) → PartInside (length s) t
     → Adds l r m q (number_w t.len)
     → (t.start ≤ t.start + t.len → t.start + t.len ≤ length s
     → Adds m q n k (slice t.start (t.start + t.len) s))
@@ -45,21 +44,21 @@ text_adds s t h a b =
     (sym (slice_is t.start (t.start + t.len) s (omega arith) h) ∙ ap (λ k. take k (drop t.start s)) d))
 
 -- a flag
-pub flag_yes : {l m : List ℕ} {r q : Put} (b : Bool) → Adds l r m q (1 ∷ []) → b ≡ true
+pub flag_yes : {l m : List ℕ} {r q : Option ℕ} (b : Bool) → Adds l r m q (1 ∷ []) → b ≡ true
     → Adds l r m q (number_w (bit b))
 flag_yes b a e = rw e a
 
-pub flag_no : {l m : List ℕ} {r q : Put} (b : Bool) → Adds l r m q (0 ∷ []) → b ≡ false
+pub flag_no : {l m : List ℕ} {r q : Option ℕ} (b : Bool) → Adds l r m q (0 ∷ []) → b ≡ false
     → Adds l r m q (number_w (bit b))
 flag_no b a e = rw e a
 
 -- an optional value, as it was read
-pub given_adds : {A : Type 0} {l m : List ℕ} {r q : Put} (w : A → List ℕ) {u v : Unit {0} ⊎ A}
+pub given_adds : {A : Type 0} {l m : List ℕ} {r q : Option ℕ} (w : A → List ℕ) {u v : Unit {0} ⊎ A}
     → Adds l r m q (optional_w w u) → u ≡ v → Adds l r m q (optional_w w v)
 given_adds w a e = same a (ap (optional_w w) e)
 
 -- a stop update at its sequence
-pub update_adds : {l₀ l₁ l₂ l₃ l₄ l₅ : List ℕ} {r₀ r₁ r₂ r₃ r₄ r₅ : Put} (n : ℕ) (u : StopView)
+pub update_adds : {l₀ l₁ l₂ l₃ l₄ l₅ : List ℕ} {r₀ r₁ r₂ r₃ r₄ r₅ : Option ℕ} (n : ℕ) (u : StopView)
     → Adds l₀ r₀ l₁ r₁ (number_w n) → Adds l₁ r₁ l₂ r₂ (text_w u.stop) → Adds l₂ r₂ l₃ r₃ (event_w u.arrival)
     → Adds l₃ r₃ l₄ r₄ (event_w u.departure) → Adds l₄ r₄ l₅ r₅ (number_w (bit u.skipped))
     → Adds l₀ r₀ l₅ r₅ (write (number32 & stop_update) (n, update_of u))
@@ -73,13 +72,13 @@ module _ {s : List ℕ} {p : Place} {u : read.StopUpdate} (S : StopRead schema.f
   unfolding update_at update_in
   read_update = ap update_of (S.of R.message R.read) ∙ sym (ap (λ m. update_in (or_end m)) R.read)
 
-  pub read_update_adds : {l m : List ℕ} {r q : Put} (n : ℕ)
+  pub read_update_adds : {l m : List ℕ} {r q : Option ℕ} (n : ℕ)
       → Adds l r m q (write (number32 & stop_update) (n, update_of (view_stop s u)))
       → Adds l r m q (write (number32 & stop_update) (n, update_at s p))
   read_update_adds n a = same a (ap (λ v. write (number32 & stop_update) (n, v)) read_update)
 
 -- a record's part before its updates
-pub head_adds : {l₀ l₁ l₂ l₃ l₄ l₅ l₆ : List ℕ} {r₀ r₁ r₂ r₃ r₄ r₅ r₆ : Put} (t : TripView)
+pub head_adds : {l₀ l₁ l₂ l₃ l₄ l₅ l₆ : List ℕ} {r₀ r₁ r₂ r₃ r₄ r₅ r₆ : Option ℕ} (t : TripView)
     → Adds l₀ r₀ l₁ r₁ (optional_w signed_w (maybe t.delay)) → Adds l₁ r₁ l₂ r₂ (number_w (bit t.cancelled))
     → Adds l₂ r₂ l₃ r₃ (text_w t.date) → Adds l₃ r₃ l₄ r₄ (text_w t.route)
     → Adds l₄ r₄ l₅ r₅ (optional_w number_w (maybe t.direction)) → Adds l₅ r₅ l₆ r₆ (text_w t.time)
@@ -117,7 +116,7 @@ module _ (s u : List ℕ) where
   abbrev pub updates_w : ℕ → List ℕ
   updates_w i = many_w (write (number32 & stop_update)) (updates_at s (laid i u))
 
-  pub updates_more : {l m n : List ℕ} {r q k : Put} (i : ℕ) {from to : ℕ} → from ≡ get_or u (3 * i + 1) 0
+  pub updates_more : {l m n : List ℕ} {r q k : Option ℕ} (i : ℕ) {from to : ℕ} → from ≡ get_or u (3 * i + 1) 0
       → to ≡ get_or u (3 * i + 2) 0 → Adds l r m q (updates_w i)
       → Adds m q n k (write (number32 & stop_update) (get_or u (3 * i) 0, update_at s (from, to)))
       → Adds l r n k (updates_w (i + 1))
@@ -134,6 +133,6 @@ module _ (s u : List ℕ) where
       → Readable stop_time_update s (from, to)
   update_readable {n} a i h e f = rw (e, f) (laid_all (λ x. Readable stop_time_update s x.1) n u a i h)
 
-  pub updates_done : {l m : List ℕ} {r q : Put} {i n : ℕ} → i ≤ n → n ≤ i → Adds l r m q (updates_w i)
+  pub updates_done : {l m : List ℕ} {r q : Option ℕ} {i n : ℕ} → i ≤ n → n ≤ i → Adds l r m q (updates_w i)
       → Adds l r m q (updates_w n)
   updates_done {i} {n} h k a = let e : i ≡ n = omega arith in same a (ap updates_w e)

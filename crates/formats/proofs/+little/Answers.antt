@@ -11,13 +11,13 @@ pub returns-then-s-at : goal.returns-then-s-at
 returns-then-s-at t c = search little_end
 
 pub overflow_mul-result : goal.overflow_mul-result
-overflow_mul-result t c = let l : c.in-Got.h < 2 ^ 56 = search little_below in omega arith
+overflow_mul-result t c = let l : c.in-Some.h < 2 ^ 56 = search little_below in omega arith
 
 pub overflow_add-result : goal.overflow_add-result
-overflow_add-result t c = let l : c.in-Got.h < 2 ^ 56 = search little_below in omega arith
+overflow_add-result t c = let l : c.in-Some.h < 2 ^ 56 = search little_below in omega arith
 
-pub returns-in-Got : goal.returns-in-Got
-returns-in-Got t c = search little_good
+pub returns-in-Some : goal.returns-in-Some
+returns-in-Some t c = search little_good
 
-pub returns-in-Bad : goal.returns-in-Bad
-returns-in-Bad t c = search little_bad
+pub returns-in-None : goal.returns-in-None
+returns-in-None t c = search little_bad

@@ -29,7 +29,7 @@ pub returns-then-kind-eq-SMALL : goal.returns-then-kind-eq-SMALL
 returns-then-kind-eq-SMALL c = search leaf_4
 
 pub raw-requires : goal.raw-requires
-raw-requires c = count_within c.args.s.now c.args.at _ _ _ c.number.ensures c.in-Got-number.is
+raw-requires c = count_within c.args.s.now c.args.at _ _ _ c.number.ensures c.in-Some-number.is
 
 pub returns-then-kind-eq-TEXT : goal.returns-then-kind-eq-TEXT
 returns-then-kind-eq-TEXT c = search leaf_5

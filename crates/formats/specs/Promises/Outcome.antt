@@ -1,33 +1,29 @@
 -- Promise. What a reader finds, as a place in the whole: how the interpreter's answers are said.
-use Rattle.std.specs.Prelude.{cond, List, ℕ, zero, suc, ◌+◌, ◌-◌, ◌*◌, length, drop, get_or, ltb}
-use Rattle.std.proofs.Math.Option.{Option, none, some}
+use Rattle.std.specs.Prelude.{cond, List, ℕ, zero, suc, ◌+◌, ◌-◌, ◌*◌, length, drop, get_or, ltb, Option, Some, None}
+use Rattle.std.proofs.Math.Option.{Option as LogicOption, none, some}
 use Rattle.formats.specs.Readers.{many_r, Reader, only_r}
 use Rattle.formats.specs.Number.{zag}
 use Rattle.formats.specs.Class.{Class, any, printable, token, utf8}
 use Rattle.formats.specs.Format.{Format, never, empty, number, signed, small, text, float, constant, list, choice}
 use Rattle.formats.specs.Format.{◌&◌, read, Value, takes}
-use Rattle.formats.specs.declared.Numeral.{Numeral}
-use Rattle.formats.specs.declared.Numeral.TheVariants.{Got, Bad}
-use Rattle.formats.specs.declared.Skip.{Skip}
-use Rattle.formats.specs.declared.Skip.TheVariants.{At, Broken}
 
-abbrev pub numbered : List ℕ → Option (ℕ × List ℕ) → Numeral
-numbered s none = Bad
-numbered s (some p) = Got p.0 (length s - length p.1)
+abbrev pub numbered : List ℕ → LogicOption (ℕ × List ℕ) → Option (ℕ × ℕ)
+numbered s none = None
+numbered s (some p) = Some (p.0, length s - length p.1)
 
-abbrev pub skipped : {A : Type 0} → List ℕ → Option (A × List ℕ) → Skip
-skipped s none = Broken
-skipped s (some p) = At (length s - length p.1)
+abbrev pub skipped : {A : Type 0} → List ℕ → LogicOption (A × List ℕ) → Option ℕ
+skipped s none = None
+skipped s (some p) = Some (length s - length p.1)
 
 -- an element of a list
 abbrev pub element : (f : Format) → Reader (Value f)
 element f = only_r (takes f) (read f)
 
 -- past a value of a format, and past n values of it
-abbrev pub skip_to : Format → List ℕ → ℕ → Skip
+abbrev pub skip_to : Format → List ℕ → ℕ → Option ℕ
 skip_to f s at = skipped s (read f (drop at s))
 
-abbrev pub skip_many : Format → ℕ → List ℕ → ℕ → Skip
+abbrev pub skip_many : Format → ℕ → List ℕ → ℕ → Option ℕ
 skip_many f n s at = skipped s (many_r (element f) n (drop at s))
 
 abbrev pub class_of : ℕ → Class

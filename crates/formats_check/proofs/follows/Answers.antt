@@ -5,8 +5,8 @@ use Rattle.formats_check.proofs.follows.Goals as goal
 pub returns-in-Less : goal.returns-in-Less
 returns-in-Less c = search follows_less
 
-pub returns-in-Same : goal.returns-in-Same
-returns-in-Same c = search (follows_same, follows_more)
+pub returns-in-Equal : goal.returns-in-Equal
+returns-in-Equal c = search (follows_same, follows_more)
 
-pub returns-in-More : goal.returns-in-More
-returns-in-More c = search (follows_same, follows_more)
+pub returns-in-Greater : goal.returns-in-Greater
+returns-in-Greater c = search (follows_same, follows_more)

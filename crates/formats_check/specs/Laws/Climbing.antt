@@ -1,7 +1,7 @@
 -- Law. Entries by ascending text: the walk knows where the key before stands, and a sum over the entries.
-use Rattle.std.specs.Prelude.{◌≡◌, refl, List, [], ◌∷◌, Bool, true, false, cond, ◌&&◌, ℕ, ◌+◌, ◌-◌, ◌≤◌, ◌<◌, leb, length, take, drop}
+use Rattle.std.specs.Prelude.{◌≡◌, refl, List, [], ◌∷◌, Bool, true, false, cond, ◌&&◌, ℕ, ◌+◌, ◌-◌, ◌≤◌, ◌<◌, leb, length, take, drop, Option, Some, None}
 use Rattle.std.proofs.Common.{sym, ap, ◌∙◌, arith, add-zero, le-leb}
-use Rattle.std.proofs.Math.Option.{Option, none, some}
+use Rattle.std.proofs.Math.Option.{Option as LogicOption, none, some}
 use Rattle.std.proofs.lemmas.Bool.{lt-leb}
 use Rattle.formats.specs.Readers.{bind, only_r}
 use Rattle.formats.specs.Laws.Law.{found}
@@ -10,19 +10,11 @@ use Rattle.formats.specs.Class.{Class, any, in_class}
 use Rattle.basics.specs.Lists.{all}
 use Rattle.formats.specs.Format.{Format, text, list, ◌&◌, Value, read}
 use Rattle.formats.specs.Promises.Outcome.{skipped}
-use Rattle.formats.specs.declared.Numeral.{Numeral}
-use Rattle.formats.specs.declared.Numeral.TheVariants.{Got, Bad}
-use Rattle.formats.specs.declared.Skip.{Skip}
-use Rattle.formats.specs.declared.Skip.TheVariants as skip
 use Rattle.slices.specs.Lists.{lex_of}
-use Rattle.slices.specs.declared.Order.{Order}
-use Rattle.slices.specs.declared.Order.TheVariants.{Less, Same, More}
+use Rattle.std.specs.declared.cmp.Ordering.{Ordering}
+use Rattle.std.specs.declared.cmp.Ordering.TheVariants.{Less, Equal, Greater}
 use Rattle.maps.specs.Map.{is_less, above, ascending}
 use Rattle.maps.specs.Order.{texts}
-use Rattle.formats_check.specs.declared.CheckedText.{CheckedText}
-use Rattle.formats_check.specs.declared.CheckedText.TheVariants.{At, No}
-use Rattle.formats_check.specs.declared.Entry.{Entry}
-use Rattle.formats_check.specs.declared.Entry.TheVariants as entry
 use Rattle.formats_check.specs.Promises.Checked.{Number, fine, Fine, Walk, runs, Walked, Ahead, Test}
 use Rattle.formats_check.specs.Promises.Checked.{own, behind, under, holds, Tested}
 use Rattle.formats_check.specs.Laws.Checked.{Missed, absent, refused, Good, good, missed, behind_no, behind_so}
@@ -34,23 +26,23 @@ use Rattle.formats_check.specs.Laws.Joined.{shuffle}
 
 -- a text that is good stands from a up to e, behind its length
 pub record Keyed (l : ℕ) (c : Class) (s : List ℕ) (at a e : ℕ) : Type 0 where
-  pub is : Fine (text l c) s at (skip.At e)
+  pub is : Fine (text l c) s at (Some e)
   pub bytes : (v : List ℕ) → read (text l c) (drop at s) ≡ some (v, drop e s) → v ≡ take (e - a) (drop a s)
   pub forward : a ≤ e
 
-abbrev pub Spanned : (l : ℕ) (c : Class) (s : List ℕ) (at : ℕ) → CheckedText → Type 0
-Spanned l c s at (At a e) = Keyed l c s at a e
-Spanned l c s at No = Fine (text l c) s at skip.Broken
+abbrev pub Spanned : (l : ℕ) (c : Class) (s : List ℕ) (at : ℕ) → Option (ℕ × ℕ) → Type 0
+Spanned l c s at (Some (a, e)) = Keyed l c s at a e
+Spanned l c s at None = Fine (text l c) s at None
 
-pub record Spans (l : ℕ) (c : Class) (s : List ℕ) (at : ℕ) (r : CheckedText) : Type 0 where
+pub record Spans (l : ℕ) (c : Class) (s : List ℕ) (at : ℕ) (r : Option (ℕ × ℕ)) : Type 0 where
   pub tells : Spanned l c s at r
 
-pub span_no : {l : ℕ} {c : Class} {s : List ℕ} {at : ℕ} → Fine (text l c) s at skip.Broken → Spans l c s at No
+pub span_no : {l : ℕ} {c : Class} {s : List ℕ} {at : ℕ} → Fine (text l c) s at None → Spans l c s at None
 span_no h = record { tells = h }
 
 -- a text of any bytes, and where they stand
-pub span_so : {l : ℕ} {s : List ℕ} {at : ℕ} {o : Numeral} → Number s at o → {n p : ℕ} → o ≡ Got n p
-    → n ≤ length s - p → n ≤ l → Spans l any s at (At p (p + n))
+pub span_so : {l : ℕ} {s : List ℕ} {at : ℕ} {o : Option (ℕ × ℕ)} → Number s at o → {n p : ℕ} → o ≡ Some (n, p)
+    → n ≤ length s - p → n ≤ l → Spans l any s at (Some (p, p + n))
 span_so {l} {s} {at} e {n} {p} h k m =
     let j : p + n - p ≡ n = omega arith in
     let R = text_read l e h k in
@@ -62,28 +54,28 @@ span_so {l} {s} {at} e {n} {p} h k m =
       };
     }
   where
-    taken : {v x : List ℕ} {u w : List ℕ} → ◌≡◌ {A = Option (List ℕ × List ℕ)} (some (v, u)) (some (x, w)) → v ≡ x
+    taken : {v x : List ℕ} {u w : List ℕ} → ◌≡◌ {A = LogicOption (List ℕ × List ℕ)} (some (v, u)) (some (x, w)) → v ≡ x
     taken {v} q = found (λ a b. v ≡ a) q refl
 
 module _ {l : ℕ} {c : Class} {s : List ℕ} {at : ℕ} where
-  pub span_key : {r : CheckedText} → Spans l c s at r → {a e : ℕ} → r ≡ At a e → Keyed l c s at a e
+  pub span_key : {r : Option (ℕ × ℕ)} → Spans l c s at r → {a e : ℕ} → r ≡ Some (a, e) → Keyed l c s at a e
   span_key S h = rw h at S.tells
 
-  pub span_none : {r : CheckedText} → Spans l c s at r → r ≡ No → Fine (text l c) s at skip.Broken
+  pub span_none : {r : Option (ℕ × ℕ)} → Spans l c s at r → r ≡ None → Fine (text l c) s at None
   span_none S h = rw h at S.tells
 
-  pub span_is : {r : CheckedText} → Spans l c s at r → {a e : ℕ} → r ≡ At a e → Fine (text l c) s at (skip.At e)
+  pub span_is : {r : Option (ℕ × ℕ)} → Spans l c s at r → {a e : ℕ} → r ≡ Some (a, e) → Fine (text l c) s at (Some e)
   span_is S h = (span_key S h).is
 
-  pub span_forward : {r : CheckedText} → Spans l c s at r → {a e : ℕ} → r ≡ At a e → a ≤ e
+  pub span_forward : {r : Option (ℕ × ℕ)} → Spans l c s at r → {a e : ℕ} → r ≡ Some (a, e) → a ≤ e
   span_forward S h = (span_key S h).forward
 
-  pub span_within : {r : CheckedText} → Spans l c s at r → {a e : ℕ} → r ≡ At a e → e ≤ length s
+  pub span_within : {r : Option (ℕ × ℕ)} → Spans l c s at r → {a e : ℕ} → r ≡ Some (a, e) → e ≤ length s
   span_within S h = (good (span_key S h).is refl).within
 
 -- A CLASS: what is found of a text of any bytes, and whether they are of the class
-module _ {l : ℕ} (c : Class) {s : List ℕ} {at : ℕ} {r : CheckedText} (S : Spans l any s at r) where
-  pub class_none : r ≡ No → Spans l c s at No
+module _ {l : ℕ} (c : Class) {s : List ℕ} {at : ℕ} {r : Option (ℕ × ℕ)} (S : Spans l any s at r) where
+  pub class_none : r ≡ None → Spans l c s at None
   class_none h = record { tells = record { says = go (missed (span_none S h) refl) } }
     where
       over : (a b : Bool) → (a && true) ≡ false → (a && b) ≡ false
@@ -91,11 +83,11 @@ module _ {l : ℕ} (c : Class) {s : List ℕ} {at : ℕ} {r : CheckedText} (S : 
       over false b e = refl
 
       go : Missed (fine (text l any)) (read (text l any) (drop at s))
-          → skip.Broken ≡ skipped s (only_r (fine (text l c)) (read (text l c)) (drop at s))
+          → None ≡ skipped s (only_r (fine (text l c)) (read (text l c)) (drop at s))
       go (absent i) = rw i refl
       go (refused x i f) = rw (i, over (leb (length x.0) l) (in_class c x.0) f) refl
 
-  module _ {a e : ℕ} (h : r ≡ At a e) {t : Bool} (i : t ≡ in_class c (take (e - a) (drop a s))) where
+  module _ {a e : ℕ} (h : r ≡ Some (a, e)) {t : Bool} (i : t ≡ in_class c (take (e - a) (drop a s))) where
     G : Good (read (text l any)) (fine (text l any)) s at e
     G = good (span_key S h).is refl
 
@@ -105,7 +97,7 @@ module _ {l : ℕ} (c : Class) {s : List ℕ} {at : ℕ} {r : CheckedText} (S : 
         let k : leb (length G.value) l ≡ true = (both_true (leb (length G.value) l) true G.fits).0 in
         rw (k, j) (sym i)
 
-    pub class_so : t ≡ true → Spans l c s at (At a e)
+    pub class_so : t ≡ true → Spans l c s at (Some (a, e))
     class_so f = record {
       tells = record {
         is = is_good (text l c) (fine (text l c)) s at G.value e G.reads (classed ∙ f) G.within;
@@ -114,14 +106,14 @@ module _ {l : ℕ} (c : Class) {s : List ℕ} {at : ℕ} {r : CheckedText} (S : 
       };
     }
 
-    pub class_other : t ≡ false → Spans l c s at No
+    pub class_other : t ≡ false → Spans l c s at None
     class_other f = record { tells = is_bad (text l c) (fine (text l c)) s at G.value e G.reads (classed ∙ f) }
 
 -- the key before, where there is one, and whether a key may follow
-abbrev pub known : Bool → List ℕ → ℕ → ℕ → Option (List ℕ)
+abbrev pub known : Bool → List ℕ → ℕ → ℕ → LogicOption (List ℕ)
 known first s a e = cond first none (some (take (e - a) (drop a s)))
 
-abbrev pub follows : Option (List ℕ) → List ℕ → Bool
+abbrev pub follows : LogicOption (List ℕ) → List ℕ → Bool
 follows none x = true
 follows (some k) x = is_less (lex_of k x)
 
@@ -129,50 +121,50 @@ module _ (first : Bool) (s : List ℕ) (a e : ℕ) (x : List ℕ) where
   pub follows_first : first ≡ true → true ≡ follows (known first s a e) x
   follows_first h = rw h refl
 
-  module _ (h : first ≡ false) (o : Order) (i : o ≡ lex_of (take (e - a) (drop a s)) x) where
+  module _ (h : first ≡ false) (o : Ordering) (i : o ≡ lex_of (take (e - a) (drop a s)) x) where
     pub follows_less : o ≡ Less → true ≡ follows (known first s a e) x
     follows_less j = rw (h, ← i, j) refl
 
-    pub follows_same : o ≡ Same → false ≡ follows (known first s a e) x
+    pub follows_same : o ≡ Equal → false ≡ follows (known first s a e) x
     follows_same j = rw (h, ← i, j) refl
 
-    pub follows_more : o ≡ More → false ≡ follows (known first s a e) x
+    pub follows_more : o ≡ Greater → false ≡ follows (known first s a e) x
     follows_more j = rw (h, ← i, j) refl
 
 -- AN ENTRY: a key, and a value, with a test on both; and where the key stands
-abbrev pub Entering : (l : ℕ) (c : Class) {g : Format} (t : Test (text l c & g)) (s : List ℕ) (at : ℕ) → Entry → Type 0
-Entering l c {g} t s at (entry.At a e q) = Keyed l c s at a e × Tested (text l c & g) t s at (skip.At q)
-Entering l c {g} t s at entry.No = Tested (text l c & g) t s at skip.Broken
+abbrev pub Entering : (l : ℕ) (c : Class) {g : Format} (t : Test (text l c & g)) (s : List ℕ) (at : ℕ) → Option (ℕ × ℕ × ℕ) → Type 0
+Entering l c {g} t s at (Some (a, e, q)) = Keyed l c s at a e × Tested (text l c & g) t s at (Some q)
+Entering l c {g} t s at None = Tested (text l c & g) t s at None
 
-pub record Entered (l : ℕ) (c : Class) {g : Format} (t : Test (text l c & g)) (s : List ℕ) (at : ℕ) (r : Entry) : Type 0
+pub record Entered (l : ℕ) (c : Class) {g : Format} (t : Test (text l c & g)) (s : List ℕ) (at : ℕ) (r : Option (ℕ × ℕ × ℕ)) : Type 0
   where
     pub tells : Entering l c t s at r
 
 module _ {l : ℕ} {c : Class} {g : Format} {t : Test (text l c & g)} {s : List ℕ} {at : ℕ} where
-  pub enter_no : Tested (text l c & g) t s at skip.Broken → Entered l c t s at entry.No
+  pub enter_no : Tested (text l c & g) t s at None → Entered l c t s at None
   enter_no T = record { tells = T }
 
-  pub enter_bad : {x : Skip} → Tested (text l c & g) t s at x → x ≡ skip.Broken → Entered l c t s at entry.No
+  pub enter_bad : {x : Option ℕ} → Tested (text l c & g) t s at x → x ≡ None → Entered l c t s at None
   enter_bad T h = record { tells = rw h at T }
 
-  pub enter_so : {r : CheckedText} → Spans l c s at r → {a e : ℕ} → r ≡ At a e → {x : Skip}
+  pub enter_so : {r : Option (ℕ × ℕ)} → Spans l c s at r → {a e : ℕ} → r ≡ Some (a, e) → {x : Option ℕ}
       → Tested (text l c & g) t s at x
-      → {q : ℕ} → x ≡ skip.At q → Entered l c t s at (entry.At a e q)
+      → {q : ℕ} → x ≡ Some q → Entered l c t s at (Some (a, e, q))
   enter_so S h T i = record { tells = (span_key S h, rw i at T) }
 
-module _ {l : ℕ} {c : Class} {g : Format} {t : Test (text l c & g)} {s : List ℕ} {at : ℕ} {r : Entry}
+module _ {l : ℕ} {c : Class} {g : Format} {t : Test (text l c & g)} {s : List ℕ} {at : ℕ} {r : Option (ℕ × ℕ × ℕ)}
     (E : Entered l c t s at r) where
-  pub entered_none : r ≡ entry.No → Tested (text l c & g) t s at skip.Broken
+  pub entered_none : r ≡ None → Tested (text l c & g) t s at None
   entered_none h = rw h at E.tells
 
-  module _ {a e q : ℕ} (h : r ≡ entry.At a e q) where
-    both_told : Keyed l c s at a e × Tested (text l c & g) t s at (skip.At q)
+  module _ {a e q : ℕ} (h : r ≡ Some (a, e, q)) where
+    both_told : Keyed l c s at a e × Tested (text l c & g) t s at (Some q)
     both_told = rw h at E.tells
 
     pub entered_key : Keyed l c s at a e
     entered_key = both_told.0
 
-    pub entered_tested : Tested (text l c & g) t s at (skip.At q)
+    pub entered_tested : Tested (text l c & g) t s at (Some q)
     entered_tested = both_told.1
 
     pub entered_forward : a ≤ e
@@ -185,19 +177,19 @@ module _ {l : ℕ} {c : Class} {g : Format} {t : Test (text l c & g)} {s : List 
     entered_past = (good entered_tested.is refl).within
 
 -- a key and what is behind it, whose test may be by the key
-module _ {l : ℕ} {c : Class} {s : List ℕ} {at : ℕ} {r : CheckedText} (S : Spans l c s at r) where
-  pub entry_no : {g : Format} (t : Test g) → r ≡ No → Tested (text l c & g) (behind (text l c) t) s at skip.Broken
+module _ {l : ℕ} {c : Class} {s : List ℕ} {at : ℕ} {r : Option (ℕ × ℕ)} (S : Spans l c s at r) where
+  pub entry_no : {g : Format} (t : Test g) → r ≡ None → Tested (text l c & g) (behind (text l c) t) s at None
   entry_no t h = behind_no (span_none S h) t refl
 
-  pub entry_so : {g : Format} {t : Test g} {a e : ℕ} {x : Skip} → r ≡ At a e → Tested g t s e x
+  pub entry_so : {g : Format} {t : Test g} {a e : ℕ} {x : Option ℕ} → r ≡ Some (a, e) → Tested g t s e x
       → Tested (text l c & g) (behind (text l c) t) s at x
   entry_so h T = behind_so (span_key S h).is refl T
 
-  pub keyed_no : {g : Format} (t : List ℕ → Test g) → r ≡ No
-      → Tested (text l c & g) (under (text l c) t) s at skip.Broken
+  pub keyed_no : {g : Format} (t : List ℕ → Test g) → r ≡ None
+      → Tested (text l c & g) (under (text l c) t) s at None
   keyed_no t h = under_no (span_none S h) t refl
 
-  pub keyed_so : {g : Format} {t : List ℕ → Test g} {a e : ℕ} {x : Skip} → r ≡ At a e
+  pub keyed_so : {g : Format} {t : List ℕ → Test g} {a e : ℕ} {x : Option ℕ} → r ≡ Some (a, e)
       → Tested g (t (take (e - a) (drop a s))) s e x → Tested (text l c & g) (under (text l c) t) s at x
   keyed_so {g} {t} {a} {e} {x} h T =
       let K = span_key S h in
@@ -218,7 +210,7 @@ weighs (by_entry u) e = u e
 
 -- ENTRIES BY ASCENDING KEY. w is what an entry adds to the sum, and d what the sum has to be
 module _ (l : ℕ) (c : Class) {g : Format} (t : Test (text l c & g)) (w : Weight (Value g)) (d : ℕ → Bool) where
-  abbrev pub climb : Walk (Option (List ℕ) × ℕ) (List ℕ × Value g)
+  abbrev pub climb : Walk (LogicOption (List ℕ) × ℕ) (List ℕ × Value g)
   climb =
       record {
         test = λ k e. follows k.0 e.0 && holds t e;
@@ -226,10 +218,10 @@ module _ (l : ℕ) (c : Class) {g : Format} (t : Test (text l c & g)) (w : Weigh
         last = λ k. d k.1;
       }
 
-  pub record Climbs (n : ℕ) (s : List ℕ) (at : ℕ) (r : Skip) : Type 0 where
+  pub record Climbs (n : ℕ) (s : List ℕ) (at : ℕ) (r : Option ℕ) : Type 0 where
     pub is : Walked (text l c & g) climb (none, 0) n s at r
 
-  pub record Climbing (n : ℕ) (s : List ℕ) (at : ℕ) (k : Option (List ℕ)) (m left p : ℕ) : Type 0 where
+  pub record Climbing (n : ℕ) (s : List ℕ) (at : ℕ) (k : LogicOption (List ℕ)) (m left p : ℕ) : Type 0 where
     pub is : Ahead (text l c & g) climb (none, 0) n s at (k, m) left p
 
   pub climbing_start : (n : ℕ) (s : List ℕ) (at a e : ℕ) → Climbing n s at (known true s a e) 0 n at
@@ -244,7 +236,7 @@ begins : (a b : Format) (s : List ℕ) (v : Value a) (u : List ℕ) (w : Value (
     → read a s ≡ some (v, u) → read (a & b) s ≡ some (w, y) → w.0 ≡ v
 begins a b s v u w y i j = go (read b u) (rw i at j)
   where
-    go : (o : Option (Value b × List ℕ)) → bind o (λ z t. some ((v, z), t)) ≡ some (w, y) → w.0 ≡ v
+    go : (o : LogicOption (Value b × List ℕ)) → bind o (λ z t. some ((v, z), t)) ≡ some (w, y) → w.0 ≡ v
     go none e = none_some e
     go (some z) e = found (λ p q. p.0 ≡ v) e refl
 
@@ -253,20 +245,20 @@ second_no true b e = e
 second_no false b e = refl
 
 module _ {l : ℕ} {c : Class} {g : Format} {t : Test (text l c & g)} {w : Weight (Value g)} {d : ℕ → Bool} {n : ℕ}
-    {s : List ℕ} {at : ℕ} {k : Option (List ℕ)} {m left p : ℕ} (C : Climbing l c t w d n s at k m left p) where
-  pub climbing_end : left ≤ 0 → p ≤ length s → d m ≡ true → Climbs l c t w d n s at (skip.At p)
+    {s : List ℕ} {at : ℕ} {k : LogicOption (List ℕ)} {m left p : ℕ} (C : Climbing l c t w d n s at k m left p) where
+  pub climbing_end : left ≤ 0 → p ≤ length s → d m ≡ true → Climbs l c t w d n s at (Some p)
   climbing_end z h f =
-      record { is = C.is.on (skip.At p) (walk_end (text l c & g) (climb l c t w d) (k, m) s p left z h f) }
+      record { is = C.is.on (Some p) (walk_end (text l c & g) (climb l c t w d) (k, m) s p left z h f) }
 
-  pub climbing_sum : left ≤ 0 → d m ≡ false → Climbs l c t w d n s at skip.Broken
+  pub climbing_sum : left ≤ 0 → d m ≡ false → Climbs l c t w d n s at None
   climbing_sum z f =
-      record { is = C.is.on skip.Broken (walk_bad (text l c & g) (climb l c t w d) (k, m) s p left z f) }
+      record { is = C.is.on None (walk_bad (text l c & g) (climb l c t w d) (k, m) s p left z f) }
 
-  module _ (z : 0 < left) {r : Entry} (E : Entered l c t s p r) where
-    no : Missed ((climb l c t w d).test (k, m)) (read (text l c & g) (drop p s)) → Climbs l c t w d n s at skip.Broken
-    no M = record { is = C.is.on skip.Broken (walk_no (text l c & g) (climb l c t w d) (k, m) s p left z M) }
+  module _ (z : 0 < left) {r : Option (ℕ × ℕ × ℕ)} (E : Entered l c t s p r) where
+    no : Missed ((climb l c t w d).test (k, m)) (read (text l c & g) (drop p s)) → Climbs l c t w d n s at None
+    no M = record { is = C.is.on None (walk_no (text l c & g) (climb l c t w d) (k, m) s p left z M) }
 
-    pub climbing_bad : r ≡ entry.No → Climbs l c t w d n s at skip.Broken
+    pub climbing_bad : r ≡ None → Climbs l c t w d n s at None
     climbing_bad h = no (go (missed (entered_none E h).is refl))
       where
         go : Missed (holds t) (read (text l c & g) (drop p s))
@@ -274,7 +266,7 @@ module _ {l : ℕ} {c : Class} {g : Format} {t : Test (text l c & g)} {w : Weigh
         go (absent q) = absent q
         go (refused y q f) = refused y q (second_no (follows k y.0.0) (holds t y.0) f)
 
-    module _ {a e q : ℕ} (h : r ≡ entry.At a e q) {b : Bool} (i : b ≡ follows k (take (e - a) (drop a s))) where
+    module _ {a e q : ℕ} (h : r ≡ Some (a, e, q)) {b : Bool} (i : b ≡ follows k (take (e - a) (drop a s))) where
       value : Good (read (text l c & g)) (holds t) s p q
       value = good (entered_tested E h).is refl
 
@@ -288,7 +280,7 @@ module _ {l : ℕ} {c : Class} {g : Format} {t : Test (text l c & g)} {w : Weigh
       in_order : follows k value.value.0 ≡ b
       in_order = ap (follows k) is_key ∙ sym i
 
-      pub climbing_order : b ≡ false → Climbs l c t w d n s at skip.Broken
+      pub climbing_order : b ≡ false → Climbs l c t w d n s at None
       climbing_order j =
           let o : follows k value.value.0 ≡ false = in_order ∙ j in
           no (refused (value.value, drop q s) value.reads (rw o refl))
@@ -308,17 +300,17 @@ module _ {l : ℕ} {c : Class} {g : Format} {t : Test (text l c & g)} {w : Weigh
 
 -- what the key that stands there adds
 module _ {l : ℕ} {c : Class} {g : Format} {t : Test (text l c & g)} {u : List ℕ → ℕ} {d : ℕ → Bool} {n : ℕ}
-    {s : List ℕ} {at : ℕ} {k : Option (List ℕ)} {m left p : ℕ} (C : Climbing l c t (by_key u) d n s at k m left p)
-    (z : 0 < left) {r : Entry} (E : Entered l c t s p r) {a e q : ℕ} (h : r ≡ entry.At a e q) {b : Bool}
+    {s : List ℕ} {at : ℕ} {k : LogicOption (List ℕ)} {m left p : ℕ} (C : Climbing l c t (by_key u) d n s at k m left p)
+    (z : 0 < left) {r : Option (ℕ × ℕ × ℕ)} (E : Entered l c t s p r) {a e q : ℕ} (h : r ≡ Some (a, e, q)) {b : Bool}
     (i : b ≡ follows k (take (e - a) (drop a s))) where
   pub climbing_so : b ≡ true → {y : ℕ} → y ≡ u (take (e - a) (drop a s))
       → Climbing l c t (by_key u) d n s at (known false s a e) (m + y) (left - 1) q
   climbing_so j {y} f = on C z E h i j (m + y) (ap (λ x. m + x) (f ∙ ap u (sym (is_key C z E h i))))
 
 pub climbing_on : {l : ℕ} {c : Class} {g : Format} {t : Test (text l c & g)} {n : ℕ} {s : List ℕ} {at : ℕ}
-    {k : Option (List ℕ)} {left p : ℕ} → Climbing l c t weightless (whatever n) n s at k 0 left p → 0 < left
-    → {r : Entry}
-    → Entered l c t s p r → {a e q : ℕ} → r ≡ entry.At a e q → {b : Bool} → b ≡ follows k (take (e - a) (drop a s))
+    {k : LogicOption (List ℕ)} {left p : ℕ} → Climbing l c t weightless (whatever n) n s at k 0 left p → 0 < left
+    → {r : Option (ℕ × ℕ × ℕ)}
+    → Entered l c t s p r → {a e q : ℕ} → r ≡ Some (a, e, q) → {b : Bool} → b ≡ follows k (take (e - a) (drop a s))
     → b ≡ true → Climbing l c t weightless (whatever n) n s at (known false s a e) 0 (left - 1) q
 climbing_on C z E h i j = on C z E h i j 0 refl
 
@@ -359,16 +351,16 @@ module _ (l : ℕ) (c : Class) {g : Format} (t : Test (text l c & g)) (w : Weigh
   abbrev pub climb_test : Test (list m (text l c & g))
   climb_test = own (list m (text l c & g)) climbs_good
 
-  module _ {s : List ℕ} {at : ℕ} {o : Numeral} (e : Number s at o) where
-    pub climbs_no : o ≡ Bad → Tested (list m (text l c & g)) climb_test s at skip.Broken
+  module _ {s : List ℕ} {at : ℕ} {o : Option (ℕ × ℕ)} (e : Number s at o) where
+    pub climbs_no : o ≡ None → Tested (list m (text l c & g)) climb_test s at None
     climbs_no h = record { is = list_no m climbs_good refl e h }
 
-    module _ {n p : ℕ} (h : o ≡ Got n p) where
-      pub climbs_many : m < n → Tested (list m (text l c & g)) climb_test s at skip.Broken
+    module _ {n p : ℕ} (h : o ≡ Some (n, p)) where
+      pub climbs_many : m < n → Tested (list m (text l c & g)) climb_test s at None
       climbs_many k =
           record { is = list_over m climbs_good refl e h (λ v i. rw (lt-leb (length v) m i) refl) k }
 
-      pub climbs_so : n ≤ m → {x : Skip} → Climbs l c t w (d n) n s p x
+      pub climbs_so : n ≤ m → {x : Option ℕ} → Climbs l c t w (d n) n s p x
           → Tested (list m (text l c & g)) climb_test s at x
       climbs_so k W = record { is = list_so m climbs_good refl e h runs_so W.is }
         where

@@ -1,17 +1,15 @@
 -- Law. A number of five groups.
-use Rattle.std.specs.Prelude.{ℕ, ◌+◌, ◌-◌, ◌*◌, ◌≤◌, ◌<◌, ◌≡◌, List, length, get_or}
+use Rattle.std.specs.Prelude.{ℕ, ◌+◌, ◌-◌, ◌*◌, ◌≤◌, ◌<◌, ◌≡◌, List, length, get_or, Option, Some, None}
 use Rattle.std.proofs.Common.{ap, ◌∙◌, arith}
 use Rattle.formats.specs.Promises.Number.{Rest}
-use Rattle.formats.specs.declared.Numeral.{Numeral}
-use Rattle.formats.specs.declared.Numeral.TheVariants.{Got, Bad}
 use Rattle.formats.proofs.Numbers.{front_more}
 use Rattle.formats.proofs.Groups.{begins, goes_on, one_good}
 use Rattle.formats_check.specs.Promises.Checked.{Number, IfGot}
 
-pub none_got : {s : List ℕ} {at : ℕ} → IfGot s at Bad
+pub none_got : {s : List ℕ} {at : ℕ} → IfGot s at None
 none_got = record { says = λ n q e. absurd (let z : ◌≡◌ {A = ℕ} 0 1 = cc in omega arith) }
 
-pub one_got : {s : List ℕ} {at n q : ℕ} {o : Numeral} → IfGot s at o → o ≡ Got n q → Number s at (Got n q)
+pub one_got : {s : List ℕ} {at n q : ℕ} {o : Option (ℕ × ℕ)} → IfGot s at o → o ≡ Some (n, q) → Number s at (Some (n, q))
 one_got {n} {q} I e = record { says = rw e at (I.says n q e) }
 
 -- the byte at a place that is written otherwise
@@ -34,14 +32,13 @@ module _ (s : List ℕ) (at a b c d e : ℕ) (h : at + 5 ≤ length s) (pa : a �
   four =
       goes_on three (omega arith) (at_place s (at + 3) (at + 1 + 1 + 1) pd (omega arith)) (λ z. omega arith) ld ud
 
-  pub five_got : IfGot s at (Got
-      (a - 128 + 128 * (b - 128) + 16384 * (c - 128) + 2097152 * (d - 128) + 268435456 * e) (at + 5))
+  pub five_got : IfGot s at (Some (a - 128 + 128 * (b - 128) + 16384 * (c - 128) + 2097152 * (d - 128) + 268435456 * e, at + 5))
   five_got =
       let n = a - 128 + 128 * (b - 128) + 16384 * (c - 128) + 2097152 * (d - 128) + 268435456 * e in
       let z : at + 5 ≡ at + 1 + 1 + 1 + 1 + 1 = omega arith in
       record {
-        says = λ m q r. ap (Got n) z
-            ∙ front_more s at a (omega arith) pa la ua (Got n (at + 1 + 1 + 1 + 1 + 1))
+        says = λ m q r. ap (λ other. Some (n, other)) z
+            ∙ front_more s at a (omega arith) pa la ua (Some (n, at + 1 + 1 + 1 + 1 + 1))
             (one_good four (omega arith) (at_place s (at + 4) (at + 1 + 1 + 1 + 1) pe (omega arith)) (λ z. omega arith)
             le ne);
       }

@@ -1,5 +1,5 @@
 -- Law. Entries by ascending number: the walk knows the least that the next may have.
-use Rattle.std.specs.Prelude.{◌≡◌, refl, List, [], ◌∷◌, Bool, true, false, ◌&&◌, ℕ, ◌+◌, ◌-◌, ◌≤◌, ◌<◌, leb, ltb, length, drop}
+use Rattle.std.specs.Prelude.{◌≡◌, refl, List, [], ◌∷◌, Bool, true, false, ◌&&◌, ℕ, ◌+◌, ◌-◌, ◌≤◌, ◌<◌, leb, ltb, length, drop, Option, Some, None}
 use Rattle.std.proofs.Common.{sym, ap, ◌∙◌, arith, le-leb, ltb-true, ltb-false}
 use Rattle.std.proofs.Math.Option.{none, some}
 use Rattle.std.proofs.lemmas.Bool.{lt-leb}
@@ -7,10 +7,6 @@ use Rattle.formats.specs.Number.{number_r}
 use Rattle.formats.specs.Laws.Number.{number_law}
 use Rattle.basics.specs.Lists.{all}
 use Rattle.formats.specs.Format.{Format, number, list, ◌&◌, Value, read}
-use Rattle.formats.specs.declared.Numeral.{Numeral}
-use Rattle.formats.specs.declared.Numeral.TheVariants.{Got, Bad}
-use Rattle.formats.specs.declared.Skip.{Skip}
-use Rattle.formats.specs.declared.Skip.TheVariants.{At, Broken}
 use Rattle.formats.proofs.Numbers.{NumberGot, got, bad_none}
 use Rattle.slices.specs.Lists.{lex_of}
 use Rattle.maps.specs.Map.{is_less, above, ascending}
@@ -32,7 +28,7 @@ abbrev pub rise : (hi : ℕ) (g : Format) → Walk ℕ (Value (entry hi g))
 rise hi g = record { test = rising hi g; next = λ low e. e.0 + 1; last = λ low. true }
 
 -- what a walk over entries has found
-abbrev pub Rises : (hi : ℕ) (g : Format) → ℕ → ℕ → List ℕ → ℕ → Skip → Type 0
+abbrev pub Rises : (hi : ℕ) (g : Format) → ℕ → ℕ → List ℕ → ℕ → Option ℕ → Type 0
 Rises hi g low n s at r = Walked (entry hi g) (rise hi g) low n s at r
 
 abbrev pub Rising : (hi : ℕ) (g : Format) → ℕ → List ℕ → ℕ → ℕ → ℕ → ℕ → Type 0
@@ -42,22 +38,22 @@ pub rising_start : (hi : ℕ) (g : Format) (n : ℕ) (s : List ℕ) (at : ℕ) �
 rising_start hi g n s at = record { on = λ x w. w }
 
 module _ {hi : ℕ} {g : Format} {n : ℕ} {s : List ℕ} {at low left p : ℕ} (A : Rising hi g n s at low left p) where
-  pub rising_end : left ≤ 0 → p ≤ length s → Rises hi g 0 n s at (At p)
-  rising_end z h = A.on (At p) (walk_end (entry hi g) (rise hi g) low s p left z h refl)
+  pub rising_end : left ≤ 0 → p ≤ length s → Rises hi g 0 n s at (Some p)
+  rising_end z h = A.on (Some p) (walk_end (entry hi g) (rise hi g) low s p left z h refl)
 
-  module _ (z : 0 < left) {o : Numeral} (e : Number s p o) where
-    no : Missed (rising hi g low) (read (entry hi g) (drop p s)) → Rises hi g 0 n s at Broken
-    no m = A.on Broken (walk_no (entry hi g) (rise hi g) low s p left z m)
+  module _ (z : 0 < left) {o : Option (ℕ × ℕ)} (e : Number s p o) where
+    no : Missed (rising hi g low) (read (entry hi g) (drop p s)) → Rises hi g 0 n s at None
+    no m = A.on None (walk_no (entry hi g) (rise hi g) low s p left z m)
 
-    pub rising_no : o ≡ Bad → Rises hi g 0 n s at Broken
+    pub rising_no : o ≡ None → Rises hi g 0 n s at None
     rising_no h = no (absent (rw (bad_none s (number_r (drop p s)) o e.says h) refl))
 
-    module _ {k q : ℕ} (h : o ≡ Got k q) where
+    module _ {k q : ℕ} (h : o ≡ Some (k, q)) where
       key : NumberGot number_r s p k q
       key = got number_law s p k q o e.says h
 
-      module _ {x : Skip} (c : Checked g (fine g) s q x) where
-        pub rising_rest : x ≡ Broken → Rises hi g 0 n s at Broken
+      module _ {x : Option ℕ} (c : Checked g (fine g) s q x) where
+        pub rising_rest : x ≡ None → Rises hi g 0 n s at None
         rising_rest b = no (go (missed c b))
           where
             go : Missed (fine g) (read g (drop q s)) → Missed (rising hi g low) (read (entry hi g) (drop p s))
@@ -70,7 +66,7 @@ module _ {hi : ℕ} {g : Format} {n : ℕ} {s : List ℕ} {at low left p : ℕ} 
                 last true false c e = refl
                 last false b c e = refl
 
-        pub rising_so : {u : ℕ} → x ≡ At u → low ≤ k → k ≤ hi → Rising hi g n s at (k + 1) (left - 1) u
+        pub rising_so : {u : ℕ} → x ≡ Some u → low ≤ k → k ≤ hi → Rising hi g n s at (k + 1) (left - 1) u
         rising_so {u} b l m =
             let G = good c b in
             record {
@@ -93,10 +89,10 @@ module _ {hi : ℕ} {g : Format} {n : ℕ} {s : List ℕ} {at low left p : ℕ} 
           go (some y) i = refused ((k, y.0), y.1) (rw (key.reads, i) refl) (last (leb low k)
               (leb 0 k && leb k hi) (fine g y.0) t)
 
-      pub rising_low : k < low → Rises hi g 0 n s at Broken
+      pub rising_low : k < low → Rises hi g 0 n s at None
       rising_low l = no (over (rw (lt-leb low k l) refl))
 
-      pub rising_high : low ≤ k → hi < k → Rises hi g 0 n s at Broken
+      pub rising_high : low ≤ k → hi < k → Rises hi g 0 n s at None
       rising_high l m = no (over (rw (le-leb low k l, le-leb 0 k (omega arith), lt-leb k hi m) refl))
 
 -- what a walk finds is that all entries are good, and ascend
@@ -148,13 +144,13 @@ module _ (l hi : ℕ) (g : Format) (v : List (Value (entry hi g))) where
   ascend_runs h = rw (le-leb (length v) l h) (rises hi g v)
 
 -- the list of them
-module _ (l hi : ℕ) (g : Format) {s : List ℕ} {at : ℕ} {o : Numeral} (e : Number s at o) where
-  pub ascend_no : o ≡ Bad → Checked (list l (entry hi g)) (ascend l hi g) s at Broken
+module _ (l hi : ℕ) (g : Format) {s : List ℕ} {at : ℕ} {o : Option (ℕ × ℕ)} (e : Number s at o) where
+  pub ascend_no : o ≡ None → Checked (list l (entry hi g)) (ascend l hi g) s at None
   ascend_no h = list_no l (ascend l hi g) refl e h
 
-  module _ {n p : ℕ} (h : o ≡ Got n p) where
-    pub ascend_many : l < n → Checked (list l (entry hi g)) (ascend l hi g) s at Broken
+  module _ {n p : ℕ} (h : o ≡ Some (n, p)) where
+    pub ascend_many : l < n → Checked (list l (entry hi g)) (ascend l hi g) s at None
     ascend_many k = list_over l (ascend l hi g) refl e h (ascend_over l hi g) k
 
-    pub ascend_so : n ≤ l → {x : Skip} → Rises hi g 0 n s p x → Checked (list l (entry hi g)) (ascend l hi g) s at x
+    pub ascend_so : n ≤ l → {x : Option ℕ} → Rises hi g 0 n s p x → Checked (list l (entry hi g)) (ascend l hi g) s at x
     ascend_so k w = list_so l (ascend l hi g) refl e h (λ v i. ascend_runs l hi g v (omega arith)) w

@@ -38,7 +38,7 @@ pub returns-then-kind-eq-SMALL : goal.returns-then-kind-eq-SMALL
 returns-then-kind-eq-SMALL c = search leaf_4
 
 pub bytes-requires : goal.bytes-requires
-bytes-requires c = count_within c.args.s.now c.args.at _ _ _ c.number.ensures c.in-Got-number.is
+bytes-requires c = count_within c.args.s.now c.args.at _ _ _ c.number.ensures c.in-Some-number.is
 
 pub returns : goal.returns
 returns c = search (leaf_5, begins)

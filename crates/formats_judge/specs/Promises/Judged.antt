@@ -1,12 +1,10 @@
 -- Promise. How a verdict is put together: of a text, of elements, of two.
-use Rattle.std.specs.Prelude.{List, cond, ◌&&◌, ℕ, zero, suc, length, drop, leb}
+use Rattle.std.specs.Prelude.{List, cond, ◌&&◌, ℕ, zero, suc, length, drop, leb, Option, Some, None}
 use Rattle.formats.specs.Readers.{many_r}
 use Rattle.formats.specs.Class.{Class, in_class}
 use Rattle.basics.specs.Lists.{all}
 use Rattle.formats.specs.Format.{Format, Value}
 use Rattle.formats.specs.Promises.Outcome.{element}
-use Rattle.formats_judge.specs.declared.Judge.{Judge}
-use Rattle.formats_judge.specs.declared.Judge.TheVariants.{At, Broken}
 use Rattle.formats_judge.specs.Judged.{ok, answer, first_failing, judged}
 
 -- a text, for every limit
@@ -22,10 +20,10 @@ sooner zero y = y
 sooner (suc x) zero = suc x
 sooner (suc x) (suc y) = cond (leb (suc x) (suc y)) (suc x) (suc y)
 
-abbrev pub judge_many : Format → ℕ → List ℕ → ℕ → Judge
+abbrev pub judge_many : Format → ℕ → List ℕ → ℕ → Option (ℕ × ℕ)
 judge_many f n s at = judged (verdicts f) s (many_r (element f) n (drop at s))
 
 -- a verdict that was reached before, and what the judge answers
-abbrev pub judged_after : ℕ → Judge → Judge
-judged_after x Broken = Broken
-judged_after x (At p y) = At p (sooner x y)
+abbrev pub judged_after : ℕ → Option (ℕ × ℕ) → Option (ℕ × ℕ)
+judged_after x None = None
+judged_after x (Some (p, y)) = Some (p, sooner x y)

@@ -1,5 +1,5 @@
 -- Law. A value at a place, by its parts: where each stands, and what the interpreter answers there.
-use Rattle.std.specs.Prelude.{◌≡◌, refl, List, [], ◌∷◌, ◌++◌, ℕ, zero, suc, ◌+◌, ◌-◌, ◌≤◌, ◌<◌, ℤ, length, take, drop, get_or}
+use Rattle.std.specs.Prelude.{◌≡◌, refl, List, [], ◌∷◌, ◌++◌, ℕ, zero, suc, ◌+◌, ◌-◌, ◌≤◌, ◌<◌, ℤ, length, take, drop, get_or, Some}
 use Rattle.std.proofs.Common.{sym, ap, ◌∙◌, append_assoc, inl, inr, arith, add-zero, length-append, take-append-drop, length-take-le, take_at, drop_at, get_or-drop, lt-ltb}
 use Rattle.std.proofs.Math.Option.{some}
 use Rattle.std.proofs.Math.Seq.{slice, length-slice, slice_empty}
@@ -10,7 +10,6 @@ use Rattle.formats.specs.Laws.Format.{law}
 use Rattle.formats.specs.Number.{zig}
 use Rattle.formats.specs.Class.{Class}
 use Rattle.formats.specs.Promises.Outcome.{skip_to, skipped, tag_at}
-use Rattle.formats.specs.declared.Skip.TheVariants.{At}
 use Rattle.formats.proofs.Numbers.{place}
 use Rattle.formats_write.specs.Laws.Slices.{slice_join}
 use Rattle.formats_read.specs.Promises.Fields.{part, Has, onward, field_to, with}
@@ -61,8 +60,8 @@ reads {f} {s} {p} {q} {v} h =
     ap (read f) (past_place s p q h.forward h.within ∙ ap (λ l. l ++ drop q s) h.written)
     ∙ (law f).there v (drop q s) h.fits
 
-pub passed : {f : Format} {s : List ℕ} {p q : ℕ} {v : Value f} → Here f s p q v → skip_to f s p ≡ At q
-passed {f} {s} {p} {q} {v} h = ap (skipped s) (reads h) ∙ ap At (place s q h.within)
+pub passed : {f : Format} {s : List ℕ} {p q : ℕ} {v : Value f} → Here f s p q v → skip_to f s p ≡ Some q
+passed {f} {s} {p} {q} {v} h = ap (skipped s) (reads h) ∙ ap Some (place s q h.within)
 
 -- a pair: its halves, and where they meet
 pub record Halves (a b : Format) (s : List ℕ) (p q : ℕ) (v : Value (a & b)) (m : ℕ) : Type 0 where
@@ -87,7 +86,7 @@ joined : (x y z u a b : List ℕ) → x ++ y ≡ z → x ≡ a → y ++ u ≡ b 
 joined x y z u a b e f g = rw (← e, append_assoc, g, f) refl
 
 pub field : (k : ℕ) (f : Format) (i : Has k f) {s : List ℕ} {p q : ℕ} {v : Value f} → Here f s p q v
-    → (m : ℕ) × Field k f i s p q v m × (field_to k f s p ≡ At m)
+    → (m : ℕ) × Field k f i s p q v m × (field_to k f s p ≡ Some m)
 field zero f i {s} {p} {q} {v} h =
     (p, record { here = h; forward = omega arith; front = λ u. rw (slice_empty p s) refl }, refl)
 field (suc k) (a & b) i {s} {p} {q} {v} h =

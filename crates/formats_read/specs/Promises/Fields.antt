@@ -1,11 +1,9 @@
 -- Promise. The fields of a record, which is pairs to the right: where the part from field k on begins, what it
 -- holds, and the record with it changed.
-use Rattle.std.specs.Prelude.{List, ℕ, zero, suc}
+use Rattle.std.specs.Prelude.{List, ℕ, zero, suc, Option, Some, None}
 use Rattle.formats.specs.Format.{Format, never, empty, number, signed, small, text, float, constant, list, choice, ◌&◌}
 use Rattle.formats.specs.Format.{Value}
 use Rattle.formats.specs.Promises.Outcome.{skip_to}
-use Rattle.formats.specs.declared.Skip.{Skip}
-use Rattle.formats.specs.declared.Skip.TheVariants.{At, Broken}
 
 -- the record from field k on
 abbrev pub part : ℕ → Format → Format
@@ -37,24 +35,24 @@ Has (suc k) (constant c) = ⊥
 Has (suc k) (list l f) = ⊥
 Has (suc k) (choice a b) = ⊥
 
-abbrev pub onward : Skip → (ℕ → Skip) → Skip
-onward Broken k = Broken
-onward (At p) k = k p
+abbrev pub onward : Option ℕ → (ℕ → Option ℕ) → Option ℕ
+onward None k = None
+onward (Some p) k = k p
 
 -- where that part begins
-abbrev pub field_to : ℕ → Format → List ℕ → ℕ → Skip
-field_to zero f s at = At at
+abbrev pub field_to : ℕ → Format → List ℕ → ℕ → Option ℕ
+field_to zero f s at = Some at
 field_to (suc k) (a & b) s at = onward (skip_to a s at) (λ p. field_to k b s p)
-field_to (suc k) never s at = Broken
-field_to (suc k) empty s at = Broken
-field_to (suc k) (number lo hi) s at = Broken
-field_to (suc k) (signed lo hi) s at = Broken
-field_to (suc k) (small m) s at = Broken
-field_to (suc k) (text l c) s at = Broken
-field_to (suc k) float s at = Broken
-field_to (suc k) (constant c) s at = Broken
-field_to (suc k) (list l f) s at = Broken
-field_to (suc k) (choice a b) s at = Broken
+field_to (suc k) never s at = None
+field_to (suc k) empty s at = None
+field_to (suc k) (number lo hi) s at = None
+field_to (suc k) (signed lo hi) s at = None
+field_to (suc k) (small m) s at = None
+field_to (suc k) (text l c) s at = None
+field_to (suc k) float s at = None
+field_to (suc k) (constant c) s at = None
+field_to (suc k) (list l f) s at = None
+field_to (suc k) (choice a b) s at = None
 
 -- what a record holds from field k on, and the record with that part changed
 abbrev pub tail : (k : ℕ) (f : Format) → Has k f → Value f → Value (part k f)

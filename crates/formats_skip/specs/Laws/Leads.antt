@@ -1,9 +1,8 @@
 -- Law. How passes lead to a field of a record, and from a field to the record's end.
-use Rattle.std.specs.Prelude.{◌≡◌, refl, List, ℤ, ℕ, suc}
+use Rattle.std.specs.Prelude.{◌≡◌, refl, List, ℤ, ℕ, suc, Some}
 use Rattle.std.proofs.Common.{sym, ap, ◌∙◌}
 use Rattle.formats.specs.Class.{Class, any}
 use Rattle.formats.specs.Format.{Format, number, signed, small, text, list, optional, ◌&◌, Value}
-use Rattle.formats.specs.declared.Skip.TheVariants.{At}
 use Rattle.formats_read.specs.Promises.Fields.{part, Has, onward, field_to}
 use Rattle.formats_read.specs.Promises.Here.{Here, Field}
 use Rattle.formats_read.specs.Laws.Here.{field, halves, passed}
@@ -31,7 +30,7 @@ module _ {s : List ℕ} {p m r : ℕ} where
     place = λ i {v} {q} h.
         let x = halves h in
         let e = P.to x.first in
-        ap (λ o. onward o (λ n. field_to k b s n)) (passed x.first ∙ ap At (sym e))
+        ap (λ o. onward o (λ n. field_to k b s n)) (passed x.first ∙ ap Some (sym e))
         ∙ L.place i {v = v.1} {q = q} (rw e x.second);
   }
 

@@ -1,7 +1,6 @@
 -- Promise. A pass over a value that is known to stand at a place, and over a record's fields up to one of them.
-use Rattle.std.specs.Prelude.{◌≡◌, List, ℕ, ◌+◌, ◌≤◌}
+use Rattle.std.specs.Prelude.{◌≡◌, List, ℕ, ◌+◌, ◌≤◌, Some}
 use Rattle.formats.specs.Format.{Format, Value}
-use Rattle.formats.specs.declared.Skip.TheVariants.{At}
 use Rattle.formats_read.specs.Promises.Fields.{Has, field_to}
 use Rattle.formats_read.specs.Promises.Here.{Here}
 
@@ -16,4 +15,4 @@ pub record PassesNear (n : ℕ) (f : Format) (s : List ℕ) (p r : ℕ) : Type 0
 
 -- field k of a record of f that stands at p is at r
 pub record Leads (k : ℕ) (f : Format) (s : List ℕ) (p r : ℕ) : Type 0 where
-  pub place : (i : Has k f) {v : Value f} {q : ℕ} → Here f s p q v → field_to k f s p ≡ At r
+  pub place : (i : Has k f) {v : Value f} {q : ℕ} → Here f s p q v → field_to k f s p ≡ Some r

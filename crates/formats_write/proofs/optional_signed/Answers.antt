@@ -11,13 +11,13 @@ use mir.Syntax.{w64}
 use mir.Val.{SFits}
 use Rattle.formats_write.proofs.optional_signed.Goals as goal
 
-pub returns-in-Absent : goal.returns-in-Absent
-returns-in-Absent c = Laws.absent_is (λ z. number_w (zig z)) (ap given_signed c.in-Absent.is) c.byte.ensures
+pub returns-in-None : goal.returns-in-None
+returns-in-None c = Laws.absent_is (λ z. number_w (zig z)) (ap given_signed c.in-None.is) c.byte.ensures
 
-pub returns-in-Present : goal.returns-in-Present
-returns-in-Present c =
-    let f : SFits w64 c.in-Present.z = search rules in
+pub returns-in-Some : goal.returns-in-Some
+returns-in-Some c =
+    let f : SFits w64 c.in-Some.z = search rules in
     Laws.present_is (λ z. number_w (zig z)) _
-    (ap given_signed c.in-Present.is)
+    (ap given_signed c.in-Some.is)
     c.byte-q.ensures
     (same c.signed.ensures (ap (λ z. number_w (zig z)) (to_z-of_z f)))

@@ -1,11 +1,9 @@
 -- Law. Writers one after the other.
-use Rattle.std.specs.Prelude.{◌≡◌, refl, List, [], ◌∷◌, ◌++◌, Bool, true, false, ℕ, zero, suc, ◌+◌, ◌-◌, ◌≤◌, ◌<◌, leb, length, drop, set, replicate}
+use Rattle.std.specs.Prelude.{◌≡◌, refl, List, [], ◌∷◌, ◌++◌, Bool, true, false, ℕ, zero, suc, ◌+◌, ◌-◌, ◌≤◌, ◌<◌, leb, length, drop, set, replicate, Option, Some, None}
 use Rattle.std.proofs.Common.{sym, ap, ◌∙◌, add-zero, add-suc, suc-add, arith, leb-true, leb-false, length-append}
 use Rattle.std.proofs.lemmas.List.{length-replicate}
 use Rattle.std.proofs.lemmas.List.Edits.{sets, sets-eq}
 use Rattle.slices.specs.Lists.{pasted}
-use Rattle.formats_write.specs.declared.Put.{Put}
-use Rattle.formats_write.specs.declared.Put.TheVariants.{At, Full}
 use Rattle.formats_write.specs.Promises.Adds.{Adds, Wrote}
 
 -- one run of stores after another
@@ -14,7 +12,7 @@ sets_append [] us l i = rw add-zero refl
 sets_append (v ∷ vs) us l i = rw (add-suc, ← suc-add) (sets_append vs us (set l i v) (suc i))
 
 -- nothing, and one after the other
-pub none : {l : List ℕ} {r : Put} → Adds l r l r []
+pub none : {l : List ℕ} {r : Option ℕ} → Adds l r l r []
 none {l} {r} = record {
   size = refl;
   full = λ e. e;
@@ -23,19 +21,19 @@ none {l} {r} = record {
   over = λ p e h k. absurd (omega arith);
 }
 
-module _ {l m n : List ℕ} {r q o : Put} {x y : List ℕ} (f : Adds l r m q x) (g : Adds m q n o y) where
+module _ {l m n : List ℕ} {r q o : Option ℕ} {x y : List ℕ} (f : Adds l r m q x) (g : Adds m q n o y) where
   both : length (x ++ y) ≡ length x + length y
   both = length-append x y
 
-  module _ (p : ℕ) (e : r ≡ At p) where
-    past : p + length x ≤ length l → (q ≡ At (p + length x)) × (p + length x ≤ length m)
+  module _ (p : ℕ) (e : r ≡ Some p) where
+    past : p + length x ≤ length l → (q ≡ Some (p + length x)) × (p + length x ≤ length m)
     past h = (f.next p e h, omega (arith, f.size))
 
-    then_next : p + length (x ++ y) ≤ length l → o ≡ At (p + length (x ++ y))
+    then_next : p + length (x ++ y) ≤ length l → o ≡ Some (p + length (x ++ y))
     then_next h =
         let k : p + length x ≤ length l = omega (arith, both) in
         let j : p + length x + length y ≡ p + length (x ++ y) = omega (arith, both) in
-        g.next (p + length x) (past k).0 (omega (arith, both, f.size)) ∙ ap At j
+        g.next (p + length x) (past k).0 (omega (arith, both, f.size)) ∙ ap Some j
 
     then_holds : p + length (x ++ y) ≤ length l → n ≡ pasted l p (x ++ y)
     then_holds h =
@@ -45,10 +43,10 @@ module _ {l m n : List ℕ} {r q o : Put} {x y : List ℕ} (f : Adds l r m q x) 
         g.holds (p + length x) (past k).0 i ∙ sym (sets-eq y m (p + length x) i)
         ∙ ap (λ m. sets m (p + length x) y) j ∙ sets_append x y l p ∙ sets-eq (x ++ y) l p h
 
-    then_over : p ≤ length l → length l < p + length (x ++ y) → o ≡ Full
+    then_over : p ≤ length l → length l < p + length (x ++ y) → o ≡ None
     then_over h k = go (leb (p + length x) (length l)) refl
       where
-        go : (t : Bool) → leb (p + length x) (length l) ≡ t → o ≡ Full
+        go : (t : Bool) → leb (p + length x) (length l) ≡ t → o ≡ None
         go true t =
             let i = past (leb-true (p + length x) (length l) t) in
             g.over (p + length x) i.0 i.1 (omega (arith, both, f.size))
@@ -63,10 +61,10 @@ module _ {l m n : List ℕ} {r q o : Put} {x y : List ℕ} (f : Adds l r m q x) 
     over = then_over;
   }
 
-pub same : {l m : List ℕ} {r q : Put} {x y : List ℕ} → Adds l r m q x → x ≡ y → Adds l r m q y
+pub same : {l m : List ℕ} {r q : Option ℕ} {x y : List ℕ} → Adds l r m q x → x ≡ y → Adds l r m q y
 same {l} {m} {r} {q} f e = rw (← e) f
 
-pub wrote : {l m : List ℕ} {q : Put} {x : List ℕ} → Adds l (At 0) m q x → Wrote l m q x
+pub wrote : {l m : List ℕ} {q : Option ℕ} {x : List ℕ} → Adds l (Some 0) m q x → Wrote l m q x
 wrote {l} {m} {q} {x} a = record {
   size = a.size;
   next = λ h. let z : length x ≡ 0 + length x = omega arith in rw z (a.next 0 refl (omega arith));
@@ -81,7 +79,7 @@ drop_zeros (suc k) zero = let e : 0 - suc k ≡ 0 = omega arith in rw e refl
 drop_zeros (suc k) (suc n) = let e : suc n - suc k ≡ n - k = omega arith in rw e (drop_zeros k n)
 
 -- into an output that was cleared: the whole and then zeros
-pub onto_zeros : {n : ℕ} {m : List ℕ} {q : Put} {x : List ℕ} → Wrote (replicate n 0) m q x → length x ≤ n
+pub onto_zeros : {n : ℕ} {m : List ℕ} {q : Option ℕ} {x : List ℕ} → Wrote (replicate n 0) m q x → length x ≤ n
     → m ≡ x ++ replicate (n - length x) 0
 onto_zeros {n} {m} {q} {x} w h =
     w.holds (omega (arith, length-replicate {A = ℕ} n 0)) ∙ ap (λ l. x ++ l) (drop_zeros (length x) n)

@@ -1,11 +1,9 @@
 -- Law. A byte that is put in its place last, over another: the count of what stands behind it.
-use Rattle.std.specs.Prelude.{◌≡◌, refl, List, [], ◌∷◌, ℕ, suc, ◌+◌, ◌≤◌, ◌<◌, length, set}
+use Rattle.std.specs.Prelude.{◌≡◌, refl, List, [], ◌∷◌, ℕ, suc, ◌+◌, ◌≤◌, ◌<◌, length, set, Option, Some}
 use Rattle.std.proofs.Common.{sym, ap, ◌∙◌, arith, set-set}
 use Rattle.std.proofs.lemmas.List.Edits.{sets, sets-eq}
 use Rattle.std.proofs.lemmas.List.{set_comm}
 use Rattle.slices.specs.Lists.{pasted}
-use Rattle.formats_write.specs.declared.Put.{Put}
-use Rattle.formats_write.specs.declared.Put.TheVariants.{At}
 use Rattle.formats_write.specs.Laws.Adds.{then}
 use Rattle.formats_write.specs.Promises.Adds.{Adds}
 
@@ -19,12 +17,12 @@ set_sets (a ∷ x) l i p n h =
 set_over : (x l : List ℕ) (p b n : ℕ) → set (sets l p (b ∷ x)) p n ≡ sets l p (n ∷ x)
 set_over x l p b n = set_sets x (set l p b) (suc p) p n (omega arith) ∙ ap (λ l. sets l (suc p) x) (set-set l p b n)
 
-module _ {l m o u : List ℕ} {r q k j : Put} {b n : ℕ} {x : List ℕ} (f : Adds l r m q (b ∷ [])) (g : Adds m q o k x)
+module _ {l m o u : List ℕ} {r q k j : Option ℕ} {b n : ℕ} {x : List ℕ} (f : Adds l r m q (b ∷ [])) (g : Adds m q o k x)
     (h : Adds o r u j (n ∷ [])) where
   whole : Adds l r o k (b ∷ x)
   whole = then f g
 
-  over_holds : (p : ℕ) → r ≡ At p → p + length (n ∷ x) ≤ length l → u ≡ pasted l p (n ∷ x)
+  over_holds : (p : ℕ) → r ≡ Some p → p + length (n ∷ x) ≤ length l → u ≡ pasted l p (n ∷ x)
   over_holds p e i =
       let z : p + length (n ∷ []) ≤ length o = omega (arith, whole.size) in
       h.holds p e z ∙ sym (sets-eq (n ∷ []) o p z)

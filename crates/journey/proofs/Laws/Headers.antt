@@ -6,8 +6,8 @@ use Rattle.std.proofs.Math.Bool.{not}
 use mathlib.Core.List.{List, [], ◌∷◌, ◌++◌, map}
 use Rattle.std.proofs.Math.Option
 use Rattle.std.proofs.Math.Option.{Option, none, some}
-use Rattle.slices.specs.declared.Order.{Order}
-use Rattle.slices.specs.declared.Order.TheVariants.{Less, Same, More}
+use Rattle.std.specs.declared.cmp.Ordering.{Ordering}
+use Rattle.std.specs.declared.cmp.Ordering.TheVariants.{Less, Equal, Greater}
 use Rattle.basics.specs.Lists.{All, filter, is_empty, concat_map, all}
 use Rattle.basics.specs.Laws.Options.{none_some}
 use Rattle.formats.specs.Format.{list, optional, ◌&◌}
@@ -108,10 +108,10 @@ has_put k m = get_put texts_order k k tt m
 has_kept : (j k : List ℕ) (m : List Entry) → Has m j → Has (put texts k tt m) j
 has_kept j k m h = get_put texts_order j k tt m ∙ go (texts.compare j k)
   where
-    go : (o : Order) → by_order o (get texts j m) (some tt) (get texts j m) ≡ some tt
+    go : (o : Ordering) → by_order o (get texts j m) (some tt) (get texts j m) ≡ some tt
     go Less = h
-    go Same = refl
-    go More = h
+    go Equal = refl
+    go Greater = h
 
 has_old : (l m : List Entry) (j : List ℕ) → Has m j → Has (puts texts l m) j
 has_old [] m j h = h
@@ -125,11 +125,11 @@ put_length : (k : List ℕ) (m : List Entry) → length (put texts k tt m) ≤ s
 put_length k [] = omega arith
 put_length k (e ∷ m) = go (texts.compare k e.0) (put_length k m)
   where
-    go : (o : Order) → length (put texts k tt m) ≤ suc (length m)
+    go : (o : Ordering) → length (put texts k tt m) ≤ suc (length m)
         → length (by_order o ((k, tt) ∷ e ∷ m) ((k, tt) ∷ m) (e ∷ put texts k tt m)) ≤ suc (suc (length m))
     go Less h = omega arith
-    go Same h = omega arith
-    go More h = omega arith
+    go Equal h = omega arith
+    go Greater h = omega arith
 
 puts_length : (l : List (List ℕ)) (m : List Entry) → length (puts texts (map entry l) m) ≤ length l + length m
 puts_length [] m = omega arith
@@ -146,10 +146,10 @@ get_above k [] h = refl
 get_above k (e ∷ m) h = rw h.0 (get_above k m h.1)
 
 -- past x, of keys behind it
-has_past : (x : Entry) (m : List Entry) (k : List ℕ) → texts.compare k x.0 ≡ More → Has (x ∷ m) k → Has m k
+has_past : (x : Entry) (m : List Entry) (k : List ℕ) → texts.compare k x.0 ≡ Greater → Has (x ∷ m) k → Has m k
 has_past x m k c h = rw c at h
 
-all_past : (x : Entry) (m l : List Entry) → All (λ e. texts.compare e.0 x.0 ≡ More) l
+all_past : (x : Entry) (m l : List Entry) → All (λ e. texts.compare e.0 x.0 ≡ Greater) l
     → All (λ e. Has (x ∷ m) e.0) l → All (λ e. Has m e.0) l
 all_past x m l c h = each_both (λ e p q. has_past x m e.0 p q) l c h
 
@@ -166,21 +166,21 @@ sub_length (x ∷ M) (y ∷ m) a b h =
     later : All (λ e. texts.compare y.0 e.0 ≡ Less) m
     later = above_each y.0 m b
 
-    go : (o : Order) → texts.compare y.0 x.0 ≡ o → (All (λ e. Has M e.0) m → length m ≤ length M)
+    go : (o : Ordering) → texts.compare y.0 x.0 ≡ o → (All (λ e. Has M e.0) m → length m ≤ length M)
         → (All (λ e. Has M e.0) (y ∷ m) → suc (length m) ≤ length M)
         → suc (length m) ≤ suc (length M)
     go Less c f g =
         let z : get texts y.0 M ≡ none =
         get_above y.0 M (above_each y.0 M (lower y.0 x M (ap is_less c) a)) in
         none_some (sym z ∙ rw c at h.0)
-    go Same c f g =
+    go Equal c f g =
         let s : y.0 ≡ x.0 = texts_order.same y.0 x.0 c in
-        let p : All (λ e. texts.compare e.0 x.0 ≡ More) m =
+        let p : All (λ e. texts.compare e.0 x.0 ≡ Greater) m =
         each_map {A = Entry} {P = λ e. texts.compare y.0 e.0 ≡ Less}
         (λ e q. rw s at (texts_order.more y.0 e.0 q)) m later in
         omega (arith, f (all_past x M m p h.1))
-    go More c f g =
-        let p : All (λ e. texts.compare e.0 x.0 ≡ More) m =
+    go Greater c f g =
+        let p : All (λ e. texts.compare e.0 x.0 ≡ Greater) m =
         each_map {A = Entry} {P = λ e. texts.compare y.0 e.0 ≡ Less}
         (λ e q. texts_order.more x.0 e.0
         (texts_order.through x.0 y.0 e.0 (texts_order.less y.0 x.0 c) q)) m later in

@@ -7,8 +7,8 @@ use Rattle.std.proofs.Math.Bool.{not}
 use mathlib.Core.List.{List, [], ◌∷◌, map}
 use Rattle.std.proofs.Math.Option.{Option, none, some}
 use Rattle.slices.specs.Lists.{lex_of}
-use Rattle.slices.specs.declared.Order.{Order}
-use Rattle.slices.specs.declared.Order.TheVariants.{Less, Same, More}
+use Rattle.std.specs.declared.cmp.Ordering.{Ordering}
+use Rattle.std.specs.declared.cmp.Ordering.TheVariants.{Less, Equal, Greater}
 use Rattle.maps.specs.Map.{by_order, get, ascending}
 use Rattle.maps.specs.Promises.Order.{is_same}
 use Rattle.maps.proofs.Laws.Map.{last_at, puts_ascending, get_puts, equal_maps}
@@ -66,24 +66,24 @@ get_found : (x : List ℕ) (m : List Entry) → get texts x m ≡ found (any (sa
 get_found x [] = refl
 get_found x (e ∷ m) = go (lex_of x e.0) (same x e.0) (same_lex x e.0) (get_found x m)
   where
-    go : (o : Order) (t : Bool) → t ≡ is_same o → get texts x m ≡ found (any (same x) (keys m))
+    go : (o : Ordering) (t : Bool) → t ≡ is_same o → get texts x m ≡ found (any (same x) (keys m))
         → by_order o (get texts x m) (some tt) (get texts x m) ≡ found (t || any (same x) (keys m))
     go Less t q h = rw q h
-    go Same t q h = rw q refl
-    go More t q h = rw q h
+    go Equal t q h = rw q refl
+    go Greater t q h = rw q h
 
 last_found : (x : List ℕ) (l : List (List ℕ)) → last_at texts x (map entry l) ≡ found (any (same x) l)
 last_found x [] = refl
 last_found x (y ∷ l) = go (any (same x) l) refl (last_found x l) (lex_of x y) refl
   where
     go : (u : Bool) → any (same x) l ≡ u → last_at texts x (map entry l) ≡ found (any (same x) l)
-        → (o : Order) → lex_of x y ≡ o → last_at texts x (map entry (y ∷ l)) ≡ found (same x y || any (same x) l)
+        → (o : Ordering) → lex_of x y ≡ o → last_at texts x (map entry (y ∷ l)) ≡ found (same x y || any (same x) l)
     go true e h Less q = rw (h, same_lex x y, e, q) refl
-    go true e h Same q = rw (h, same_lex x y, e, q) refl
-    go true e h More q = rw (h, same_lex x y, e, q) refl
+    go true e h Equal q = rw (h, same_lex x y, e, q) refl
+    go true e h Greater q = rw (h, same_lex x y, e, q) refl
     go false e h Less q = rw (h, same_lex x y, e, q) refl
-    go false e h Same q = rw (h, same_lex x y, e, q) refl
-    go false e h More q = rw (h, same_lex x y, e, q) refl
+    go false e h Equal q = rw (h, same_lex x y, e, q) refl
+    go false e h Greater q = rw (h, same_lex x y, e, q) refl
 
 get_set : (x : List ℕ) (l : List (List ℕ)) → get texts x (set l) ≡ found (any (same x) l)
 get_set x l = go (any (same x) l) (last_found x l)

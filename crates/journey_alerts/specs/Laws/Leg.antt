@@ -1,8 +1,8 @@
 -- Law. The alerts of a leg: those of its trip's feed that are candidates and apply.
-use Rattle.std.specs.Prelude.{◌≡◌, refl, Bool, true, false, cond, ◌&&◌, List, [], ◌∷◌, map, ℕ, ◌≤◌, leb, length}
+use Rattle.std.specs.Prelude.{◌≡◌, refl, Bool, true, false, cond, ◌&&◌, List, [], ◌∷◌, map, ℕ, ◌≤◌, leb, length, Option, Some, None}
 use Rattle.std.proofs.Common.{sym, ap, ◌∙◌, append-nil, inl, inr, arith, leb-true}
 use Rattle.std.proofs.Math.Option
-use Rattle.std.proofs.Math.Option.{Option, none, some}
+use Rattle.std.proofs.Math.Option.{Option as LogicOption, none, some}
 use Rattle.basics.specs.Lists.{All, filter}
 use Rattle.basics.specs.Options.{Maybe}
 use Rattle.basics.specs.Laws.Booleans.{both_true}
@@ -27,8 +27,6 @@ use Rattle.overlay.specs.Lookup.{feed_of}
 use Rattle.overlay.proofs.Laws.Within.{Judged56, left, right, few, counted}
 use Rattle.overlay.proofs.Laws.EveryEntry.{each_of, each_map, get_each}
 use Rattle.overlay_resolve.specs.Promises.Shown.{ShowsAlerts}
-use Rattle.overlay_seek.specs.declared.Found.{Found}
-use Rattle.overlay_seek.specs.declared.Found.TheVariants.{At, Missing}
 use Rattle.journey.specs.Card.{Transit, transit, transit_of}
 use Rattle.journey.specs.Enrich.{alerts_in, applies, alerts_of_transit, disrupted, labels_of}
 use Rattle.journey.specs.ByIndex.{passes}
@@ -88,7 +86,7 @@ rooms l {v} J h =
     (optional_few 64 utf8 (cause a) (left (right (right j))).five)
     (text_few 64 printable (transit_of v).short (left (right J)).five) (omega arith)) l h
 
-feed_judged : (o : Option Records) → Given RecordsJudged o → All (Judged56 alert) (alerts_in o)
+feed_judged : (o : LogicOption Records) → Given RecordsJudged o → All (Judged56 alert) (alerts_in o)
 feed_judged none h = tt
 feed_judged (some R) h = h.alerts
 
@@ -106,7 +104,7 @@ alerts_few : (st : State) → ok 7 overlay st ≡ true → (f : List ℕ) → le
 unfolding shown
 alerts_few st h f = go (get texts f (feeds_of st)) refl
   where
-    go : (o : Option Feed) → get texts f (feeds_of st) ≡ o → length (alerts_in (Option.map records_of o)) ≤ 256
+    go : (o : LogicOption Feed) → get texts f (feeds_of st) ≡ o → length (alerts_in (Option.map records_of o)) ≤ 256
     go none e = omega arith
     go (some F) e =
         feed_few (f, F)
@@ -114,9 +112,9 @@ alerts_few st h f = go (get texts f (feeds_of st)) refl
         (each_of (ok 7 feed_entry) (feeds_of st) (counted 4 feed_entry (feeds_of st) h)) e)
 
 -- THE ALERTS OF A LEG
-module _ {s : List ℕ} {p : ℕ} {T : LegTexts} (X : LegTextsAt s p T) {b : List ℕ} {x : Found}
+module _ {s : List ℕ} {p : ℕ} {T : LegTexts} (X : LegTextsAt s p T) {b : List ℕ} {x : Option ℕ}
     (A : ShowsAlerts b (bytes_of s T.trip) x) {f g : List ℕ} {n : ℕ} where
-  pub leg_none : {w : List ℕ} → x ≡ Missing → SoundLabels b f g n → Knows most_text b w
+  pub leg_none : {w : List ℕ} → x ≡ None → SoundLabels b f g n → Knows most_text b w
       → LegAlerted s p b f g n f g (unmet n) w
   leg_none e S K = record {
     sound = S;
@@ -126,7 +124,7 @@ module _ {s : List ℕ} {p : ℕ} {T : LegTexts} (X : LegTextsAt s p T) {b : Lis
         leg_met (shown st) (transit_of v) {l = []} (sym (ap alerts_in z)) met_none;
   }
 
-  pub leg_some : {i : ℕ} {f' g' : List ℕ} {r : LegAlerts} {w : List ℕ} → x ≡ At i
+  pub leg_some : {i : ℕ} {f' g' : List ℕ} {r : LegAlerts} {w : List ℕ} → x ≡ Some i
       → AlertsAtMet s T b i most_text f g n f' g' r w → LegAlerted s p b f g n f' g' r w
   leg_some {i} e M = record {
     sound = M.sound;

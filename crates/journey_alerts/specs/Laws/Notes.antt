@@ -1,8 +1,8 @@
 -- Law. Labels noted one after another.
 use Rattle.std.specs.Prelude.{◌≡◌, refl, Bool, true, false, List, [], ◌∷◌, ◌++◌, map, ℕ, suc, ◌-◌, ◌≤◌, ◌<◌, leb, length, drop}
 use Rattle.std.proofs.Common.{sym, ap, ◌∙◌, arith, length-drop, length-take-le, leb-true, leb-false}
-use Rattle.slices.specs.declared.Order.{Order}
-use Rattle.slices.specs.declared.Order.TheVariants.{Less, Same, More}
+use Rattle.std.specs.declared.cmp.Ordering.{Ordering}
+use Rattle.std.specs.declared.cmp.Ordering.TheVariants.{Less, Equal, Greater}
 use Rattle.maps.specs.Map.{by_order, put, puts}
 use Rattle.maps.specs.Order.{texts}
 use Rattle.decode_slots.specs.Index.{Place}
@@ -17,11 +17,11 @@ put_longer : (k : List ℕ) (m : List Entry) → length m ≤ length (put texts 
 put_longer k [] = omega arith
 put_longer k (e ∷ m) = go (texts.compare k e.0) (put_longer k m)
   where
-    go : (o : Order) → length m ≤ length (put texts k tt m)
+    go : (o : Ordering) → length m ≤ length (put texts k tt m)
         → suc (length m) ≤ length (by_order o ((k, tt) ∷ e ∷ m) ((k, tt) ∷ m) (e ∷ put texts k tt m))
     go Less h = omega arith
-    go Same h = omega arith
-    go More h = omega arith
+    go Equal h = omega arith
+    go Greater h = omega arith
 
 puts_longer : (l : List (List ℕ)) (m : List Entry) → length m ≤ length (puts texts (map entry l) m)
 puts_longer [] m = omega arith

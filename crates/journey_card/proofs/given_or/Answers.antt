@@ -2,8 +2,8 @@
 use Rattle.journey_card.specs.Laws.Steps.{not_given, given}
 use Rattle.journey_card.proofs.given_or.Goals as goal
 
-pub returns-in-Absent : goal.returns-in-Absent
-returns-in-Absent c = not_given _ c.ranges.old c.in-Absent.is
+pub returns-in-None : goal.returns-in-None
+returns-in-None c = not_given _ c.ranges.old c.in-None.is
 
-pub returns-in-Present : goal.returns-in-Present
-returns-in-Present c = search given
+pub returns-in-Some : goal.returns-in-Some
+returns-in-Some c = search given

@@ -1,5 +1,5 @@
 -- Law. The head that is written is the finished card's.
-use Rattle.std.specs.Prelude.{◌≡◌, refl, Bool, true, false, ℕ, zero, suc, ◌+◌, ◌≤◌, ◌<◌, ℤ, pos, negsuc, ◌-ℤ◌, ltb, length}
+use Rattle.std.specs.Prelude.{◌≡◌, refl, Bool, true, false, ℕ, zero, suc, ◌+◌, ◌≤◌, ◌<◌, ℤ, pos, negsuc, ◌-ℤ◌, ltb, length, Option}
 use Rattle.std.proofs.Common.{sym, ap, ◌∙◌, arith, ltb-true, ltb-false, SFits, to_z, of_z, to_z-of_z}
 use mathlib.Core.List.{List, [], ◌∷◌, ◌++◌, append_assoc, map, foldl}
 use Rattle.std.proofs.Math.IntN.{sub_ℕ}
@@ -9,7 +9,6 @@ use Rattle.basics.specs.Options.{given_or}
 use Rattle.basics.specs.Laws.Booleans.{false_true}
 use Rattle.formats.specs.Number.{zig, number_w}
 use Rattle.formats.specs.Format.{Value, signed, write}
-use Rattle.formats_write.specs.declared.Put.{Put}
 use Rattle.formats_write.specs.Promises.Adds.{Adds}
 use Rattle.formats_write.specs.Promises.Given.{given_signed}
 use Rattle.formats_write.specs.Laws.Adds.{then, same}
@@ -126,7 +125,7 @@ module _ {S : code.Survey} {s : List ℕ} {p : ℕ} {P : CardPlaces} (C : CardAt
 signed_w : ℤ → List ℕ
 signed_w z = number_w (zig z)
 
-pub head_bytes : (t : CardTimes) (u : ℤ) (n : ℕ) {l1 l2 l3 l4 l5 l6 : List ℕ} {r1 r2 r3 r4 r5 r6 : Put}
+pub head_bytes : (t : CardTimes) (u : ℤ) (n : ℕ) {l1 l2 l3 l4 l5 l6 : List ℕ} {r1 r2 r3 r4 r5 r6 : Option ℕ}
     → SFits w64 t.departure → SFits w64 t.arrival → SFits w64 u
     → Adds l1 r1 l2 r2 (1 ∷ []) → Adds l2 r2 l3 r3 (number_w (zig (to_z w64 (of_z w64 t.departure))))
     → Adds l3 r3 l4 r4 (number_w (zig (to_z w64 (of_z w64 t.arrival))))
@@ -148,7 +147,7 @@ apart d a u n x =
     ∙ ap (λ y. signed_w d ++ y) (append_assoc (signed_w a) (signed_w u ++ number_w n) x
     ∙ ap (λ y. signed_w a ++ y) (append_assoc (signed_w u) (number_w n) x)))
 
-module _ {S : code.Survey} {s : List ℕ} {p : ℕ} {l m : List ℕ} {w r : Put} where
+module _ {S : code.Survey} {s : List ℕ} {p : ℕ} {l m : List ℕ} {w r : Option ℕ} where
   pub head_out : length s ≤ p → PutsHead S s p l w m r
   head_out o = record { opens = λ H i j. absurd (omega (arith, card_in H)) }
 

@@ -1,11 +1,9 @@
 -- Law. One leg more, as the code gathers it.
-use Rattle.std.specs.Prelude.{◌≡◌, refl, Bool, true, false, cond, ◌||◌, not, ℤ, pos, negsuc, eqb}
+use Rattle.std.specs.Prelude.{◌≡◌, refl, Bool, true, false, cond, ◌||◌, not, ℤ, pos, negsuc, eqb, Option, Some, None}
 use Rattle.std.proofs.Common.{sym, ap, ◌∙◌, inr, arith, ne_eqb, SFits, to_z, of_z, to_z-of_z}
 use Rattle.std.specs.Int.{w32, w64}
 use Rattle.basics.specs.Options.{given_or}
 use Rattle.formats_write.specs.Promises.Given.{given_signed}
-use Rattle.formats.specs.declared.OptionalSigned.{OptionalSigned}
-use Rattle.formats.specs.declared.OptionalSigned.TheVariants as signeds
 use Rattle.journey.specs.Enrich.{is_zero, taken}
 use Rattle.journey_leg.specs.declared.LegRealtime.{LegRealtime}
 use Rattle.journey_leg.specs.Promises.Leg.{live_of}
@@ -34,24 +32,24 @@ module _ (R : LegRealtime) {b : Bool} (e : b ≡ live_of R) where
     late_arrives h j k i = rw (← e, k, departs_zero, i, j, to_z-of_z h) refl
 
 -- a time that is taken
-pub took : {b : Bool} {t : ℤ} (old : OptionalSigned) → SFits w64 t → b ≡ true
+pub took : {b : Bool} {t : ℤ} (old : Option ℤ) → SFits w64 t → b ≡ true
     → inr (to_z w64 (of_z w64 t)) ≡ taken b t (given_signed old)
 took old f e = rw (e, to_z-of_z f) refl
 
-module _ (old : ℤ) {o : OptionalSigned} where
-  pub not_given : SFits w64 old → o ≡ signeds.Absent → to_z w64 (of_z w64 old) ≡ given_or old (given_signed o)
+module _ (old : ℤ) {o : Option ℤ} where
+  pub not_given : SFits w64 old → o ≡ None → to_z w64 (of_z w64 old) ≡ given_or old (given_signed o)
   not_given f e = rw (e, to_z-of_z f) refl
 
-  pub given : {z : ℤ} → SFits w64 z → o ≡ signeds.Present z → to_z w64 (of_z w64 z) ≡ given_or old (given_signed o)
+  pub given : {z : ℤ} → SFits w64 z → o ≡ Some z → to_z w64 (of_z w64 z) ≡ given_or old (given_signed o)
   given f e = rw (e, to_z-of_z f) refl
 
-given_cond : (b : Bool) (x y : OptionalSigned) → given_signed (cond b x y) ≡ cond b (given_signed x) (given_signed y)
+given_cond : (b : Bool) (x y : Option ℤ) → given_signed (cond b x y) ≡ cond b (given_signed x) (given_signed y)
 given_cond true x y = refl
 given_cond false x y = refl
 
 -- one leg more
-module _ (S : Survey) (R : LegRealtime) (x : Bool) (d a : OptionalSigned) where
-  pub met : {live late b1 b2 b3 b4 : Bool} {first : OptionalSigned} (last old : OptionalSigned)
+module _ (S : Survey) (R : LegRealtime) (x : Bool) (d a : Option ℤ) where
+  pub met : {live late b1 b2 b3 b4 : Bool} {first : Option ℤ} (last old : Option ℤ)
       → SFits w64 R.departs.time → SFits w64 R.arrives.time → live ≡ live_of R → late ≡ late_of R
       → given_signed last ≡ taken live (to_z w64 (of_z w64 R.arrives.time)) (given_signed a)
       → given_signed old ≡ taken live (to_z w64 (of_z w64 R.departs.time)) (given_signed d)

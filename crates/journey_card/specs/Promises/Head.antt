@@ -1,12 +1,11 @@
 -- Promise. A card's head: its times, its duration and its status, written anew.
-use Rattle.std.specs.Prelude.{◌≡◌, Bool, true, false, List, ◌∷◌, ◌++◌, ℕ, ◌≤◌, ◌<◌, ℤ, ◌-ℤ◌}
+use Rattle.std.specs.Prelude.{◌≡◌, Bool, true, false, List, ◌∷◌, ◌++◌, ℕ, ◌≤◌, ◌<◌, ℤ, ◌-ℤ◌, Option}
 use Rattle.std.specs.Int.Signed.{mag}
 use Rattle.basics.specs.Options.{given_or}
 use Rattle.formats.specs.Number.{zig, number_w}
 use Rattle.formats.specs.Format.{Value}
 use Rattle.formats_read.specs.Promises.Fields.{part}
 use Rattle.formats_read.specs.Promises.Here.{Here}
-use Rattle.formats_write.specs.declared.Put.{Put}
 use Rattle.journey.specs.Card.{card}
 use Rattle.journey_leg.specs.Promises.Opens.{Opens}
 use Rattle.journey_card.specs.Promises.Survey.{Gathered, gathered_of, status_by}
@@ -43,7 +42,7 @@ pub record ReadsTimes (S : code.Survey) (s : List ℕ) (p : ℕ) (r : CardTimes)
   pub departs : {e : ℕ} {v : Value card} → Here card s p e v → r.departure ≡ departure_by v (gathered_of S)
   pub arrives : {e : ℕ} {v : Value card} → Here card s p e v → r.arrival ≡ arrival_by v (gathered_of S)
 
-pub record PutsHead (S : code.Survey) (s : List ℕ) (p : ℕ) (l : List ℕ) (w : Put) (m : List ℕ) (r : Put) : Type 0 where
+pub record PutsHead (S : code.Survey) (s : List ℕ) (p : ℕ) (l : List ℕ) (w : Option ℕ) (m : List ℕ) (r : Option ℕ) : Type 0 where
   pub opens : {e : ℕ} {v : Value card} → Here card s p e v → mag (departure_by v (gathered_of S)) < 4611686018427387904
       → mag (arrival_by v (gathered_of S)) < 4611686018427387904
       → Opens card (part 5 card) l w m r (new_head v (gathered_of S))

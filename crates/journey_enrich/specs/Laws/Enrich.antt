@@ -1,13 +1,12 @@
 -- Law. The whole card: head, headers and legs are the finished card's.
 use Rattle.std.proofs.Common.{ap, ◌∙◌, arith, leb-true}
-use Rattle.std.specs.Prelude.{true, List, map, ℕ, ◌≤◌, ◌<◌, ℤ, pos, negsuc, leb, length}
+use Rattle.std.specs.Prelude.{true, List, map, ℕ, ◌≤◌, ◌<◌, ℤ, pos, negsuc, leb, length, Option}
 use Rattle.std.specs.Int.Signed.{mag}
 use Rattle.basics.specs.Laws.Booleans.{both_true}
 use Rattle.formats.specs.Format.{Value, write}
 use Rattle.formats_read.specs.Promises.Fields.{part}
 use Rattle.formats_read.specs.Laws.Here.{halves}
 use Rattle.formats_skip.specs.Laws.Leads.{lead_field}
-use Rattle.formats_write.specs.declared.Put.{Put}
 use Rattle.formats_write.specs.Laws.Adds.{then, same}
 use Rattle.overlay.specs.Records.{shown}
 use Rattle.overlay.proofs.Laws.Within.{Judged56, left, right}
@@ -33,11 +32,11 @@ times_small : (v : Value card) → Judged56 card v
     → (mag v.1.0 < 4611686018427387904) × (mag v.1.1.0 < 4611686018427387904)
 times_small v j = (small v.1.0 (left (right j)), small v.1.1.0 (left (right (right j))))
 
-module _ {g : code.Survey} {n : ℕ} {s : List ℕ} {p : ℕ} {b f t l : List ℕ} {w : Put} where
-  pub enriched_out : {m : List ℕ} {r : Put} → length s ≤ p → Enriches g n s p b f t l w m r
+module _ {g : code.Survey} {n : ℕ} {s : List ℕ} {p : ℕ} {b f t l : List ℕ} {w : Option ℕ} where
+  pub enriched_out : {m : List ℕ} {r : Option ℕ} → length s ≤ p → Enriches g n s p b f t l w m r
   enriched_out o = record { adds = λ H J S e N k. absurd (let x = (halves H).first in omega (arith, x.within)) }
 
-  pub enriched : {P : CardPlaces} {m o z : List ℕ} {q i r : Put} → CardAt s p P → PutsHead g s p l w m q
+  pub enriched : {P : CardPlaces} {m o z : List ℕ} {q i r : Option ℕ} → CardAt s p P → PutsHead g s p l w m q
       → HeadersPut b f t n m q o i → LegsDone s P.legs b o i z r → Enriches g n s p b f t l w z r
   enriched C D X Y = record {
     adds = λ {v = v} H J {st} S e N k.

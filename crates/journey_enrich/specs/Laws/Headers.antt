@@ -1,10 +1,9 @@
 -- Law. The labels that were noted, written one after another.
-use Rattle.std.specs.Prelude.{◌≡◌, refl, List, [], ◌∷◌, ◌++◌, ℕ, zero, suc, ◌+◌, ◌≤◌, ◌<◌, length, get_or, drop}
+use Rattle.std.specs.Prelude.{◌≡◌, refl, List, [], ◌∷◌, ◌++◌, ℕ, zero, suc, ◌+◌, ◌≤◌, ◌<◌, length, get_or, drop, Option}
 use Rattle.std.proofs.Common.{sym, ap, ◌∙◌, arith, get_or-drop}
 use Rattle.std.proofs.Math.Seq.{slice}
 use Rattle.formats.specs.Number.{number_w}
 use Rattle.formats.specs.Readers.{many_w}
-use Rattle.formats_write.specs.declared.Put.{Put}
 use Rattle.formats_write.specs.Promises.Adds.{Adds}
 use Rattle.formats_write.specs.Promises.Given.{text_w}
 use Rattle.formats_write.specs.Laws.Adds.{none, then, same}
@@ -29,11 +28,11 @@ keys_length : (l : Labels) → length (keys l) ≡ length l
 keys_length [] = refl
 keys_length (e ∷ l) = ap suc (keys_length l)
 
-module _ {b f t : List ℕ} {n : ℕ} {l : List ℕ} {w : Put} where
+module _ {b f t : List ℕ} {n : ℕ} {l : List ℕ} {w : Option ℕ} where
   pub headers_begin : HeadersUpTo 0 b f t n l w l w
   headers_begin = record { adds = λ S. none }
 
-  pub headers_step : {i : ℕ} {m m' : List ℕ} {k k' : Put} {a e : ℕ} → HeadersUpTo i b f t n l w m k → i < n
+  pub headers_step : {i : ℕ} {m m' : List ℕ} {k k' : Option ℕ} {a e : ℕ} → HeadersUpTo i b f t n l w m k → i < n
       → a ≡ get_or f i 0 → e ≡ get_or t i 0 → (a ≤ e → e ≤ length b → Adds m k m' k' (text_w (slice a e b)))
       → HeadersUpTo (i + 1) b f t n l w m' k'
   headers_step {i} {a = a} {e} H h x y A = record {
@@ -46,17 +45,17 @@ module _ {b f t : List ℕ} {n : ℕ} {l : List ℕ} {w : Put} where
         (one_more text_w (keys (labels b f t i)) (label_at b f t i) ∙ ap (many_w text_w) (sym (more b i f t)));
   }
 
-  pub headers_end : {i : ℕ} {m : List ℕ} {k : Put} → HeadersUpTo i b f t n l w m k → i ≤ n → n ≤ i
+  pub headers_end : {i : ℕ} {m : List ℕ} {k : Option ℕ} → HeadersUpTo i b f t n l w m k → i ≤ n → n ≤ i
       → HeadersUpTo n b f t n l w m k
   headers_end {i} H h g = let e : i ≡ n = omega arith in rw e at H
 
-  pub headers_none : {m : List ℕ} {r : Put} → length f < n → HeadersPut b f t n l w m r
+  pub headers_none : {m : List ℕ} {r : Option ℕ} → length f < n → HeadersPut b f t n l w m r
   headers_none h = record { adds = λ S. absurd (omega (arith, S.counted, S.long_from)) }
 
-  pub headers_few : {m : List ℕ} {r : Put} → length t < n → HeadersPut b f t n l w m r
+  pub headers_few : {m : List ℕ} {r : Option ℕ} → length t < n → HeadersPut b f t n l w m r
   headers_few h = record { adds = λ S. absurd (omega (arith, S.counted, S.long_to)) }
 
-  pub headers_put : {m o : List ℕ} {q r : Put} → Adds l w m q (number_w n) → HeadersUpTo n b f t n m q o r
+  pub headers_put : {m o : List ℕ} {q r : Option ℕ} → Adds l w m q (number_w n) → HeadersUpTo n b f t n m q o r
       → HeadersPut b f t n l w o r
   headers_put A H = record {
     adds = λ S.

@@ -1,11 +1,10 @@
 -- Promise. A card's headers and the whole card, written anew.
-use Rattle.std.specs.Prelude.{◌≡◌, ℕ}
+use Rattle.std.specs.Prelude.{◌≡◌, ℕ, Option}
 use mathlib.Core.List.{List, foldl}
 use Rattle.formats.specs.Readers.{many_w}
 use Rattle.formats.specs.Class.{utf8}
 use Rattle.formats.specs.Format.{Value, list, text, write}
 use Rattle.formats_read.specs.Promises.Here.{Here}
-use Rattle.formats_write.specs.declared.Put.{Put}
 use Rattle.formats_write.specs.Promises.Adds.{Adds}
 use Rattle.formats_write.specs.Promises.Given.{text_w}
 use Rattle.overlay.specs.State.{State}
@@ -19,16 +18,16 @@ use Rattle.journey_card.specs.Promises.Survey.{nothing, look, gathered_of}
 use Rattle.journey_finish.specs.Promises.Finish.{StateIn}
 
 -- the texts of the first i of n labels, one after another
-pub record HeadersUpTo (i : ℕ) (b f t : List ℕ) (n : ℕ) (l : List ℕ) (w : Put) (m : List ℕ) (r : Put) : Type 0 where
+pub record HeadersUpTo (i : ℕ) (b f t : List ℕ) (n : ℕ) (l : List ℕ) (w : Option ℕ) (m : List ℕ) (r : Option ℕ) : Type 0 where
   pub adds : SoundLabels b f t n → Adds l w m r (many_w text_w (keys (labels b f t i)))
 
 -- the list of them
-pub record HeadersPut (b f t : List ℕ) (n : ℕ) (l : List ℕ) (w : Put) (m : List ℕ) (r : Put) : Type 0 where
+pub record HeadersPut (b f t : List ℕ) (n : ℕ) (l : List ℕ) (w : Option ℕ) (m : List ℕ) (r : Option ℕ) : Type 0 where
   pub adds : SoundLabels b f t n → Adds l w m r (write (list 1024 (text 512 utf8)) (keys (labels b f t n)))
 
 -- THE CARD at p, finished over the state that stands in b: where g is what its legs give, and the labels that were
 -- noted are its headers
-pub record Enriches (g : code.Survey) (n : ℕ) (s : List ℕ) (p : ℕ) (b f t l : List ℕ) (w : Put) (m : List ℕ) (r : Put)
+pub record Enriches (g : code.Survey) (n : ℕ) (s : List ℕ) (p : ℕ) (b f t l : List ℕ) (w : Option ℕ) (m : List ℕ) (r : Option ℕ)
     : Type 0 where
   pub adds : {q : ℕ} {v : Value card} → Here card s p q v → Judged56 card v → {st : State} → StateIn b st
       → gathered_of g ≡ foldl (look (shown st)) nothing (card_of v).legs → SoundLabels b f t n

@@ -1,5 +1,5 @@
 -- Law. A leg finished by look-ups.
-use Rattle.std.specs.Prelude.{◌≡◌, List, ℕ, ◌-◌, ◌/◌, ℤ, pos, negsuc, take, drop}
+use Rattle.std.specs.Prelude.{◌≡◌, List, ℕ, ◌-◌, ◌/◌, ℤ, pos, negsuc, take, drop, Option, Some, None}
 use Rattle.std.proofs.Math.Path.{sym, ap}
 use Rattle.std.proofs.Common.{◌∙◌, arith}
 use Rattle.basics.specs.Options.{Maybe}
@@ -12,18 +12,11 @@ use Rattle.formats_read.specs.Promises.Here.{Here}
 use Rattle.formats_read.specs.Promises.Reads.{ReadsNumber, ReadsText}
 use Rattle.formats_read.specs.Laws.Here.{halves, signed_here}
 use Rattle.formats_skip.specs.Laws.Leads.{lead_field}
-use Rattle.formats.specs.declared.OptionalNumber.{OptionalNumber}
-use Rattle.formats_write.specs.declared.Put.{Put}
 use Rattle.formats_write.specs.Laws.Slices.{slice_is}
 use Rattle.formats_write.specs.Promises.Given.{given_number}
 use Rattle.overlay.specs.Records.{shown}
 use Rattle.overlay.proofs.Laws.Within.{Judged56, left, right}
-use Rattle.overlay_resolve.specs.declared.Resolved.{Resolved}
-use Rattle.overlay_resolve.specs.declared.Resolved.TheVariants as resolves
 use Rattle.overlay_resolve.specs.Promises.Shown.{Resolves, ShowsVehicle, record_for}
-use Rattle.overlay_seek.specs.declared.Found as seek
-use Rattle.overlay_seek.specs.declared.Found.TheVariants as seeks
-use Rattle.overlay_vehicle.specs.declared.OptionalPlace.{OptionalPlace}
 use Rattle.journey.specs.Card.{scheduled}
 use Rattle.journey.specs.Enrich.{seconds, trip_rt, departs, arrives, cancels}
 use Rattle.journey.proofs.Laws.Found.{FoundJudged, resolve_gives}
@@ -35,6 +28,7 @@ use Rattle.journey_stops.specs.Laws.Endpoints.{leg_written}
 use Rattle.journey_stops.specs.Laws.Stops.{found_so}
 use Rattle.journey_finish.specs.declared.RowPlace.{RowPlace}
 use Rattle.journey_finish.specs.Promises.Finish.{LegResolved, RowAt, Looks, LegVehicle, FinishesBy, Finishes}
+use Rattle.vehicle_place.specs.declared.VehiclePlace.{VehiclePlace}
 
 -- a text's bytes as a part of a slice
 part_is : {s : List ℕ} {p a e q : ℕ} {v : List ℕ} {l : ℕ} {c : Class} → ReadsText s p a e → Here (text l c) s p q v
@@ -46,7 +40,7 @@ half (pos n) J = omega arith
 half (negsuc n) J = false_true J.six
 
 module _ {s : List ℕ} {p : ℕ} {P : LegPlaces} (L : LegAt s p P) {b : List ℕ} where
-  pub resolved_in : {a e g i n j : ℕ} (d : OptionalNumber) {r : Resolved} → ReadsText s P.trip a e
+  pub resolved_in : {a e g i n j : ℕ} (d : Option ℕ) {r : Option (ℕ × ℕ)} → ReadsText s P.trip a e
       → ReadsText s P.route g i
       → ((lo hi : ℕ) (v : Maybe ℕ) (q : ℕ) → Here (optional (number lo hi)) s P.direction q v → given_number d ≡ v)
       → ReadsNumber s P.departure n j
@@ -65,7 +59,7 @@ module _ {s : List ℕ} {p : ℕ} {P : LegPlaces} (L : LegAt s p P) {b : List �
         rw (t, o, m, h) at (Q.to S.here S.up);
   }
 
-  pub vehicle_in : {a e : ℕ} {r : OptionalPlace} → ReadsText s P.trip a e
+  pub vehicle_in : {a e : ℕ} {r : Option VehiclePlace} → ReadsText s P.trip a e
       → ShowsVehicle b (take (e - a) (drop a s)) r
       → LegVehicle s p b r
   vehicle_in T Q = record {
@@ -73,20 +67,20 @@ module _ {s : List ℕ} {p : ℕ} {P : LegPlaces} (L : LegAt s p P) {b : List �
         let t = part_is T (halves (lead_field L.trip tt H).here).first in rw t at (Q.to S.here S.up);
   }
 
-pub finished_by : {s : List ℕ} {p q : ℕ} {b : List ℕ} {x : seek.Found} {f : List ℕ} {R : LegRealtime}
-    {y : OptionalPlace} {l m : List ℕ} {w r : Put} → LegKnown s p b x f R → LegVehicle s p b y
+pub finished_by : {s : List ℕ} {p q : ℕ} {b : List ℕ} {x : Option ℕ} {f : List ℕ} {R : LegRealtime}
+    {y : Option VehiclePlace} {l m : List ℕ} {w r : Option ℕ} → LegKnown s p b x f R → LegVehicle s p b y
     → LegAnew R y s p q b x f l w m r
     → FinishesBy s p q b x f l w m r
 finished_by K Y A = record { adds = λ H J {st} S X. leg_written (shown st) H J X (Y.to H S) K A }
 
 -- where the record stands
-module _ {s : List ℕ} {p : ℕ} {b : List ℕ} {x : Resolved} (L : LegResolved s p b x) where
-  pub row_none : x ≡ resolves.Missing → RowAt s p b (record { row = seeks.Missing; from = 0; to = 0 })
+module _ {s : List ℕ} {p : ℕ} {b : List ℕ} {x : Option (ℕ × ℕ)} (L : LegResolved s p b x) where
+  pub row_none : x ≡ None → RowAt s p b (record { row = None; from = 0; to = 0 })
   row_none e =
       record { forward = omega arith; within = omega arith; holds = λ H J S. (L.to H J S).missing e }
 
-  pub row_found : {i j a e : ℕ} → x ≡ resolves.At i j → ReadsText b j a e
-      → RowAt s p b (record { row = seeks.At i; from = a; to = e })
+  pub row_found : {i j a e : ℕ} → x ≡ Some (i, j) → ReadsText b j a e
+      → RowAt s p b (record { row = Some i; from = a; to = e })
   unfolding trip_rt
   row_found {i} {j} g T = record {
     forward = T.forward;
@@ -113,6 +107,6 @@ module _ {s : List ℕ} {p : ℕ} {b : List ℕ} {x : RowPlace} (X : RowAt s p b
     cancels = λ H J S. K.cancels _ (X.holds H J S);
   }
 
-  pub finished : {q : ℕ} {l m : List ℕ} {w r : Put} → FinishesBy s p q b x.row feed l w m r
+  pub finished : {q : ℕ} {l m : List ℕ} {w r : Option ℕ} → FinishesBy s p q b x.row feed l w m r
       → Finishes s p q b l w m r
   finished F = record { adds = λ H J S. F.adds H J S (X.holds H J S) }

@@ -7,7 +7,7 @@ use Rattle.decode_slots.proofs.Ranks.{is_more_means, rank_length, rank_behind, r
 use Rattle.decode_slots.proofs.Settling.{is_same_means, put_over, put_into}
 use Rattle.basics.specs.Lists.{All}
 use Rattle.slices.specs.Lists.{lex_of}
-use Rattle.slices.specs.declared.Order.{Order}
+use Rattle.std.specs.declared.cmp.Ordering.{Ordering}
 use Rattle.maps.specs.Map.{put, ascending}
 use Rattle.maps.specs.Order.{texts}
 use Rattle.maps.specs.Promises.Order.{is_same, is_more}
@@ -106,7 +106,7 @@ pub record Between (o f t : List ℕ) (n : ℕ) (p : Place) (lo hi : ℕ) : Type
   pub high : rank_of texts (bytes_in o p) (labels o f t n) ≤ hi
   pub within : hi ≤ n
 
-pub ordered : {o f t : List ℕ} {p : Place} {a e i : ℕ} {r : Order} → r ≡ lex_of (bytes_in o p) (bytes_in o (a, e))
+pub ordered : {o f t : List ℕ} {p : Place} {a e i : ℕ} {r : Ordering} → r ≡ lex_of (bytes_in o p) (bytes_in o (a, e))
     → a ≡ get_or f i 0 → e ≡ get_or t i 0 → OrderAt o f t i p r
 ordered {o} {p} c a e = record { is = c ∙ ap₂ (λ a e. lex_of (bytes_in o p) (bytes_in o (a, e))) a e }
 
@@ -128,7 +128,7 @@ module _ {o f t : List ℕ} {n : ℕ} (S : SoundLabels o f t n) {p : Place} wher
       pub mid_to : mid < length t
       mid_to = omega (arith, B.within, S.long_to, S.counted)
 
-      module _ {b : Bool} {r : Order} (e : b ≡ is_more r) (d : OrderAt o f t mid p r) where
+      module _ {b : Bool} {r : Ordering} (e : b ≡ is_more r) (d : OrderAt o f t mid p r) where
         pub between_up : b ≡ true → Between o f t n p (mid + 1) hi
         between_up i = record {
           low = omega (
@@ -153,7 +153,7 @@ module _ {o f t : List ℕ} {n : ℕ} (S : SoundLabels o f t n) {p : Place} wher
   pub stands_beyond : {r : ℕ} → n ≤ r → StandsAt o f t n r p false
   stands_beyond {r} h = record { is = rw (le-ltb r n h) refl }
 
-  pub stands_so : {r : ℕ} {b : Bool} {x : Order} → r < n → b ≡ is_same x → OrderAt o f t r p x → StandsAt o f t n r p b
+  pub stands_so : {r : ℕ} {b : Bool} {x : Ordering} → r < n → b ≡ is_same x → OrderAt o f t r p x → StandsAt o f t n r p b
   stands_so {r} h e d = record { is = rw (lt-ltb r n h) (e ∙ ap is_same d.is) }
 
 pub rank_few : {o f t : List ℕ} {n : ℕ} {p : Place} {r : ℕ} → SoundLabels o f t n → Ranks o f t n p r → r ≤ n

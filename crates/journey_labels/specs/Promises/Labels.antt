@@ -2,7 +2,7 @@
 use Rattle.std.specs.Prelude.{ℕ, zero, suc, ◌≤◌, ◌≡◌, Bool, true, ◌&&◌, List, [], ◌∷◌, ltb, length, get_or, drop}
 use Rattle.basics.specs.Lists.{All}
 use Rattle.slices.specs.Lists.{lex_of}
-use Rattle.slices.specs.declared.Order.{Order}
+use Rattle.std.specs.declared.cmp.Ordering.{Ordering}
 use Rattle.maps.specs.Map.{put, ascending}
 use Rattle.maps.specs.Order.{texts}
 use Rattle.maps.specs.Promises.Order.{is_same}
@@ -41,7 +41,7 @@ abbrev pub label_at : List ℕ → List ℕ → List ℕ → ℕ → List ℕ
 label_at o f t i = bytes_in o (get_or f i 0, get_or t i 0)
 
 -- the order of the label at p and the one at rank i
-pub record OrderAt (o f t : List ℕ) (i : ℕ) (p : Place) (r : Order) : Type 0 where
+pub record OrderAt (o f t : List ℕ) (i : ℕ) (p : Place) (r : Ordering) : Type 0 where
   pub is : r ≡ lex_of (bytes_in o p) (label_at o f t i)
 
 -- how many labels stand before the one at p

@@ -1,12 +1,11 @@
 -- Law. A transit leg written anew, part by part.
-use Rattle.std.specs.Prelude.{◌≡◌, refl, Bool, true, false, List, ◌++◌, ℕ, ◌≤◌, ◌<◌, ◌^◌, ℤ, pos, length}
+use Rattle.std.specs.Prelude.{◌≡◌, refl, Bool, true, false, List, ◌++◌, ℕ, ◌≤◌, ◌<◌, ◌^◌, ℤ, pos, length, Option, Some, None}
 use Rattle.std.proofs.Common.{ap, ◌∙◌, append_assoc, arith, SFits, to_z, of_z, to_z-of_z}
 use Rattle.std.proofs.Math.Option.{some}
 use Rattle.std.proofs.Math.Seq.{slice}
 use Rattle.std.specs.Int.{w32, w64}
 use Rattle.formats.specs.Number.{number_w}
 use Rattle.formats.specs.Format.{Value, number, optional, write}
-use Rattle.formats_write.specs.declared.Put.{Put}
 use Rattle.formats_write.specs.Promises.Adds.{Adds}
 use Rattle.formats_write.specs.Laws.Adds.{then, same}
 use Rattle.formats_read.specs.Promises.Fields.{part}
@@ -25,8 +24,6 @@ use Rattle.journey.specs.Enrich.{taken}
 use Rattle.journey_times.specs.declared.StopRealtime.{StopRealtime}
 use Rattle.journey_places.specs.declared.ChangingPlaces.{ChangingPlaces}
 use Rattle.journey_leg.specs.declared.LegRealtime.{LegRealtime}
-use Rattle.overlay_vehicle.specs.declared.OptionalPlace.{OptionalPlace}
-use Rattle.overlay_vehicle.specs.declared.OptionalPlace.TheVariants as places
 use Rattle.journey_leg.specs.Promises.Opens.{Opens}
 use Rattle.journey_leg.specs.Promises.Leg.{given_w, told_w, live_of, new_place, PutsTimes, PutsFlag}
 use Rattle.journey_leg.specs.Promises.Leg.{PutsPlace, PutsMarks, PutsFore, PutsEvent, PutsMiddle}
@@ -42,7 +39,7 @@ widens f = rw (to_z-of_z f) (wide_fits f)
 pub widened : {d : ℤ} → SFits w32 d → to_z w64 (of_z w64 (to_z w32 (of_z w32 d))) ≡ d
 widened f = rw (to_z-of_z f) (to_z-of_z (wide_fits f))
 
-module _ (d a : StopRealtime) {x y : ℤ} {l m n o q : List ℕ} {r i j k h : Put} where
+module _ (d a : StopRealtime) {x y : ℤ} {l m n o q : List ℕ} {r i j k h : Option ℕ} where
   pub all_told : SFits w64 d.time → SFits w64 a.time → SFits w32 d.delay → SFits w32 a.delay
       → SFits w64 x → SFits w64 y → x ≡ to_z w32 (of_z w32 d.delay) → y ≡ to_z w32 (of_z w32 a.delay)
       → Adds l r m i (given_w (to_z w64 (of_z w64 d.time))) → Adds m i n j (given_w (to_z w64 (of_z w64 a.time)))
@@ -53,7 +50,7 @@ module _ (d a : StopRealtime) {x y : ℤ} {l m n o q : List ℕ} {r i j k h : Pu
       (then (same C (ap given_w (to_z-of_z u ∙ X ∙ to_z-of_z g)))
       (same D (ap given_w (to_z-of_z v ∙ Y ∙ to_z-of_z t)))))
 
-module _ {b : Bool} {s : List ℕ} {p t : ℕ} {l m : List ℕ} {w r : Put} where
+module _ {b : Bool} {s : List ℕ} {p t : ℕ} {l m : List ℕ} {w r : Option ℕ} where
   pub times_told : (d a : StopRealtime) → b ≡ true → Adds l w m r (told_w d a) → PutsTimes b d a s p t l w m r
   times_told d a e A = rw e (record {
     opens = λ F. record {
@@ -73,7 +70,7 @@ module _ {b : Bool} {s : List ℕ} {p t : ℕ} {l m : List ℕ} {w r : Put} wher
   pub flag_kept : b ≡ false → (p ≤ t → t ≤ length s → Adds l w m r (slice p t s)) → PutsFlag b s p t l w m r
   flag_kept e A = rw e (record { opens = λ F. copied F A })
 
-place_open : {l m : List ℕ} {w r : Put} {p : VehiclePlace} (v : Vehicle)
+place_open : {l m : List ℕ} {w r : Option ℕ} {p : VehiclePlace} (v : Vehicle)
     → p ≡ place_of (latitude_of v) (longitude_of v) (updated_of v) → latitude_of v < 2 ^ 64 → longitude_of v < 2 ^ 64
     → Adds l w m r (place_w p) → (x : Value (part 16 transit))
     → Opens (part 16 transit) (part 19 transit) l w m r (new_place (some v) x)
@@ -85,25 +82,25 @@ place_open {p} v e g h A x = record {
       ∙ rw (append_assoc, append_assoc) refl;
 }
 
-module _ {v : OptionalPlace} {s : List ℕ} {p t : ℕ} {l m : List ℕ} {w r : Put} where
-  pub place_kept : v ≡ places.Absent → (p ≤ t → t ≤ length s → Adds l w m r (slice p t s)) → PutsPlace v s p t l w m r
+module _ {v : Option VehiclePlace} {s : List ℕ} {p t : ℕ} {l m : List ℕ} {w r : Option ℕ} where
+  pub place_kept : v ≡ None → (p ≤ t → t ≤ length s → Adds l w m r (slice p t s)) → PutsPlace v s p t l w m r
   place_kept e A = rw e (record { opens = λ o S F. rw S (copied F A) })
 
-  pub place_told : {y : VehiclePlace} → v ≡ places.Present y → Adds l w m r (place_w y) → PutsPlace v s p t l w m r
+  pub place_told : {y : VehiclePlace} → v ≡ Some y → Adds l w m r (place_w y) → PutsPlace v s p t l w m r
   place_told e A = rw e (record {
     opens = λ o S {e} {x} F. rw S.1 (place_open S.0 S.2 S.3 S.4 A x);
   })
 
 -- times, flag and place one after another
-pub marks_put : {R : LegRealtime} {b : Bool} {s : List ℕ} {p n t : ℕ} {l m o : List ℕ} {w r k : Put} → b ≡ live_of R
+pub marks_put : {R : LegRealtime} {b : Bool} {s : List ℕ} {p n t : ℕ} {l m o : List ℕ} {w r k : Option ℕ} → b ≡ live_of R
     → PutsTimes b R.departs R.arrives s p n l w m r → PutsFlag R.cancels s n t m r o k
     → PutsMarks R s p n t l w o k
 marks_put {R} {b} {s} {p} {n} {t} {l} {m} {o} {w} {r} e A B =
     let T : PutsTimes (live_of R) R.departs R.arrives s p n l w m r = rw (← e) A in
     record { opens = λ F G. joins (T.opens F) (B.opens G) }
 
-pub fore_put : {R : LegRealtime} {y : OptionalPlace} {s : List ℕ} {p : ℕ} {c : ChangingPlaces} {l m n o : List ℕ}
-    {w r i k : Put} → (p ≤ c.realtime → c.realtime ≤ length s → Adds l w m r (slice p c.realtime s))
+pub fore_put : {R : LegRealtime} {y : Option VehiclePlace} {s : List ℕ} {p : ℕ} {c : ChangingPlaces} {l m n o : List ℕ}
+    {w r i k : Option ℕ} → (p ≤ c.realtime → c.realtime ≤ length s → Adds l w m r (slice p c.realtime s))
     → PutsMarks R s c.realtime c.cancelled c.place m r n i → PutsPlace y s c.place c.middles n i o k
     → PutsFore R y s p c l w o k
 fore_put A B C = record {
@@ -115,7 +112,7 @@ fore_put A B C = record {
       joins (copied F A) (joins (B.opens G H) (C.opens o S I));
 }
 
-module _ (x : StopRealtime) {s : List ℕ} {p q : ℕ} {l m : List ℕ} {w r : Put} where
+module _ (x : StopRealtime) {s : List ℕ} {p q : ℕ} {l m : List ℕ} {w r : Option ℕ} where
   pub event_told : SFits w64 x.time → x.has ≡ true → Adds l w m r (given_w (to_z w64 (of_z w64 x.time)))
       → PutsEvent x s p q l w m r
   event_told f e A = record { adds = λ h. rw (e, ← to_z-of_z f) A }
@@ -123,7 +120,7 @@ module _ (x : StopRealtime) {s : List ℕ} {p q : ℕ} {l m : List ℕ} {w r : P
   pub event_kept : x.has ≡ false → (p ≤ q → q ≤ length s → Adds l w m r (slice p q s)) → PutsEvent x s p q l w m r
   event_kept e A = record { adds = λ h. rw e (kept h A) }
 
-pub middle_put : {a d : StopRealtime} {s : List ℕ} {p e t q : ℕ} {l m n o : List ℕ} {w r i k : Put}
+pub middle_put : {a d : StopRealtime} {s : List ℕ} {p e t q : ℕ} {l m n o : List ℕ} {w r i k : Option ℕ}
     → Leads 3 middle s p e → Passes (optional (number 0 0)) s e t
     → (p ≤ e → e ≤ length s → Adds l w m r (slice p e s)) → PutsEvent a s e t m r n i → PutsEvent d s t q n i o k
     → PutsMiddle a d s p q l w o k

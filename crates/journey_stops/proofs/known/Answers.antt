@@ -6,7 +6,7 @@ pub returns-in_default : goal.returns-in_default
 returns-in_default c = known_none c.in_default.is
 
 pub returns-in_default-find_update : goal.returns-in_default-find_update
-returns-in_default-find_update c = known_trip c.in-At.is c.find_update.ensures c.in_default-find_update.is
+returns-in_default-find_update c = known_trip c.in-Some.is c.find_update.ensures c.in_default-find_update.is
 
 pub returns : goal.returns
-returns c = known_update c.in-At.is c.find_update.ensures c.in-At-find_update.is
+returns c = known_update c.in-Some.is c.find_update.ensures c.in-Some-find_update.is

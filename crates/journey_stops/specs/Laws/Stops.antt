@@ -1,13 +1,12 @@
 -- Law. Look-ups for the stops of a leg, its middle stops and the leg whole: one for each way out of the code.
-use Rattle.std.specs.Prelude.{◌≡◌, List, map, ℕ, ◌-◌, ◌≤◌, ℤ, length, take, drop}
+use Rattle.std.specs.Prelude.{◌≡◌, List, map, ℕ, ◌-◌, ◌≤◌, ℤ, length, take, drop, Option, Some, None}
 use Rattle.std.proofs.Common.{ap, ◌∙◌, inl, SFits, to_z, of_z, to_z-of_z}
-use Rattle.std.proofs.Math.Option.{Option, some}
+use Rattle.std.proofs.Math.Option.{Option as LogicOption, some}
 use Rattle.std.proofs.Math.Seq.{slice}
 use Rattle.std.specs.Int.{w64}
 use Rattle.basics.specs.Options.{Maybe}
 use Rattle.formats.specs.Number.{number_w}
 use Rattle.formats.specs.Format.{Value, number, list, ◌&◌, write}
-use Rattle.formats_write.specs.declared.Put.{Put}
 use Rattle.formats_write.specs.Promises.Adds.{Adds}
 use Rattle.formats_write.specs.Laws.Adds.{then, same}
 use Rattle.formats_write.specs.Laws.Slices.{slice_is}
@@ -22,10 +21,7 @@ use Rattle.formats_skip.specs.Laws.Leads.{lead_field}
 use Rattle.decode.specs.Trip.{stop_update}
 use Rattle.overlay.specs.Lookup.{find_stop_update}
 use Rattle.overlay.proofs.Laws.Within.{Judged56, left, right, elements}
-use Rattle.overlay_seek.specs.declared.Found as seek
-use Rattle.overlay_seek.specs.declared.Found.TheVariants as seeks
 use Rattle.overlay_updates.specs.Promises.Updates.{FindsUpdate}
-use Rattle.overlay_vehicle.specs.declared.OptionalPlace.{OptionalPlace}
 use Rattle.journey.specs.Card.{scheduled, middle, transit}
 use Rattle.journey.specs.Times.{arrival, departure, apply_time}
 use Rattle.journey.proofs.Laws.Found.{Gives, update_gives}
@@ -44,18 +40,19 @@ use Rattle.journey_stops.specs.declared.StopEvents.{StopEvents}
 use Rattle.journey_stops.specs.Promises.Stops.{LooksUp, EventsAt, MiddleEvents, StopAnew, StopsAnew, ListAnew}
 use Rattle.journey_stops.specs.Promises.Stops.{LegAnew, stop_by}
 use Rattle.journey_stops.specs.Laws.Advance.{list_mapped}
+use Rattle.vehicle_place.specs.declared.VehiclePlace.{VehiclePlace}
 
 -- what holds of whatever is found holds of what was
-pub found_so : {A : Type 0} (P : A → Type 0) {o : Option A} {a : A} → o ≡ some a → Gives P o → P a
+pub found_so : {A : Type 0} (P : A → Type 0) {o : LogicOption A} {a : A} → o ≡ some a → Gives P o → P a
 found_so P e g = rw e at g.is
 
 -- what is known of a stop
-module _ {b : List ℕ} {x : seek.Found} {f : List ℕ} {n : Maybe ℕ} {y : List ℕ} where
-  pub known_none : x ≡ seeks.Missing → LooksUp b x f n y knowns.Nothing
+module _ {b : List ℕ} {x : Option ℕ} {f : List ℕ} {n : Maybe ℕ} {y : List ℕ} where
+  pub known_none : x ≡ None → LooksUp b x f n y knowns.Nothing
   known_none e = rw e (record { knows = λ o H. H })
 
-  module _ {p : ℕ} {r : seek.Found} (e : x ≡ seeks.At p) (U : FindsUpdate b p f n y r) where
-    pub known_trip : r ≡ seeks.Missing → LooksUp b x f n y (knowns.Trip p)
+  module _ {p : ℕ} {r : Option ℕ} (e : x ≡ Some p) (U : FindsUpdate b p f n y r) where
+    pub known_trip : r ≡ None → LooksUp b x f n y (knowns.Trip p)
     known_trip g = rw e (record {
       knows = λ o H. (
         H.0,
@@ -65,7 +62,7 @@ module _ {b : List ℕ} {x : seek.Found} {f : List ℕ} {n : Maybe ℕ} {y : Lis
       );
     })
 
-    pub known_update : {u : ℕ} → r ≡ seeks.At u → LooksUp b x f n y (knowns.Update p u)
+    pub known_update : {u : ℕ} → r ≡ Some u → LooksUp b x f n y (knowns.Update p u)
     known_update {u} g = rw e (record {
       knows = λ o H.
           let S = (U.to H.4.1).found u g in
@@ -100,7 +97,7 @@ events_in {s} {p} {m} {a} {d} f g A P D R T = record {
 }
 
 -- those of a middle stop, whose id stands from a up to e
-pub middle_in : {s : List ℕ} {p a e : ℕ} {b : List ℕ} {x : seek.Found} {f : List ℕ} {k : Known} {r : StopEvents}
+pub middle_in : {s : List ℕ} {p a e : ℕ} {b : List ℕ} {x : Option ℕ} {f : List ℕ} {k : Known} {r : StopEvents}
     → ReadsText s p a e → LooksUp b x f (inl tt) (take (e - a) (drop a s)) k → EventsAt s e b k r
     → MiddleEvents s p b x f r
 middle_in {s} {p} {a} {e} T L E = record {
@@ -121,15 +118,15 @@ middle_in {s} {p} {a} {e} T L E = record {
 }
 
 -- a middle stop, and the list of them
-pub stop_put : {s : List ℕ} {p q : ℕ} {b : List ℕ} {x : seek.Found} {f : List ℕ} {e : StopEvents} {l m : List ℕ}
-    {w r : Put} → MiddleEvents s p b x f e → PutsMiddle e.arrival e.departure s p q l w m r
+pub stop_put : {s : List ℕ} {p q : ℕ} {b : List ℕ} {x : Option ℕ} {f : List ℕ} {e : StopEvents} {l m : List ℕ}
+    {w r : Option ℕ} → MiddleEvents s p b x f e → PutsMiddle e.arrival e.departure s p q l w m r
     → StopAnew s p q b x f l w m r
 stop_put {e} M P = record {
   adds = λ o X {v} H J. same (P.adds H)
       (ap (write middle) (middle_is o v e.arrival e.departure (M.arrives H J o X) (M.departs H J o X)));
 }
 
-pub list_put : {s : List ℕ} {p n e : ℕ} {b : List ℕ} {x : seek.Found} {f : List ℕ} {l m k : List ℕ} {w r t : Put}
+pub list_put : {s : List ℕ} {p n e : ℕ} {b : List ℕ} {x : Option ℕ} {f : List ℕ} {l m k : List ℕ} {w r t : Option ℕ}
     → ReadsNumber s p n e → Adds l w m r (number_w n) → StopsAnew s e n b x f m r k t → ListAnew s p b x f l w k t
 list_put N A S = record {
   adds = λ o X {q} {vs} H J.
@@ -142,8 +139,8 @@ judged_middles J =
     right (right (right (right (right (right (right (right (right (right
     (right (right (right (right (right (right (right (right (right J))))))))))))))))))
 
-pub leg_put : {R : LegRealtime} {y : OptionalPlace} {s : List ℕ} {p q t : ℕ} {c : ChangingPlaces} {b : List ℕ}
-    {x : seek.Found} {f : List ℕ} {l m n o : List ℕ} {w r i k : Put} → ChangingAt s p c → PutsFore R y s p c l w m r
+pub leg_put : {R : LegRealtime} {y : Option VehiclePlace} {s : List ℕ} {p q t : ℕ} {c : ChangingPlaces} {b : List ℕ}
+    {x : Option ℕ} {f : List ℕ} {l m n o : List ℕ} {w r i k : Option ℕ} → ChangingAt s p c → PutsFore R y s p c l w m r
     → ListAnew s c.middles b x f m r n i → Passes (list 64 middle) s c.middles t
     → (t ≤ q → q ≤ length s → Adds n i o k (slice t q s)) → LegAnew R y s p q b x f l w o k
 leg_put {s} {q} {t} C F L P A = record {

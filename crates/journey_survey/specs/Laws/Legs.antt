@@ -1,5 +1,5 @@
 -- Law. One leg more in the first pass, legs one after another, and what they come to.
-use Rattle.std.specs.Prelude.{◌≡◌, refl, Bool, true, false, ℕ, suc, ◌+◌, ◌-◌, ◌≤◌, ◌<◌, ℤ, leb, length}
+use Rattle.std.specs.Prelude.{◌≡◌, refl, Bool, true, false, ℕ, suc, ◌+◌, ◌-◌, ◌≤◌, ◌<◌, ℤ, leb, length, Option}
 use Rattle.std.proofs.Common.{sym, ap, ◌∙◌, inl, inr, arith, leb-true, leb-false}
 use mathlib.Core.List.{List, [], ◌∷◌, ◌++◌, append_assoc, map, foldl}
 use Rattle.basics.specs.Lists.{All, concat_map}
@@ -15,7 +15,6 @@ use Rattle.formats_read.specs.Laws.Walk.{Walk, begin, onward, ended, of_list}
 use Rattle.formats_skip.specs.Promises.Passes.{Passes}
 use Rattle.formats_skip.specs.Laws.Passes.{any_optional_signed}
 use Rattle.formats_skip.specs.Laws.Leads.{lead_field}
-use Rattle.formats.specs.declared.OptionalSigned.{OptionalSigned}
 use Rattle.formats_write.specs.Promises.Given.{given_signed}
 use Rattle.alerts.specs.Label.{label}
 use Rattle.overlay.specs.State.{State, overlay}
@@ -43,7 +42,7 @@ use Rattle.journey_survey.specs.Promises.Surveyed.{Gathers, Surveyed}
 use Rattle.journey_survey.specs.Promises.Legs.{MeetsLeg, LegsSeen, LegSurveyed, EachSurveyed}
 
 -- the leg's realtime times as they arrived
-pub meets_leg : {s : List ℕ} {p : ℕ} {P : LegPlaces} {m : ℕ} (d a : OptionalSigned) {G : code.Survey} {R : LegRealtime}
+pub meets_leg : {s : List ℕ} {p : ℕ} {P : LegPlaces} {m : ℕ} (d a : Option ℤ) {G : code.Survey} {R : LegRealtime}
     {x : Bool} {r : code.Survey} → LegAt s p P
     → ((lo hi : ℤ) (v : Value (optional (signed lo hi))) (q : ℕ) → Here (optional (signed lo hi)) s P.realtime q v
     → given_signed d ≡ v)

@@ -2,8 +2,8 @@
 use Rattle.journey_times.specs.Laws.Places.{delay_absent, delay_present}
 use Rattle.journey_times.proofs.optional_delay.Goals as goal
 
-pub returns-in-Absent : goal.returns-in-Absent
-returns-in-Absent c = delay_absent c.in-Absent.is c.optional_signed.ensures
+pub returns-in-None : goal.returns-in-None
+returns-in-None c = delay_absent c.in-None.is c.optional_signed.ensures
 
-pub returns-in-Present : goal.returns-in-Present
-returns-in-Present c = search (delay_present, c.optional_signed.ensures)
+pub returns-in-Some : goal.returns-in-Some
+returns-in-Some c = search (delay_present, c.optional_signed.ensures)

@@ -1,46 +1,42 @@
 -- Law. Events by what is told of them: one for each way out of the code.
-use Rattle.std.specs.Prelude.{◌≡◌, refl, Bool, true, ℤ, pos, ◌+ℤ◌, ◌-ℤ◌}
+use Rattle.std.specs.Prelude.{◌≡◌, refl, Bool, true, ℤ, pos, ◌+ℤ◌, ◌-ℤ◌, Option, Some, None}
 use Rattle.std.proofs.Common.{◌∙◌, SFits, to_z, of_z, to_z-of_z}
 use Rattle.std.specs.Int.{w32, w64}
 use Rattle.basics.specs.Integers.{wrap32}
 use Rattle.basics.specs.Options.{or_other}
 use Rattle.formats_write.specs.Promises.Given.{given_signed}
-use Rattle.formats.specs.declared.OptionalSigned.{OptionalSigned}
-use Rattle.formats.specs.declared.OptionalSigned.TheVariants as signeds
 use Rattle.journey.specs.Times as times
 use Rattle.journey_times.specs.Promises.Realtime.{realtime_of, given_delay, event_by}
 use Rattle.journey_times.specs.declared.EventTimes.{EventTimes}
 use Rattle.journey_times.specs.declared.StopRealtime.{StopRealtime}
-use Rattle.journey_times.specs.declared.OptionalDelay.{OptionalDelay}
-use Rattle.journey_times.specs.declared.OptionalDelay.TheVariants as delays
 
 -- a signed local holds bits: the record that the code makes
 abbrev pub made : ℤ → ℤ → Bool → StopRealtime
 made t d b = record { time = to_z w64 (of_z w64 t); delay = to_z w32 (of_z w32 d); has = b }
 
-module _ {at : ℤ} (f : SFits w64 at) (told : Bool) {d : OptionalDelay} where
-  pub no_delay : d ≡ delays.Absent
+module _ {at : ℤ} (f : SFits w64 at) (told : Bool) {d : Option ℤ} where
+  pub no_delay : d ≡ None
       → realtime_of (record { time = to_z w64 (of_z w64 at); delay = pos 0; has = told })
       ≡ times.delayed at told (given_delay d)
   no_delay e = rw (to_z-of_z f, e) refl
 
-  pub a_delay : {z x : ℤ} → SFits w32 z → SFits w64 x → d ≡ delays.Present z
+  pub a_delay : {z x : ℤ} → SFits w32 z → SFits w64 x → d ≡ Some z
       → x ≡ to_z w64 (of_z w64 at) +ℤ to_z w32 (of_z w32 z)
       → realtime_of (made x z true) ≡ times.delayed at told (given_delay d)
   a_delay g h e k = rw (to_z-of_z h, k, to_z-of_z f, to_z-of_z g, e) refl
 
-module _ {at : ℤ} (f : SFits w64 at) (r : StopRealtime) {t : OptionalSigned} where
-  pub no_time : t ≡ signeds.Absent → realtime_of r ≡ times.timed at (given_signed t) (realtime_of r)
+module _ {at : ℤ} (f : SFits w64 at) (r : StopRealtime) {t : Option ℤ} where
+  pub no_time : t ≡ None → realtime_of r ≡ times.timed at (given_signed t) (realtime_of r)
   no_time e = rw e refl
 
-  pub a_time : {z x : ℤ} → SFits w64 z → SFits w32 x → t ≡ signeds.Present z
+  pub a_time : {z x : ℤ} → SFits w64 z → SFits w32 x → t ≡ Some z
       → x ≡ wrap32 (to_z w64 (of_z w64 z) -ℤ to_z w64 (of_z w64 at))
       → realtime_of (made z x true) ≡ times.timed at (given_signed t) (realtime_of r)
   a_time g h e k = rw (to_z-of_z h, k, to_z-of_z f, to_z-of_z g, e) refl
 
 -- the first given of the times, and of the delays of event, other event and trip
-pub told_by : {at : ℤ} (f : SFits w64 at) (own other : EventTimes) (trip : OptionalDelay) (t : OptionalSigned)
-    (d e : OptionalDelay) (x y : StopRealtime)
+pub told_by : {at : ℤ} (f : SFits w64 at) (own other : EventTimes) (trip : Option ℤ) (t : Option ℤ)
+    (d e : Option ℤ) (x y : StopRealtime)
     → given_delay d ≡ or_other (given_delay own.delay) (given_delay other.delay)
     → given_delay e ≡ or_other (given_delay d) (given_delay trip)
     → given_signed t ≡ or_other (given_signed own.time) (given_signed other.time)

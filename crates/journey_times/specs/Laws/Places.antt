@@ -1,5 +1,5 @@
 -- Law. The optional values of a record and of an update, one after another.
-use Rattle.std.specs.Prelude.{◌≡◌, Bool, true, false, List, ℕ, eqb, ℤ, pos, ◌-ℤ◌}
+use Rattle.std.specs.Prelude.{◌≡◌, Bool, true, false, List, ℕ, eqb, ℤ, pos, ◌-ℤ◌, Option, Some, None}
 use Rattle.std.proofs.Math.Path.{refl}
 use Rattle.std.proofs.Common.{sym, ap, ◌∙◌, inl, inr, arith, SFits, to_z, of_z}
 use Rattle.std.specs.Int.{w32, w64}
@@ -10,8 +10,6 @@ use Rattle.basics.specs.Laws.Booleans.{both_true}
 use Rattle.formats.specs.Format.{Format, Value, number, signed, optional, ◌&◌}
 use Rattle.formats_judge.specs.Judged.{ok}
 use Rattle.formats_write.specs.Promises.Given.{given_signed}
-use Rattle.formats.specs.declared.OptionalSigned.{OptionalSigned}
-use Rattle.formats.specs.declared.OptionalSigned.TheVariants as signeds
 use Rattle.formats_read.specs.Laws.Here.{halves, small_here}
 use Rattle.formats_read.specs.Promises.Fields.{part}
 use Rattle.formats_read.specs.Promises.Here.{Here}
@@ -30,11 +28,9 @@ use Rattle.journey_times.specs.declared.StopRealtime.{StopRealtime}
 use Rattle.journey_times.specs.declared.EventTimes.{EventTimes}
 use Rattle.journey_times.specs.declared.Event.{Event}
 use Rattle.journey_times.specs.declared.Event.TheVariants as kinds
-use Rattle.journey_times.specs.declared.OptionalDelay.{OptionalDelay}
-use Rattle.journey_times.specs.declared.OptionalDelay.TheVariants as delays
 
 -- an optional number of 64 bits
-abbrev pub Signed : List ℕ → ℕ → OptionalSigned → Type 0
+abbrev pub Signed : List ℕ → ℕ → Option ℤ → Type 0
 Signed s p r = (lo hi : ℤ) (v : Maybe ℤ) (q : ℕ) → Here (optional (signed lo hi)) s p q v → given_signed r ≡ v
 
 -- a delay has 32
@@ -44,12 +40,12 @@ present f (inl x) e k = absurd (let y : ◌≡◌ {A = ℕ} 0 1 = cc in omega ar
 present {z} f (inr y) e k = let x : z ≡ y = cc in ap inr (narrowed (f ∙ ap (λ y. wrap32 (y -ℤ pos 0)) x) k)
 
 module _ {s : List ℕ} {p : ℕ} where
-  pub delay_absent : {r : OptionalSigned} → r ≡ signeds.Absent → Signed s p r → ReadsDelay s p delays.Absent
+  pub delay_absent : {r : Option ℤ} → r ≡ None → Signed s p r → ReadsDelay s p None
   delay_absent e h = record { is = λ {q} {v} R. sym (ap given_signed e) ∙ h _ _ v q R.here }
 
-  pub delay_present : {r : OptionalSigned} {z d : ℤ} → r ≡ signeds.Present z → SFits w64 z → SFits w32 d
+  pub delay_present : {r : Option ℤ} {z d : ℤ} → r ≡ Some z → SFits w64 z → SFits w32 d
       → d ≡ wrap32 (to_z w64 (of_z w64 z) -ℤ pos 0) → Signed s p r
-      → ReadsDelay s p (delays.Present (to_z w32 (of_z w32 d)))
+      → ReadsDelay s p (Some (to_z w32 (of_z w32 d)))
   delay_present {r} {z} {d} e f g k h = record {
     is = λ {q} {v} R. ap inr (to_z-of_z g)
         ∙ present (k ∙ ap (λ y. wrap32 (y -ℤ pos 0)) (to_z-of_z f)) v
@@ -72,7 +68,7 @@ module _ {s : List ℕ} {p m : ℕ} (P : Passes (optional (number 0 0)) s p m) w
       → Ranged (optional (signed lo hi) & b) s p q v → Ranged b s m q v.1
   behind_optional R = let h = first_half R in moved ((any_optional_signed P).to h.1.here) h.2
 
-  pub reads_event : {d : OptionalDelay} {t : OptionalSigned} → ReadsDelay s p d
+  pub reads_event : {d : Option ℤ} {t : Option ℤ} → ReadsDelay s p d
       → Signed s m t
       → ReadsEvent s p (record { delay = d; time = t })
   reads_event D T = record {
@@ -100,11 +96,11 @@ events : {s : List ℕ} {u a b q : ℕ} {v : StopUpdate} → ReadsText s u a b �
 events T R = let h = first_half R in moved (T.next h.1.here) h.2
 
 module _ {at : ℤ} (f : SFits w64 at) {s : List ℕ} {p : ℕ} {r : StopRealtime} where
-  pub by_trip : {b : Bool} {d : OptionalDelay} → Cancels s p b → ReadsDelay s p d
+  pub by_trip : {b : Bool} {d : Option ℤ} → Cancels s p b → ReadsDelay s p d
       → realtime_of r ≡ times.delayed (to_z w64 (of_z w64 at)) b (given_delay d) → ByTrip at s p r
   by_trip C D k = record { is = λ R e. k ∙ rw (to_z-of_z f, C.is R.here, D.is (first_half R).1) refl }
 
-  module _ {u a b m : ℕ} {x y : EventTimes} {d : OptionalDelay} (T : ReadsText s u a b) (X : ReadsEvent s b x)
+  module _ {u a b m : ℕ} {x y : EventTimes} {d : Option ℤ} (T : ReadsText s u a b) (X : ReadsEvent s b x)
       (P : PastEvent s b m) (Y : ReadsEvent s m y) (D : ReadsDelay s p d) where
     pub by_arrival : {e : Event} → e ≡ kinds.Arrival → realtime_of r ≡ event_by (to_z w64 (of_z w64 at)) x y d
         → ByUpdate e at s p u r

@@ -1,7 +1,7 @@
 -- Promise. Times of an event as the code holds them: what its values stand for.
-use Rattle.std.specs.Prelude.{◌≡◌, Bool, true, List, ℕ, ◌<◌, ℤ, eqb}
+use Rattle.std.specs.Prelude.{◌≡◌, Bool, true, List, ℕ, ◌<◌, ℤ, eqb, Option, Some, None}
 use Rattle.std.proofs.Common.{inl, inr}
-use Rattle.std.proofs.Math.Option.{Option, none, some}
+use Rattle.std.proofs.Math.Option.{Option as LogicOption, none, some}
 use Rattle.std.specs.Int.Signed.{mag}
 use Rattle.basics.specs.Options.{Maybe, or_other}
 use Rattle.formats.specs.Format.{Format, Value, optional, ◌&◌}
@@ -14,8 +14,6 @@ use Rattle.journey.specs.Card.{scheduled}
 use Rattle.journey.specs.Times as times
 use Rattle.journey_times.specs.declared.StopRealtime.{StopRealtime}
 use Rattle.journey_times.specs.declared.EventTimes.{EventTimes}
-use Rattle.journey_times.specs.declared.OptionalDelay.{OptionalDelay}
-use Rattle.journey_times.specs.declared.OptionalDelay.TheVariants as delays
 use Rattle.journey_times.specs.declared.Known.{Known}
 use Rattle.journey_times.specs.declared.Known.TheVariants as knowns
 use Rattle.journey_times.specs.declared.Event.{Event}
@@ -24,9 +22,9 @@ use Rattle.journey_times.specs.declared.Event.TheVariants as events
 abbrev pub realtime_of : StopRealtime → times.StopRealtime
 realtime_of r = record { time = r.time; delay = r.delay; has = r.has }
 
-abbrev pub given_delay : OptionalDelay → Maybe ℤ
-given_delay delays.Absent = inl tt
-given_delay (delays.Present d) = inr d
+abbrev pub given_delay : Option ℤ → Maybe ℤ
+given_delay None = inl tt
+given_delay (Some d) = inr d
 
 abbrev pub event_of : Event → times.Event
 event_of events.Arrival = times.arrival
@@ -43,7 +41,7 @@ pub record Schedules (s : List ℕ) (p : ℕ) (r : ℤ) : Type 0 where
   pub is : {q : ℕ} {z : ℤ} → Ranged scheduled s p q z → r ≡ z
 
 -- a delay
-pub record ReadsDelay (s : List ℕ) (p : ℕ) (r : OptionalDelay) : Type 0 where
+pub record ReadsDelay (s : List ℕ) (p : ℕ) (r : Option ℤ) : Type 0 where
   pub is : {q : ℕ} {v : Maybe ℤ} → Ranged (optional delay) s p q v → given_delay r ≡ v
 
 -- what an update says of an event, and what stands behind it
@@ -62,7 +60,7 @@ pub record Cancels (s : List ℕ) (p : ℕ) (r : Bool) : Type 0 where
   pub is : {q : ℕ} {t : Trip} → Here trip s p q t → r ≡ eqb (cancelled_of t) 1
 
 -- an event by what is told of it, of the stop's other event, and of the trip
-abbrev pub event_by : ℤ → EventTimes → EventTimes → OptionalDelay → times.StopRealtime
+abbrev pub event_by : ℤ → EventTimes → EventTimes → Option ℤ → times.StopRealtime
 event_by at own other trip =
     times.timed at (or_other (given_signed own.time) (given_signed other.time))
     (times.delayed at true (or_other (or_other (given_delay own.delay) (given_delay other.delay)) (given_delay trip)))
@@ -76,7 +74,7 @@ pub record ByUpdate (e : Event) (at : ℤ) (s : List ℕ) (p u : ℕ) (r : StopR
       → realtime_of r ≡ times.updated (event_of e) at t (some v)
 
 -- what is known of a stop is what look-up finds in the record o: nothing, the record alone, or its update
-abbrev pub Knows : List ℕ → Known → Option FeedTrip → Maybe ℕ → List ℕ → Type 0
+abbrev pub Knows : List ℕ → Known → LogicOption FeedTrip → Maybe ℕ → List ℕ → Type 0
 Knows s knowns.Nothing o sequence stop = o ≡ none
 Knows s (knowns.Trip p) o sequence stop =
     (F : FeedTrip) × (o ≡ some F) × ((q : ℕ) × Ranged trip s p q F.1)
@@ -87,5 +85,5 @@ Knows s (knowns.Update p u) o sequence stop =
     × ((x : ℕ) × Ranged stop_update s u x v))
 
 pub record Applies (e : Event) (at : ℤ) (s : List ℕ) (k : Known) (r : StopRealtime) : Type 0 where
-  pub is : (o : Option FeedTrip) (sequence : Maybe ℕ) (stop : List ℕ) → Knows s k o sequence stop
+  pub is : (o : LogicOption FeedTrip) (sequence : Maybe ℕ) (stop : List ℕ) → Knows s k o sequence stop
       → realtime_of r ≡ times.apply_time o (event_of e) at sequence stop

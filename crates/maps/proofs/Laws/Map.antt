@@ -3,8 +3,8 @@
 use Rattle.std.specs.Prelude.{ℕ, suc, ◌+◌, ◌≤◌, ◌≡◌, refl, true, List, [], ◌∷◌, ◌++◌, length}
 use Rattle.std.proofs.Common.{sym, ap, ◌∙◌, arith}
 use Rattle.std.proofs.Math.Option.{Option, none, some}
-use Rattle.slices.specs.declared.Order.{Order}
-use Rattle.slices.specs.declared.Order.TheVariants.{Less, Same, More}
+use Rattle.std.specs.declared.cmp.Ordering.{Ordering}
+use Rattle.std.specs.declared.cmp.Ordering.TheVariants.{Less, Equal, Greater}
 use Rattle.basics.specs.Options.{or_else}
 use Rattle.basics.specs.Lists.{All}
 use Rattle.basics.specs.Laws.Options.{none_some}
@@ -30,10 +30,10 @@ module _ {K : Type 0} (O : Ordered K) {A : Type 0} where
   last_at k [] = none
   last_at k (e ∷ l) = or_else (last_at k l) (by_order (O.compare k e.0) none (some e.1) none)
 
-pub is_less_means : (o : Order) → is_less o ≡ true → o ≡ Less
+pub is_less_means : (o : Ordering) → is_less o ≡ true → o ≡ Less
 is_less_means Less e = refl
-is_less_means Same e = absurd (let z : ◌≡◌ {A = ℕ} 0 1 = cc in omega arith)
-is_less_means More e = absurd (let z : ◌≡◌ {A = ℕ} 0 1 = cc in omega arith)
+is_less_means Equal e = absurd (let z : ◌≡◌ {A = ℕ} 0 1 = cc in omega arith)
+is_less_means Greater e = absurd (let z : ◌≡◌ {A = ℕ} 0 1 = cc in omega arith)
 
 unsome : {A : Type 0} {a b : A} → some a ≡ some b → a ≡ b
 unsome e = cc
@@ -48,10 +48,10 @@ or_assoc (some v) b c = refl
 
 -- AN ORDER: of two keys that are not one and the same one comes first, and so along
 pub record Lawful {K : Type 0} (O : Ordered K) : Type 0 where
-  pub itself : (a : K) → O.compare a a ≡ Same
-  pub same : (a b : K) → O.compare a b ≡ Same → a ≡ b
-  pub less : (a b : K) → O.compare a b ≡ More → O.compare b a ≡ Less
-  pub more : (a b : K) → O.compare a b ≡ Less → O.compare b a ≡ More
+  pub itself : (a : K) → O.compare a a ≡ Equal
+  pub same : (a b : K) → O.compare a b ≡ Equal → a ≡ b
+  pub less : (a b : K) → O.compare a b ≡ Greater → O.compare b a ≡ Less
+  pub more : (a b : K) → O.compare a b ≡ Less → O.compare b a ≡ Greater
   pub through : (a b c : K) → O.compare a b ≡ Less → O.compare b c ≡ Less → O.compare a c ≡ Less
 
 module _ {K : Type 0} {O : Ordered K} (W : Lawful O) {A : Type 0} where
@@ -61,30 +61,30 @@ module _ {K : Type 0} {O : Ordered K} (W : Lawful O) {A : Type 0} where
   get_put j k v [] = refl
   get_put j k v (e ∷ m) = go (O.compare k e.0) refl (get_put j k v m)
     where
-      rest : Order → Option A
+      rest : Ordering → Option A
       rest o = by_order o (get O j m) (some e.1) (get O j m)
 
-      same : (o : Order) → by_order o (get O j m) (some v) (get O j m) ≡ by_order o (rest o) (some v) (rest o)
+      same : (o : Ordering) → by_order o (get O j m) (some v) (get O j m) ≡ by_order o (rest o) (some v) (rest o)
       same Less = refl
-      same Same = refl
-      same More = refl
+      same Equal = refl
+      same Greater = refl
 
-      more : (p : Order) → O.compare j e.0 ≡ p → O.compare k e.0 ≡ More
+      more : (p : Ordering) → O.compare j e.0 ≡ p → O.compare k e.0 ≡ Greater
           → by_order p (by_order (O.compare j k) (get O j m) (some v) (get O j m)) (some e.1)
           (by_order (O.compare j k) (get O j m) (some v) (get O j m))
           ≡ by_order (O.compare j k) (rest p) (some v) (rest p)
       more Less q h = refl
-      more Same q h = let f : O.compare j k ≡ Less =
+      more Equal q h = let f : O.compare j k ≡ Less =
           ap (λ i. O.compare i k) (W.same j e.0 q) ∙ W.less k e.0 h in rw f
-      more More q h = refl
+      more Greater q h = refl
 
-      go : (o : Order) → O.compare k e.0 ≡ o
+      go : (o : Ordering) → O.compare k e.0 ≡ o
           → get O j (put O k v m) ≡ by_order (O.compare j k) (get O j m) (some v) (get O j m)
           → get O j (by_order o ((k, v) ∷ e ∷ m) ((k, v) ∷ m) (e ∷ put O k v m))
           ≡ by_order (O.compare j k) (get O j (e ∷ m)) (some v) (get O j (e ∷ m))
       go Less h i = refl
-      go Same h i = rw (ap (O.compare j) (sym (W.same k e.0 h))) (same (O.compare j k))
-      go More h i = rw i (more (O.compare j e.0) refl h)
+      go Equal h i = rw (ap (O.compare j) (sym (W.same k e.0 h))) (same (O.compare j k))
+      go Greater h i = rw i (more (O.compare j e.0) refl h)
 
   -- above a key, and above one that is less
   above_less : (j k : K) (m : List (K × A)) → O.compare j k ≡ Less → above O k m ≡ true → above O j m ≡ true
@@ -101,22 +101,22 @@ module _ {K : Type 0} {O : Ordered K} (W : Lawful O) {A : Type 0} where
       b : (is_less (O.compare j e.0) ≡ true) × (above O e.0 m ≡ true)
       b = both_true (is_less (O.compare j e.0)) (above O e.0 m) h
 
-      go : (o : Order) → O.compare k e.0 ≡ o
+      go : (o : Ordering) → O.compare k e.0 ≡ o
           → (O.compare e.0 k ≡ Less → above O e.0 m ≡ true → above O e.0 (put O k v m) ≡ true)
           → above O j (by_order o ((k, v) ∷ e ∷ m) ((k, v) ∷ m) (e ∷ put O k v m)) ≡ true
       go Less p i = rw (l, p) b.1
-      go Same p i = rw (l, W.same k e.0 p) b.1
-      go More p i = rw (is_less_means (O.compare j e.0) b.0) (i (W.less k e.0 p) b.1)
+      go Equal p i = rw (l, W.same k e.0 p) b.1
+      go Greater p i = rw (is_less_means (O.compare j e.0) b.0) (i (W.less k e.0 p) b.1)
 
   pub put_ascending : (k : K) (v : A) (m : List (K × A)) → ascending O m ≡ true → ascending O (put O k v m) ≡ true
   put_ascending k v [] h = refl
   put_ascending k v (e ∷ m) h = go (O.compare k e.0) refl
     where
-      go : (o : Order) → O.compare k e.0 ≡ o
+      go : (o : Ordering) → O.compare k e.0 ≡ o
           → ascending O (by_order o ((k, v) ∷ e ∷ m) ((k, v) ∷ m) (e ∷ put O k v m)) ≡ true
       go Less p = rw p h
-      go Same p = rw (W.same k e.0 p) h
-      go More p = above_put e.0 k v m (W.less k e.0 p) h
+      go Equal p = rw (W.same k e.0 p) h
+      go Greater p = above_put e.0 k v m (W.less k e.0 p) h
 
   pub puts_ascending : (l m : List (K × A)) → ascending O m ≡ true → ascending O (puts O l m) ≡ true
   puts_ascending [] m h = h
@@ -141,14 +141,14 @@ module _ {K : Type 0} {O : Ordered K} (W : Lawful O) {A : Type 0} where
       → ((k : K) → get O k (e ∷ m) ≡ get O k (d ∷ n)) → (k : K) → get O k m ≡ get O k n
   same_rest e d m n g h s f k = go (O.compare k e.0) refl (ap (O.compare k) (sym s)) (f k)
     where
-      go : (o : Order) → O.compare k e.0 ≡ o → O.compare k d.0 ≡ O.compare k e.0
+      go : (o : Ordering) → O.compare k e.0 ≡ o → O.compare k d.0 ≡ O.compare k e.0
           → by_order (O.compare k e.0) (get O k m) (some e.1) (get O k m) ≡
           by_order (O.compare k d.0) (get O k n) (some d.1) (get O k n)
           → get O k m ≡ get O k n
       go Less p q r = rw (q, p) at r
-      go Same p q r =
+      go Equal p q r =
           get_above k m (rw (W.same k e.0 p) g) ∙ sym (get_above k n (rw (W.same k e.0 p ∙ s) h))
-      go More p q r = rw (q, p) at r
+      go Greater p q r = rw (q, p) at r
 
   -- TWO MAPS ARE EQUAL where the same is got at every key
   pub equal_maps : (m n : List (K × A)) → ascending O m ≡ true → ascending O n ≡ true
@@ -159,14 +159,14 @@ module _ {K : Type 0} {O : Ordered K} (W : Lawful O) {A : Type 0} where
   equal_maps (e ∷ m) (d ∷ n) g h f =
       go (O.compare e.0 d.0) refl (equal_maps m n (rest_ascending e m g) (rest_ascending d n h))
     where
-      go : (o : Order) → O.compare e.0 d.0 ≡ o → (((k : K) → get O k m ≡ get O k n) → m ≡ n) → e ∷ m ≡ d ∷ n
+      go : (o : Ordering) → O.compare e.0 d.0 ≡ o → (((k : K) → get O k m ≡ get O k n) → m ≡ n) → e ∷ m ≡ d ∷ n
       go Less p i = none_some (sym (get_above e.0 (d ∷ n) (rw p h)) ∙ sym (f e.0) ∙ get_first e m)
-      go Same p i =
+      go Equal p i =
           let s : e.0 ≡ d.0 = W.same e.0 d.0 p in
           let v : e.1 ≡ d.1 = unsome (sym (get_first e m) ∙ f e.0 ∙ ap (λ k. get O k (d ∷ n)) s ∙ get_first d n) in
           let r : m ≡ n = i (same_rest e d m n g h s f) in
           λ j. (s j, v j) ∷ r j
-      go More p i =
+      go Greater p i =
           none_some (sym (get_above d.0 (e ∷ m) (rw (W.less e.0 d.0 p) g)) ∙ f d.0 ∙ get_first d n)
 
   -- THE FINAL MAP, POINTWISE: at a key stands the value of the last entry that has it, or else the old one
@@ -176,12 +176,12 @@ module _ {K : Type 0} {O : Ordered K} (W : Lawful O) {A : Type 0} where
       get_puts k l (put O e.0 e.1 m) ∙ ap (or_else (last_at O k l)) (get_put k e.0 e.1 m)
       ∙ go (last_at O k l) (O.compare k e.0)
     where
-      go : (a : Option A) (o : Order)
+      go : (a : Option A) (o : Ordering)
           → or_else a (by_order o (get O k m) (some e.1) (get O k m)) ≡
           or_else (or_else a (by_order o none (some e.1) none)) (get O k m)
       go none Less = refl
-      go none Same = refl
-      go none More = refl
+      go none Equal = refl
+      go none Greater = refl
       go (some v) o = refl
 
   keep_ascending : (k : K) (v : A) (m : List (K × A)) → ascending O m ≡ true → ascending O (keep O k v m) ≡ true
@@ -199,14 +199,14 @@ module _ {K : Type 0} {O : Ordered K} (W : Lawful O) {A : Type 0} where
       → get O j (keep O k v m) ≡ or_else (get O j m) (by_order (O.compare j k) none (some v) none)
   get_keep j k v m = go (get O k m) refl (O.compare j k) refl
     where
-      go : (a : Option A) → get O k m ≡ a → (o : Order) → O.compare j k ≡ o
+      go : (a : Option A) → get O k m ≡ a → (o : Ordering) → O.compare j k ≡ o
           → get O j (if_none a (put O k v m) m) ≡ or_else (get O j m) (by_order o none (some v) none)
       go none p Less q = get_put j k v m ∙ rw q (sym (or_none (get O j m)))
-      go none p Same q = get_put j k v m ∙ rw (q, W.same j k q, p)
-      go none p More q = get_put j k v m ∙ rw q (sym (or_none (get O j m)))
+      go none p Equal q = get_put j k v m ∙ rw (q, W.same j k q, p)
+      go none p Greater q = get_put j k v m ∙ rw q (sym (or_none (get O j m)))
       go (some w) p Less q = sym (or_none (get O j m))
-      go (some w) p Same q = rw (W.same j k q, p)
-      go (some w) p More q = sym (or_none (get O j m))
+      go (some w) p Equal q = rw (W.same j k q, p)
+      go (some w) p Greater q = sym (or_none (get O j m))
 
   pub get_keeps : (k : K) (l m : List (K × A)) → get O k (keeps O l m) ≡ or_else (get O k m) (last_at O k l)
   get_keeps k [] m = sym (or_none (get O k m))
@@ -222,11 +222,11 @@ module _ {K : Type 0} {O : Ordered K} (W : Lawful O) {A : Type 0} where
       ap (λ a. or_else a (by_order (O.compare k e.0) none (some e.1) none))
       (last_at_map k m (rest_ascending e m h)) ∙ go (O.compare k e.0) refl
     where
-      go : (o : Order) → O.compare k e.0 ≡ o
+      go : (o : Ordering) → O.compare k e.0 ≡ o
           → or_else (get O k m) (by_order o none (some e.1) none) ≡ by_order o (get O k m) (some e.1) (get O k m)
       go Less p = or_none (get O k m)
-      go Same p = rw (get_above k m (rw (W.same k e.0 p) h))
-      go More p = or_none (get O k m)
+      go Equal p = rw (get_above k m (rw (W.same k e.0 p) h))
+      go Greater p = or_none (get O k m)
 
   -- the entries of a map, one after the other, are the map
   pub puts_itself : (m : List (K × A)) → ascending O m ≡ true → puts O m [] ≡ m
@@ -249,13 +249,13 @@ module _ {K : Type 0} (O : Ordered K) {A B : Type 0} (f : A → B) where
   map_put k v [] = refl
   map_put k v (e ∷ m) = go (O.compare k e.0) (map_put k v m)
     where
-      go : (o : Order) → map_values f (put O k v m) ≡ put O k (f v) (map_values f m)
+      go : (o : Ordering) → map_values f (put O k v m) ≡ put O k (f v) (map_values f m)
           → map_values f (by_order o ((k, v) ∷ e ∷ m) ((k, v) ∷ m) (e ∷ put O k v m))
           ≡ by_order o ((k, f v) ∷ map_values f (e ∷ m)) ((k, f v) ∷ map_values f m)
           ((e.0, f e.1) ∷ put O k (f v) (map_values f m))
       go Less i = refl
-      go Same i = refl
-      go More i = ap (◌∷◌ (e.0, f e.1)) i
+      go Equal i = refl
+      go Greater i = ap (◌∷◌ (e.0, f e.1)) i
 
   pub map_puts : (l m : List (K × A)) → map_values f (puts O l m) ≡ puts O (map_values f l) (map_values f m)
   map_puts [] m = refl
@@ -275,11 +275,11 @@ module _ {K : Type 0} (O : Ordered K) {A : Type 0} where
   put_longer k v [] = omega arith
   put_longer k v (e ∷ m) = go (O.compare k e.0) (put_longer k v m)
     where
-      go : (o : Order) → length m ≤ length (put O k v m)
+      go : (o : Ordering) → length m ≤ length (put O k v m)
           → suc (length m) ≤ length (by_order o ((k, v) ∷ e ∷ m) ((k, v) ∷ m) (e ∷ put O k v m))
       go Less i = omega arith
-      go Same i = omega arith
-      go More i = omega (arith, i)
+      go Equal i = omega arith
+      go Greater i = omega (arith, i)
 
   pub puts_longer : (l m : List (K × A)) → length m ≤ length (puts O l m)
   puts_longer [] m = omega arith
@@ -290,11 +290,11 @@ module _ {K : Type 0} (O : Ordered K) {A : Type 0} where
   put_one_more k v [] = omega arith
   put_one_more k v (e ∷ m) = go (O.compare k e.0) (put_one_more k v m)
     where
-      go : (o : Order) → length (put O k v m) ≤ suc (length m)
+      go : (o : Ordering) → length (put O k v m) ≤ suc (length m)
           → length (by_order o ((k, v) ∷ e ∷ m) ((k, v) ∷ m) (e ∷ put O k v m)) ≤ suc (suc (length m))
       go Less i = omega arith
-      go Same i = omega arith
-      go More i = omega (arith, i)
+      go Equal i = omega arith
+      go Greater i = omega (arith, i)
 
   pub puts_most : (l m : List (K × A)) → length (puts O l m) ≤ length l + length m
   puts_most [] m = omega arith
@@ -305,10 +305,10 @@ module _ {K : Type 0} (O : Ordered K) {A : Type 0} where
   put_all P k v [] p h = (p, tt)
   put_all P k v (e ∷ m) p h = go (O.compare k e.0) (put_all P k v m p h.1)
     where
-      go : (o : Order) → All P (put O k v m) → All P (by_order o ((k, v) ∷ e ∷ m) ((k, v) ∷ m) (e ∷ put O k v m))
+      go : (o : Ordering) → All P (put O k v m) → All P (by_order o ((k, v) ∷ e ∷ m) ((k, v) ∷ m) (e ∷ put O k v m))
       go Less i = (p, h)
-      go Same i = (p, h.1)
-      go More i = (h.0, i)
+      go Equal i = (p, h.1)
+      go Greater i = (h.0, i)
 
   pub puts_all : (P : K × A → Type 0) (l m : List (K × A)) → All P l → All P m → All P (puts O l m)
   puts_all P [] m g h = h

@@ -5,8 +5,8 @@ use Rattle.std.proofs.Common.{sym, ◌∙◌}
 use Rattle.std.proofs.Math.Path.{ap}
 use Rattle.std.proofs.Math.Option.{Option, none, some, get_or}
 use Rattle.std.proofs.Math.Dec.{leb}
-use Rattle.slices.specs.declared.Order.{Order}
-use Rattle.slices.specs.declared.Order.TheVariants.{Less, Same, More}
+use Rattle.std.specs.declared.cmp.Ordering.{Ordering}
+use Rattle.std.specs.declared.cmp.Ordering.TheVariants.{Less, Equal, Greater}
 use Rattle.basics.specs.Lists.{all}
 use Rattle.formats.specs.Format.{list, optional, ◌&◌}
 use Rattle.formats_judge.specs.Judged.{ok}
@@ -38,11 +38,11 @@ put_all {K} {A} O p k v (e ∷ m) h = go (O.compare k e.0) (put_all O p k v m q.
     q : (p e ≡ true) × (all p m ≡ true)
     q = both_true (p e) (all p m) h
 
-    go : (o : Order) → all p (put O k v m) ≡ p (k, v)
+    go : (o : Ordering) → all p (put O k v m) ≡ p (k, v)
         → all p (by_order o ((k, v) ∷ e ∷ m) ((k, v) ∷ m) (e ∷ put O k v m)) ≡ p (k, v)
     go Less ih = and_yes (p (k, v)) (p e && all p m) h
-    go Same ih = and_yes (p (k, v)) (all p m) q.1
-    go More ih = rw q.0 ih
+    go Equal ih = and_yes (p (k, v)) (all p m) q.1
+    go Greater ih = rw q.0 ih
 
 -- the lists of one feed
 seven_feed : (f : List ℕ) (F : Feed)

@@ -3,8 +3,8 @@ use Rattle.std.specs.Prelude.{◌≡◌, refl, Bool, true, false, cond, List, []
 use Rattle.std.proofs.Common.{ap}
 use Rattle.std.proofs.Math.Option.{some}
 use Rattle.std.specs.Int.Signed.{lt_z}
-use Rattle.slices.specs.declared.Order.{Order}
-use Rattle.slices.specs.declared.Order.TheVariants.{Less, Same, More}
+use Rattle.std.specs.declared.cmp.Ordering.{Ordering}
+use Rattle.std.specs.declared.cmp.Ordering.TheVariants.{Less, Equal, Greater}
 use Rattle.basics.specs.Lists.{All, all}
 use Rattle.basics.specs.Laws.Options.{none_some}
 use Rattle.overlay.proofs.Laws.Within.{both}
@@ -40,10 +40,10 @@ module _ {K : Type 0} (O : Ordered K) {A : Type 0} (P : K × A → Type 0) where
   each_put k v [] h e = (h, tt)
   each_put k v (x ∷ m) h e = go (O.compare k x.0) (each_put k v m h e.1)
     where
-      go : (o : Order) → All P (put O k v m) → All P (by_order o ((k, v) ∷ x ∷ m) ((k, v) ∷ m) (x ∷ put O k v m))
+      go : (o : Ordering) → All P (put O k v m) → All P (by_order o ((k, v) ∷ x ∷ m) ((k, v) ∷ m) (x ∷ put O k v m))
       go Less ih = (h, e)
-      go Same ih = (h, e.1)
-      go More ih = (e.0, ih)
+      go Equal ih = (h, e.1)
+      go Greater ih = (e.0, ih)
 
   pub each_puts : (l m : List (K × A)) → All P l → All P m → All P (puts O l m)
   each_puts [] m h e = e
@@ -54,11 +54,11 @@ module _ {K : Type 0} (O : Ordered K) {A : Type 0} (P : K × A → Type 0) where
   put_each k v [] e = e.0
   put_each k v (x ∷ m) e = go (O.compare k x.0) e (put_each k v m)
     where
-      go : (o : Order) → All P (by_order o ((k, v) ∷ x ∷ m) ((k, v) ∷ m) (x ∷ put O k v m))
+      go : (o : Ordering) → All P (by_order o ((k, v) ∷ x ∷ m) ((k, v) ∷ m) (x ∷ put O k v m))
           → (All P (put O k v m) → P (k, v)) → P (k, v)
       go Less h ih = h.0
-      go Same h ih = h.0
-      go More h ih = ih h.1
+      go Equal h ih = h.0
+      go Greater h ih = ih h.1
 
 -- the entry that is got
 module _ {K : Type 0} {O : Ordered K} (W : Lawful O) {A : Type 0} (P : K × A → Type 0) where
@@ -66,11 +66,11 @@ module _ {K : Type 0} {O : Ordered K} (W : Lawful O) {A : Type 0} (P : K × A �
   get_each k v [] e g = none_some g
   get_each k v (x ∷ m) e g = go (O.compare k x.0) refl g (get_each k v m e.1)
     where
-      go : (o : Order) → O.compare k x.0 ≡ o → by_order o (get O k m) (some x.1) (get O k m) ≡ some v
+      go : (o : Ordering) → O.compare k x.0 ≡ o → by_order o (get O k m) (some x.1) (get O k m) ≡ some v
           → (get O k m ≡ some v → P (k, v)) → P (k, v)
       go Less c h ih = ih h
-      go Same c h ih = let a : k ≡ x.0 = W.same k x.0 c in let b : x.1 ≡ v = cc in rw (a, ← b) e.0
-      go More c h ih = ih h
+      go Equal c h ih = let a : k ≡ x.0 = W.same k x.0 c in let b : x.1 ≡ v = cc in rw (a, ← b) e.0
+      go Greater c h ih = ih h
 
 -- dropping the stale vehicles keeps what holds of each, and the order
 pub each_stale : (P : List ℕ × Vehicle → Type 0) (clock : ℤ) (m : Vehicles) → All P m → All P (without_stale clock m)

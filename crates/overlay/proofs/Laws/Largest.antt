@@ -6,7 +6,7 @@ use Rattle.formats.specs.Class.{printable, token, allowed}
 use Rattle.basics.specs.Lists.{all}
 use Rattle.formats.specs.Format.{small, text, list, optional, constant, ◌&◌, write}
 use Rattle.slices.specs.Lists.{lex_of}
-use Rattle.slices.specs.declared.Order.TheVariants.{Less}
+use Rattle.std.specs.declared.cmp.Ordering.TheVariants.{Less}
 use Rattle.decode.specs.Trip.{trip_entry, Trip, StopUpdate, id, delay, number32, stop_update, trip, trip_with}
 use Rattle.maps.specs.Map.{ascending}
 use Rattle.maps.specs.Order.{texts, numbers}

@@ -3,8 +3,8 @@ use Rattle.std.specs.Prelude.{◌≡◌, refl, Bool, true, false, cond, ◌&&◌
 use Rattle.std.proofs.Common.{ap, ◌∙◌, arith, eq-eqb, ne_eqb, ltb-true, ltb-false}
 use Rattle.std.proofs.Math.Option.{Option, none, some, map, get_or}
 use Rattle.slices.specs.Lists.{lex_of}
-use Rattle.slices.specs.declared.Order.{Order}
-use Rattle.slices.specs.declared.Order.TheVariants.{Less, Same, More}
+use Rattle.std.specs.declared.cmp.Ordering.{Ordering}
+use Rattle.std.specs.declared.cmp.Ordering.TheVariants.{Less, Equal, Greater}
 use Rattle.maps.specs.Map.{by_order, get}
 use Rattle.maps.specs.Promises.Order.{is_same}
 use Rattle.maps.specs.Order.{texts}
@@ -24,7 +24,7 @@ same_lex (x ∷ a) [] = refl
 same_lex (x ∷ a) (y ∷ b) = go (ltb x y) refl (ltb y x) refl (same_lex a b)
   where
     go : (s : Bool) → ltb x y ≡ s → (t : Bool) → ltb y x ≡ t → same a b ≡ is_same (lex_of a b)
-        → (eqb x y && same a b) ≡ is_same (cond s Less (cond t More (lex_of a b)))
+        → (eqb x y && same a b) ≡ is_same (cond s Less (cond t Greater (lex_of a b)))
     go true p t q ih = rw (ne_eqb x y (λ e. omega (arith, ltb-true x y p))) refl
     go false p true q ih = rw (ne_eqb x y (λ e. omega (arith, ltb-true y x q))) refl
     go false p false q ih = rw (eq-eqb x y (omega (arith, ltb-false x y p, ltb-false y x q))) ih
@@ -35,12 +35,12 @@ pub shown_put : (f : List ℕ) (F : Feed) (n : ℕ) (s : State) (g : List ℕ)
 unfolding shown put_feed
 shown_put f F n s g = ap (map records_of) (get_put texts_order g f F (feeds_of s)) ∙ go (lex_of g f) refl
   where
-    go : (o : Order) → lex_of g f ≡ o
+    go : (o : Ordering) → lex_of g f ≡ o
         → map records_of (by_order o (get texts g (feeds_of s)) (some F) (get texts g (feeds_of s)))
         ≡ cond (same g f) (some (records_of F)) (map records_of (get texts g (feeds_of s)))
     go Less e = rw (same_lex g f, e) refl
-    go Same e = rw (same_lex g f, e) refl
-    go More e = rw (same_lex g f, e) refl
+    go Equal e = rw (same_lex g f, e) refl
+    go Greater e = rw (same_lex g f, e) refl
 
 -- the records of a feed, made where missing
 pub shown_at : (f : List ℕ) (s : State)

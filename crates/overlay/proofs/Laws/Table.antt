@@ -7,7 +7,7 @@ use Rattle.std.proofs.Common.{arith, zero-mul, length-append}
 use Rattle.std.proofs.Math.Nat.{suc-mul}
 use Rattle.formats.specs.Readers.{many_w}
 use Rattle.basics.specs.Lists.{All, all}
-use Rattle.slices.specs.declared.Order.TheVariants.{Less}
+use Rattle.std.specs.declared.cmp.Ordering.TheVariants.{Less}
 use Rattle.maps.specs.Map.{Ordered, is_less, above, ascending}
 use Rattle.overlay.proofs.Laws.Within.{both}
 

@@ -11,14 +11,14 @@ returns-in-Less c =
     ap is_less (sym c.in-Less.is)
     ∙ precedes_is c.args.sheet.now P.a_le_e.0 P.a_le_e.1 P.b_le_f.0 P.b_le_f.1 c.compare.ensures
 
-pub returns-in-Same : goal.returns-in-Same
-returns-in-Same c =
+pub returns-in-Equal : goal.returns-in-Equal
+returns-in-Equal c =
     let P = c.requires in
-    ap is_less (sym c.in-Same.is)
+    ap is_less (sym c.in-Equal.is)
     ∙ precedes_is c.args.sheet.now P.a_le_e.0 P.a_le_e.1 P.b_le_f.0 P.b_le_f.1 c.compare.ensures
 
-pub returns-in-More : goal.returns-in-More
-returns-in-More c =
+pub returns-in-Greater : goal.returns-in-Greater
+returns-in-Greater c =
     let P = c.requires in
-    ap is_less (sym c.in-More.is)
+    ap is_less (sym c.in-Greater.is)
     ∙ precedes_is c.args.sheet.now P.a_le_e.0 P.a_le_e.1 P.b_le_f.0 P.b_le_f.1 c.compare.ensures

@@ -3,7 +3,7 @@ use Rattle.std.specs.Prelude.{◌≡◌, refl, Bool, true, false, ◌&&◌, List
 use Rattle.std.proofs.Common.{sym, ap, ◌∙◌, arith}
 use Rattle.std.proofs.Math.Seq.{slice}
 use Rattle.slices.specs.Lists.{lex_of}
-use Rattle.slices.specs.declared.Order.{Order}
+use Rattle.std.specs.declared.cmp.Ordering.{Ordering}
 use Rattle.maps.specs.Map.{is_less, above, ascending}
 use Rattle.maps.specs.Order.{texts}
 use Rattle.formats_write.specs.Laws.Slices.{slice_is}
@@ -16,7 +16,7 @@ use Rattle.overlay.specs.State.{Vehicles, vehicle_entry}
 use Rattle.overlay_ascends.specs.Promises.Ascends.{Ascends}
 
 -- the order of two keys
-pub precedes_is : (s : List ℕ) {a e b f : ℕ} {o : Order} → a ≤ e → e ≤ length s → b ≤ f → f ≤ length s
+pub precedes_is : (s : List ℕ) {a e b f : ℕ} {o : Ordering} → a ≤ e → e ≤ length s → b ≤ f → f ≤ length s
     → o ≡ lex_of (take (e - a) (drop a s)) (take (f - b) (drop b s))
     → is_less o ≡ is_less (lex_of (slice a e s) (slice b f s))
 precedes_is s {a} {e} {b} {f} h k i j o = rw (← slice_is a e s h k, ← slice_is b f s i j) (ap is_less o)

@@ -1,10 +1,9 @@
 -- Law. A feed's body by its parts.
-use Rattle.std.specs.Prelude.{◌≡◌, List, ◌++◌, ℕ, ◌≤◌, length}
+use Rattle.std.specs.Prelude.{◌≡◌, List, ◌++◌, ℕ, ◌≤◌, length, Option}
 use Rattle.std.proofs.Common.{sym, ap, ◌∙◌, append_assoc, arith}
 use Rattle.std.proofs.Math.Seq.{slice}
 use Rattle.formats.specs.Number.{number_w}
 use Rattle.formats.specs.Format.{Format, list, optional, ◌&◌, Value, write}
-use Rattle.formats_write.specs.declared.Put.{Put}
 use Rattle.formats_write.specs.Promises.Adds.{Adds}
 use Rattle.formats_write.specs.Laws.Adds.{then, same}
 use Rattle.formats_write.specs.Laws.Slices.{slice_join}
@@ -39,7 +38,7 @@ regroup : (a b c d e : List ℕ) → (a ++ (b ++ (c ++ d))) ++ e ≡ a ++ (b ++ 
 regroup a b c d e = simp append_assoc
 
 -- AN ALERT SHEET: the feed's parts up to its alerts, and the sheet's
-module _ {sheet : List ℕ} {vs : List Alert} (A : AlertsIn sheet vs) {l m o : List ℕ} {r q j : Put} where
+module _ {sheet : List ℕ} {vs : List Alert} (A : AlertsIn sheet vs) {l m o : List ℕ} {r q j : Option ℕ} where
   pub alerts_over : {old : List ℕ} {F : Feed} {p e : ℕ} {P : Parts} → PartsOf old F p e P
       → (p ≤ P.alerts → P.alerts ≤ length old → Adds l r m q (slice p P.alerts old))
       → (1 ≤ length sheet → length sheet ≤ length sheet → Adds m q o j (slice 1 (length sheet) sheet))
@@ -73,7 +72,7 @@ module _ {sheet old : List ℕ} {at n a m b limit : ℕ} (N : ReadsNumber sheet 
   pub left_counted : {r : ℕ} → Counts sheet a n old b m limit r → Left sheet old at limit r
   left_counted C = record { of = λ xs ys clock e I. C.of xs ys clock e (both_of I N M) }
 
-  pub left_written : {l o i : List ℕ} {r q j : Put} {kept : ℕ} → Adds l r o q (number_w kept)
+  pub left_written : {l o i : List ℕ} {r q j : Option ℕ} {kept : ℕ} → Adds l r o q (number_w kept)
       → Writes o q i j sheet a n old b m limit → Lists l r i j sheet old at limit kept
   left_written {kept} A W = record {
     of = λ xs ys clock e I k. then (same A (ap number_w k)) (W.of xs ys clock e (both_of I N M));
@@ -83,7 +82,7 @@ regroup_left : (a b c d e : List ℕ) → ((a ++ (b ++ c)) ++ d) ++ e ≡ a ++ (
 regroup_left a b c d e = simp append_assoc
 
 module _ {old : List ℕ} {F : Feed} {p e : ℕ} {P : Parts} (S : PartsOf old F p e P) where
-  module _ {l m o i : List ℕ} {r q j z : Put} where
+  module _ {l m o i : List ℕ} {r q j z : Option ℕ} where
     pub front_written : {n c : ℕ}
         → (p ≤ P.counted → P.counted ≤ length old → Adds l r m q (slice p P.counted old))
         → ReadsNumber old P.trips n c → Adds m q o j (number_w n)

@@ -1,10 +1,9 @@
 -- Promise. A feed's body as a sheet leaves it: where its parts stand, and what is written.
-use Rattle.std.specs.Prelude.{◌≡◌, true, List, ◌++◌, ℕ, ℤ, pos, ◌-ℤ◌, length}
+use Rattle.std.specs.Prelude.{◌≡◌, true, List, ◌++◌, ℕ, ℤ, pos, ◌-ℤ◌, length, Option}
 use Rattle.maps.specs.Map.{puts, ascending}
 use Rattle.maps.specs.Order.{texts}
 use Rattle.formats.specs.Number.{number_w, zag}
 use Rattle.formats.specs.Format.{list, optional, write}
-use Rattle.formats_write.specs.declared.Put.{Put}
 use Rattle.formats_write.specs.Promises.Adds.{Adds}
 use Rattle.formats_read.specs.Promises.Here.{Here}
 use Rattle.decode.specs.Sizes.{most_trips}
@@ -50,7 +49,7 @@ front_w F =
     ++ (number_w (length (trips_of F)) ++ write (list most_trips trip_entry) (trips_of F))
 
 -- the list of the vehicles that are left: `kept` of them
-pub record Lists (l : List ℕ) (r : Put) (m : List ℕ) (q : Put) (sheet old : List ℕ) (at limit kept : ℕ) : Type 0 where
+pub record Lists (l : List ℕ) (r : Option ℕ) (m : List ℕ) (q : Option ℕ) (sheet old : List ℕ) (at limit kept : ℕ) : Type 0 where
   pub of : (xs ys : Vehicles) (clock : ℤ) → zag limit ≡ clock -ℤ pos 900 → VehiclesIn sheet old at xs ys
       → kept ≡ length (without_stale clock (puts texts xs ys))
       → Adds l r m q (write (list 1024 vehicle_entry) (without_stale clock (puts texts xs ys)))

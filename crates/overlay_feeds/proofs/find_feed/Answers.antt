@@ -9,8 +9,8 @@ loop-left-init c = seek_start
 pub returns-in-Less : goal.returns-in-Less
 returns-in-Less c = search feed_less
 
-pub returns-in-Same : goal.returns-in-Same
-returns-in-Same c = search feed_same
+pub returns-in-Equal : goal.returns-in-Equal
+returns-in-Equal c = search feed_same
 
 pub loop-left-preserved : goal.loop-left-preserved
 loop-left-preserved c = search seek_on

@@ -4,17 +4,17 @@ use Rattle.std.proofs.Common.{ap}
 use Rattle.std.proofs.Math.Option.{none}
 use Rattle.basics.specs.Lists.{All}
 use Rattle.basics.specs.Laws.Booleans.{both_true}
-use Rattle.slices.specs.declared.Order.TheVariants.{Less, More}
+use Rattle.std.specs.declared.cmp.Ordering.TheVariants.{Less, Greater}
 use Rattle.maps.specs.Map.{Ordered, is_less, get, put, above, ascending}
 use Rattle.maps.proofs.Laws.Map.{Lawful, is_less_means, rest_ascending}
 
 module _ {K : Type 0} (O : Ordered K) {A : Type 0} (k : K) where
-  pub get_past : (front back : List (K × A)) → All (λ e. O.compare k e.0 ≡ More) front
+  pub get_past : (front back : List (K × A)) → All (λ e. O.compare k e.0 ≡ Greater) front
       → get O k (front ++ back) ≡ get O k back
   get_past [] back h = refl
   get_past (e ∷ front) back h = rw h.0 (get_past front back h.1)
 
-  pub put_past : (v : A) (front back : List (K × A)) → All (λ e. O.compare k e.0 ≡ More) front
+  pub put_past : (v : A) (front back : List (K × A)) → All (λ e. O.compare k e.0 ≡ Greater) front
       → put O k v (front ++ back) ≡ front ++ put O k v back
   put_past v [] back h = refl
   put_past v (e ∷ front) back h = rw h.0 (ap (◌∷◌ e) (put_past v front back h.1))

@@ -1,8 +1,7 @@
 -- Law. The parts of a feed, by the passes over them.
-use Rattle.std.specs.Prelude.{◌≡◌, List, ℕ, ℤ}
+use Rattle.std.specs.Prelude.{◌≡◌, List, ℕ, ℤ, Option}
 use Rattle.std.proofs.Common.{sym}
 use Rattle.formats.specs.Format.{number, signed, list, optional, Value}
-use Rattle.formats.specs.declared.OptionalSigned.{OptionalSigned}
 use Rattle.formats_write.specs.Promises.Given.{given_signed}
 use Rattle.formats_read.specs.Promises.Here.{Here}
 use Rattle.formats_read.specs.Promises.Reads.{ReadsNumber}
@@ -18,7 +17,7 @@ use Rattle.overlay_feeds.specs.declared.Parts.{Parts}
 use Rattle.overlay_feeds.specs.Promises.Parts.{ReadsFront, ReadsBack, ReadsParts}
 use Rattle.overlay_feeds.specs.Laws.Head.{begins, ends}
 
-pub front_of : {b : List ℕ} {p c n t : ℕ} {z : OptionalSigned}
+pub front_of : {b : List ℕ} {p c n t : ℕ} {z : Option ℤ}
     → ((lo hi : ℤ) (u : Value (optional (signed lo hi))) (q : ℕ) → Here (optional (signed lo hi)) b p q u
     → given_signed z ≡ u)
     → Passes (optional (number 0 0)) b p c → ReadsNumber b c n t

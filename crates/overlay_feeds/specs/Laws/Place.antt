@@ -4,8 +4,8 @@ use Rattle.std.proofs.Common.{sym, ap, ◌∙◌, arith}
 use Rattle.std.proofs.Math.Seq.{length-slice}
 use Rattle.std.proofs.Math.Option.{none}
 use Rattle.slices.specs.Lists.{lex_of}
-use Rattle.slices.specs.declared.Order.{Order}
-use Rattle.slices.specs.declared.Order.TheVariants.{Less, Same, More}
+use Rattle.std.specs.declared.cmp.Ordering.{Ordering}
+use Rattle.std.specs.declared.cmp.Ordering.TheVariants.{Less, Equal, Greater}
 use Rattle.maps.specs.Map.{get, put, ascending}
 use Rattle.maps.specs.Order.{texts}
 use Rattle.maps.proofs.Laws.Order.{texts_order, lex_same}
@@ -27,18 +27,18 @@ use Rattle.overlay_feeds.specs.Laws.Head.{begins, ends}
 use Rattle.overlay_feeds.specs.Laws.Look.{Looking, Stopped, look_start, look_on, look_stop}
 use Rattle.overlay_feeds.specs.Laws.Map.{get_past, put_past, back_ascending, get_below}
 
-pub compares : {s : List ℕ} {p a e : ℕ} {x : List ℕ} {r : Order} → ReadsText s p a e
+pub compares : {s : List ℕ} {p a e : ℕ} {x : List ℕ} {r : Ordering} → ReadsText s p a e
     → r ≡ lex_of x (take (e - a) (drop a s)) → Compares s p x r
 compares {s} {p} {a} {e} {x} T c = record {
   to = λ h. c ∙ ap (lex_of x) (slice_is a e s T.forward T.within ∙ T.bytes h);
 }
 
-told : {s : List ℕ} {p : ℕ} {x : List ℕ} {r o : Order} → Compares s p x r → r ≡ o → Compares s p x o
+told : {s : List ℕ} {p : ℕ} {x : List ℕ} {r o : Ordering} → Compares s p x r → r ≡ o → Compares s p x o
 told C e = rw e at C
 
 -- every feed behind the walk has an id that comes before f
 abbrev pub Before : List ℕ → List ℕ × Feed → Type 0
-Before f e = lex_of f e.0 ≡ More
+Before f e = lex_of f e.0 ≡ Greater
 
 pub record Seeking (s f : List ℕ) (a n p left i : ℕ) : Type 0 where
   pub look : Looking feed_entry (Before f) s a n p left i
@@ -48,7 +48,7 @@ module _ {s f : List ℕ} {a n : ℕ} where
   pub seek_start : Seeking s f a n a n 0
   seek_start = record { look = look_start; sum = omega arith }
 
-  pub seek_on : {p left i e : ℕ} {r : Order} → Seeking s f a n p left i → 0 < left → Compares s p f r → r ≡ More
+  pub seek_on : {p left i e : ℕ} {r : Ordering} → Seeking s f a n p left i → 0 < left → Compares s p f r → r ≡ Greater
       → Passes feed_entry s p e
       → Seeking s f a n e (left - 1) (i + 1)
   seek_on {p} S z C m E = record {
@@ -109,11 +109,11 @@ module _ (s f : List ℕ) (q p : ℕ) where
     }
 
     feed_at : (m : ℕ) (back : List (List ℕ × Feed)) → S.back ≡ back → 0 < length back → Many feed_entry s p q back
-        → Compares s p f Same → Passes (text 0 any) s p m → FeedAt s f st q i p m
+        → Compares s p f Equal → Passes (text 0 any) s p m → FeedAt s f st q i p m
     feed_at m [] w l h C T = absurd (omega arith)
     feed_at m (e ∷ back) w l h C T =
         let x = halves h.1 in
-        let o : lex_of f e.0 ≡ Same = sym (C.to x.first) in
+        let o : lex_of f e.0 ≡ Equal = sym (C.to x.first) in
         let k : f ≡ e.0 = lex_same f e.0 o in
         let t = sym ((any_text T).to x.first) in
         let j : S.front ++ e ∷ back ≡ feeds_of st = ap (λ l. S.front ++ l) (sym w) ∙ S.joined in
@@ -152,7 +152,7 @@ module _ {s f : List ℕ} {v c n a p left i : ℕ} (H : ReadsHead s v c n a) (S 
   stopped : (st : State) (q : ℕ) → Here overlay s 0 q st → Stopped feed_entry (Before f) s a q (feeds_of st) p left i
   stopped st q h = look_stop S.look (feeds_of st) (sym (H.to h).count_is) (H.to h).feeds_here
 
-  pub feed_less : {r : Order} → 0 < left → Compares s p f r → r ≡ Less → FindsFeed s f (Missing i p)
+  pub feed_less : {r : Ordering} → 0 < left → Compares s p f r → r ≡ Less → FindsFeed s f (Missing i p)
   feed_less z C m = record {
     to = λ {st} {q} h o.
         let P = stopped st q h in
@@ -167,7 +167,7 @@ module _ {s f : List ℕ} {v c n a p left i : ℕ} (H : ReadsHead s v c n a) (S 
         (free_end f P.back (omega (arith, P.count))));
   }
 
-  pub feed_same : {m : ℕ} {r : Order} → 0 < left → Compares s p f r → r ≡ Same → Passes (text 0 any) s p m
+  pub feed_same : {m : ℕ} {r : Ordering} → 0 < left → Compares s p f r → r ≡ Equal → Passes (text 0 any) s p m
       → FindsFeed s f (At i p m)
   feed_same {m} z C k T = record {
     to = λ {st} {q} h o. let P = stopped st q h in

@@ -2,7 +2,7 @@
 use Rattle.std.specs.Prelude.{◌≡◌, true, List, ◌∷◌, ◌++◌, ℕ, length}
 use Rattle.std.proofs.Math.Option.{none, some}
 use Rattle.slices.specs.Lists.{lex_of}
-use Rattle.slices.specs.declared.Order.{Order}
+use Rattle.std.specs.declared.cmp.Ordering.{Ordering}
 use Rattle.maps.specs.Map.{get, put, ascending}
 use Rattle.maps.specs.Order.{texts}
 use Rattle.formats.specs.Class.{Class, token}
@@ -15,7 +15,7 @@ use Rattle.overlay_feeds.specs.declared.FeedPlace.{FeedPlace}
 use Rattle.overlay_feeds.specs.declared.FeedPlace.TheVariants.{At, Missing}
 
 -- the order of x and the text that stands at p
-pub record Compares (s : List ℕ) (p : ℕ) (x : List ℕ) (r : Order) : Type 0 where
+pub record Compares (s : List ℕ) (p : ℕ) (x : List ℕ) (r : Ordering) : Type 0 where
   pub to : {l : ℕ} {c : Class} {v : List ℕ} {q : ℕ} → Here (text l c) s p q v → r ≡ lex_of x v
 
 -- the feeds, which stand up to q, from their first on: those in front of p, and those behind

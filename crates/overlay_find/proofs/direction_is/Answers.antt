@@ -3,11 +3,11 @@ use Rattle.overlay_find.specs.Laws.Tests.{any_direction, no_direction, one_direc
 use borrow.Author.Rules.{rules}
 use Rattle.overlay_find.proofs.direction_is.Goals as goal
 
-pub returns-in-Absent : goal.returns-in-Absent
-returns-in-Absent c = search any_direction
+pub returns-in-None : goal.returns-in-None
+returns-in-None c = search any_direction
 
-pub returns-in-Absent-optional_number : goal.returns-in-Absent-optional_number
-returns-in-Absent-optional_number c = search no_direction
+pub returns-in-None-optional_number : goal.returns-in-None-optional_number
+returns-in-None-optional_number c = search no_direction
 
-pub returns-in-Present-optional_number : goal.returns-in-Present-optional_number
-returns-in-Present-optional_number c = search one_direction
+pub returns-in-Some-optional_number : goal.returns-in-Some-optional_number
+returns-in-Some-optional_number c = search one_direction

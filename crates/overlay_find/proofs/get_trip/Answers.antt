@@ -8,13 +8,13 @@ use Rattle.overlay_find.proofs.get_trip.Goals as goal
 pub slice_bounds-trip_at-end : goal.slice_bounds-trip_at-end
 slice_bounds-trip_at-end c =
     simp length-take
-    (omega (arith, c.last_at.ensures.within _ c.in-At-last_at.is))
+    (omega (arith, c.last_at.ensures.within _ c.in-Some-last_at.is))
 
-pub returns-in-At : goal.returns-in-At
-returns-in-At c = search whole_key
+pub returns-in-Some : goal.returns-in-Some
+returns-in-Some c = search whole_key
 
-pub returns-in-At-last_at : goal.returns-in-At-last_at
-returns-in-At-last_at c = search short_key
+pub returns-in-Some-last_at : goal.returns-in-Some-last_at
+returns-in-Some-last_at c = search short_key
 
-pub returns-in-Nowhere : goal.returns-in-Nowhere
-returns-in-Nowhere c = search no_key
+pub returns-in-None-last_at : goal.returns-in-None-last_at
+returns-in-None-last_at c = search no_key

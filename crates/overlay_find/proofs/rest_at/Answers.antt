@@ -23,8 +23,8 @@ trip_place-p-requires c = (search rank_room, search rank_low, search mid_few)
 pub loop-lo-preserved-in-Less : goal.loop-lo-preserved-in-Less
 loop-lo-preserved-in-Less c = search search_less
 
-pub returns-in-Same : goal.returns-in-Same
-returns-in-Same c = search search_same
+pub returns-in-Equal : goal.returns-in-Equal
+returns-in-Equal c = search search_same
 
 pub overflow_add-lo : goal.overflow_add-lo
 overflow_add-lo c = let h : c.loop-lo.hi ≤ most_trips = search search_few in omega arith

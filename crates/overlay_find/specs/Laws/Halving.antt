@@ -5,8 +5,8 @@ use Rattle.std.proofs.Math.Option.{Option, none, some}
 use Rattle.basics.specs.Lists.{All}
 use Rattle.basics.specs.Options.{or_else}
 use Rattle.basics.specs.Laws.Booleans.{both_true}
-use Rattle.slices.specs.declared.Order.{Order}
-use Rattle.slices.specs.declared.Order.TheVariants.{Less, Same, More}
+use Rattle.std.specs.declared.cmp.Ordering.{Ordering}
+use Rattle.std.specs.declared.cmp.Ordering.TheVariants.{Less, Equal, Greater}
 use Rattle.maps.specs.Map.{Ordered, is_less, by_order, get, above, ascending}
 use Rattle.maps.proofs.Laws.Map.{Lawful, is_less_means, rest_ascending}
 use Rattle.overlay_feeds.specs.Laws.Map.{get_past, back_ascending, get_below}
@@ -42,7 +42,7 @@ module _ {K : Type 0} (O : Ordered K) (W : Lawful O) {A : Type 0} (k : K) where
       W.through j x.0 e.0 (is_less_means (O.compare j x.0) b.0) (under x.0 xs e ys b.1)
 
   before : (xs : List (K × A)) (e : K × A) (ys : List (K × A)) → ascending O (xs ++ e ∷ ys) ≡ true
-      → ((j : K) → O.compare j e.0 ≡ Less → O.compare k j ≡ More) → All (λ x. O.compare k x.0 ≡ More) xs
+      → ((j : K) → O.compare j e.0 ≡ Less → O.compare k j ≡ Greater) → All (λ x. O.compare k x.0 ≡ Greater) xs
   before [] e ys h g = tt
   before (x ∷ xs) e ys h g =
       (g x.0 (under x.0 xs e ys h), before xs e ys (rest_ascending W x (xs ++ e ∷ ys) h) g)
@@ -61,12 +61,12 @@ module _ {K : Type 0} (O : Ordered K) (W : Lawful O) {A : Type 0} (k : K) where
   get_append [] ys = refl
   get_append (x ∷ xs) ys = go (O.compare k x.0) (get_append xs ys)
     where
-      go : (o : Order) → get O k (xs ++ ys) ≡ or_else (get O k xs) (get O k ys)
+      go : (o : Ordering) → get O k (xs ++ ys) ≡ or_else (get O k xs) (get O k ys)
           → by_order o (get O k (xs ++ ys)) (some x.1) (get O k (xs ++ ys))
           ≡ or_else (by_order o (get O k xs) (some x.1) (get O k xs)) (get O k ys)
       go Less i = i
-      go Same i = refl
-      go More i = i
+      go Equal i = refl
+      go Greater i = i
 
   or_none : (o : Option A) → or_else o none ≡ o
   or_none none = refl
@@ -79,12 +79,12 @@ module _ {K : Type 0} (O : Ordered K) (W : Lawful O) {A : Type 0} (k : K) where
         get_append xs (e ∷ ys)
         ∙ ap (or_else (get O k xs)) (get_below O k W e ys l (back_ascending O k W xs (e ∷ ys) h)) ∙ or_none (get O k xs)
 
-    get_more : O.compare k e.0 ≡ More → get O k (xs ++ e ∷ ys) ≡ get O k ys
+    get_more : O.compare k e.0 ≡ Greater → get O k (xs ++ e ∷ ys) ≡ get O k ys
     get_more m =
         get_past O k xs (e ∷ ys)
         (before xs e ys h (λ j l. W.more j k (W.through j e.0 k l (W.less k e.0 m)))) ∙ rw m refl
 
-    get_same : O.compare k e.0 ≡ Same → get O k (xs ++ e ∷ ys) ≡ some e.1
+    get_same : O.compare k e.0 ≡ Equal → get O k (xs ++ e ∷ ys) ≡ some e.1
     get_same m =
         let i = W.same k e.0 m in
         get_past O k xs (e ∷ ys) (before xs e ys h (λ j l. rw i (W.more j e.0 l))) ∙ rw m refl
@@ -138,8 +138,8 @@ module _ {K : Type 0} (O : Ordered K) (W : Lawful O) {A : Type 0} (k : K) where
     pub joined : front ++ it ∷ back ≡ m
     pub at : length front ≡ mid
     pub less : O.compare k it.0 ≡ Less → Halving m lo mid
-    pub same : O.compare k it.0 ≡ Same → get O k m ≡ some it.1
-    pub more : O.compare k it.0 ≡ More → Halving m (mid + 1) hi
+    pub same : O.compare k it.0 ≡ Equal → get O k m ≡ some it.1
+    pub more : O.compare k it.0 ≡ Greater → Halving m (mid + 1) hi
 
   pub middle : {m : List (K × A)} {lo hi : ℕ} (mid : ℕ) → Halving m lo hi → lo ≤ mid → mid < hi → Middle m lo hi mid
   middle {m} {lo} {hi} mid H l h =

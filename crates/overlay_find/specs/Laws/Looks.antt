@@ -1,5 +1,5 @@
 -- Law. Look-ups by the searches that they are made of.
-use Rattle.std.specs.Prelude.{◌≡◌, refl, Bool, false, cond, List, [], ◌∷◌, ◌++◌, ℕ, suc, ◌+◌, ◌-◌, ◌*◌, ◌≤◌, ◌<◌, length, take, drop, get_or}
+use Rattle.std.specs.Prelude.{◌≡◌, refl, Bool, false, cond, List, [], ◌∷◌, ◌++◌, ℕ, suc, ◌+◌, ◌-◌, ◌*◌, ◌≤◌, ◌<◌, length, take, drop, get_or, Option, Some, None}
 use Rattle.std.proofs.Math.Path.{sym, ap}
 use Rattle.std.proofs.Common.{◌∙◌, append_assoc, add-one, arith, length-append, length-drop, take-append-drop, take_all, take_at, drop-cons, eq-eqb}
 use Rattle.std.proofs.Math.Bool.{true}
@@ -12,7 +12,6 @@ use Rattle.maps.specs.Map.{get}
 use Rattle.maps.specs.Order.{texts}
 use Rattle.formats.specs.Class.{any}
 use Rattle.formats.specs.Format.{text}
-use Rattle.formats.specs.declared.OptionalNumber.{OptionalNumber}
 use Rattle.formats_write.specs.Promises.Given.{given_number}
 use Rattle.formats_read.specs.Laws.Here.{halves}
 use Rattle.formats_skip.specs.Promises.Passes.{Passes}
@@ -23,13 +22,9 @@ use Rattle.decode.specs.Trip.{Trip, trip_entry}
 use Rattle.overlay.specs.State.{Feed, trips_of}
 use Rattle.overlay.specs.Lookup.{first_that, value_of, trip_at, get_trip, find_trip_by_descriptor}
 use Rattle.overlay_feeds.specs.Laws.Head.{begins}
-use Rattle.overlay_ids.specs.declared.Place.{Place}
-use Rattle.overlay_ids.specs.declared.Place.TheVariants as place
 use Rattle.overlay_ids.specs.Promises.Ids.{LastAt}
 use Rattle.overlay_ids.specs.Laws.Joined.{part, joined_short, joined_other}
 use Rattle.overlay_noted.specs.Promises.Noted.{count_at, FeedNoted, RankNoted}
-use Rattle.overlay_seek.specs.declared.Found.{Found}
-use Rattle.overlay_seek.specs.declared.Found.TheVariants.{At, Missing}
 use Rattle.overlay_seek.specs.Promises.Answers.{Tests}
 use Rattle.overlay_seek.specs.Laws.First.{first_append, first_one, first_none, get_text}
 use Rattle.overlay_seek.specs.Laws.Answers.{at_place, not_there, reworded, first_found, second_found}
@@ -72,25 +67,25 @@ whole f k l e n =
     ∙ ap (λ n. 58 ∷ drop n k) (sym (add-one (length f))) ∙ ap (◌∷◌ 58) (sym d))
 
 module _ (f key : List ℕ) {s places : List ℕ} {r : ℕ} where
-  no_key_fits : ((x : List ℕ) → same (f ++ 58 ∷ x) key ≡ false) → Finds (trip_at f key) s places r Missing
+  no_key_fits : ((x : List ℕ) → same (f ++ 58 ∷ x) key ≡ false) → Finds (trip_at f key) s places r None
   unfolding trip_at
   no_key_fits h = record {
     to = λ {e} N. not_there (ap value_of
         (first_never (λ d. same (f ++ 58 ∷ d.0) key) (λ d. h d.0) (trips_of e.1)));
   }
 
-  pub key_short : length key ≤ length f → Finds (trip_at f key) s places r Missing
+  pub key_short : length key ≤ length f → Finds (trip_at f key) s places r None
   key_short h = no_key_fits (λ x. sym (joined_short {f = f} {r = x} {k = key} h).is)
 
   module _ (l : length f < length key) where
-    pub key_other : (get_or key (length f) 0 ≡ 58 → ⊥) → Finds (trip_at f key) s places r Missing
+    pub key_other : (get_or key (length f) 0 ≡ 58 → ⊥) → Finds (trip_at f key) s places r None
     key_other n = no_key_fits (λ x. sym (joined_other {f = f} {r = x} {k = key} l n).is)
 
     module _ {t : Bool} (i : t ≡ same f (take (length f) key)) where
-      pub key_far : t ≡ false → Finds (trip_at f key) s places r Missing
+      pub key_far : t ≡ false → Finds (trip_at f key) s places r None
       key_far n = no_key_fits (λ x. far f x key (same (f ++ 58 ∷ x) key) refl (sym i ∙ n))
 
-      pub key_rest : get_or key (length f) 0 ≡ 58 → t ≡ true → {x : Found}
+      pub key_rest : get_or key (length f) 0 ≡ 58 → t ≡ true → {x : Option ℕ}
           → Finds (get texts (part key (length f + 1))) s places r x → Finds (trip_at f key) s places r x
       unfolding trip_at
       key_rest c n F =
@@ -104,21 +99,21 @@ module _ (f key : List ℕ) {s places : List ℕ} {r : ℕ} where
           }
 
 -- else without what follows the last '@'
-module _ (f key : List ℕ) {s places : List ℕ} {p : ℕ} {r : Found}
+module _ (f key : List ℕ) {s places : List ℕ} {p : ℕ} {r : Option ℕ}
     (F : Finds (trip_at f key) s places p r) where
-  pub whole_key : {m : ℕ} → r ≡ At m → Finds (get_trip f key) s places p (At m)
+  pub whole_key : {m : ℕ} → r ≡ Some m → Finds (get_trip f key) s places p (Some m)
   unfolding get_trip
   whole_key e = record { to = λ h. first_found _ (F.to h) e }
 
-  module _ {l : Place} (L : LastAt key l) (i : r ≡ Missing) where
-    pub short_key : {k : ℕ} {t : Found} → l ≡ place.At k → Finds (trip_at f (take k key)) s places p t
+  module _ {l : Option ℕ} (L : LastAt key l) (i : r ≡ None) where
+    pub short_key : {k : ℕ} {t : Option ℕ} → l ≡ Some k → Finds (trip_at f (take k key)) s places p t
         → Finds (get_trip f key) s places p t
     unfolding get_trip
     short_key {k} x G = record {
       to = λ h. second_found (F.to h) i (let y = L.found k x in rw y (G.to h));
     }
 
-    pub no_key : l ≡ place.Nowhere → Finds (get_trip f key) s places p Missing
+    pub no_key : l ≡ None → Finds (get_trip f key) s places p None
     unfolding get_trip
     no_key x = record {
       to = λ {e} h. second_found (F.to h) i
@@ -206,11 +201,11 @@ module _ {t : List ℕ × Trip → Bool} {s places : List ℕ} {r n : ℕ} where
               };
         }
 
-module _ (f leg : List ℕ) (d : OptionalNumber) (date : List ℕ) {s places : List ℕ} {r n i : ℕ}
+module _ (f leg : List ℕ) (d : Option ℕ) (date : List ℕ) {s places : List ℕ} {r n i : ℕ}
     (S : Scanning (descriptor_test f leg d date) s places r n i) where
   pub descriptor_hit : {p m : ℕ} {b : Bool} → i < n → p ≡ get_or places (2048 * r + i) 0
       → Tests trip_entry (descriptor_test f leg d date) s p b → b ≡ true → Passes (text 0 any) s p m
-      → Finds (find_trip_by_descriptor f leg (given_number d) date) s places r (At m)
+      → Finds (find_trip_by_descriptor f leg (given_number d) date) s places r (Some m)
   unfolding find_trip_by_descriptor
   descriptor_hit l w T i P = record {
     to = λ N.
@@ -228,6 +223,6 @@ module _ (f leg : List ℕ) (d : OptionalNumber) (date : List ℕ) {s places : L
         });
   }
 
-  pub descriptor_miss : n ≤ i → Finds (find_trip_by_descriptor f leg (given_number d) date) s places r Missing
+  pub descriptor_miss : n ≤ i → Finds (find_trip_by_descriptor f leg (given_number d) date) s places r None
   unfolding find_trip_by_descriptor
   descriptor_miss l = record { to = λ N. not_there (ap value_of (scan_none S l N)) }

@@ -1,9 +1,9 @@
 -- Law. The rest of a key sought by halving among a feed's noted trips.
-use Rattle.std.specs.Prelude.{◌≡◌, List, ◌∷◌, ◌++◌, ℕ, ◌+◌, ◌-◌, ◌*◌, ◌/◌, ◌≤◌, ◌<◌, length, get_or}
+use Rattle.std.specs.Prelude.{◌≡◌, List, ◌∷◌, ◌++◌, ℕ, ◌+◌, ◌-◌, ◌*◌, ◌/◌, ◌≤◌, ◌<◌, length, get_or, Some, None}
 use Rattle.std.proofs.Common.{sym, ◌∙◌, arith}
 use Rattle.slices.specs.Lists.{lex_of}
-use Rattle.slices.specs.declared.Order.{Order}
-use Rattle.slices.specs.declared.Order.TheVariants.{Less, Same, More}
+use Rattle.std.specs.declared.cmp.Ordering.{Ordering}
+use Rattle.std.specs.declared.cmp.Ordering.TheVariants.{Less, Equal, Greater}
 use Rattle.maps.specs.Map.{get}
 use Rattle.maps.specs.Order.{texts}
 use Rattle.maps.proofs.Laws.Order.{texts_order}
@@ -21,7 +21,6 @@ use Rattle.overlay_feeds.specs.Promises.Place.{Compares}
 use Rattle.overlay_feeds.specs.Laws.Head.{begins}
 use Rattle.overlay_noted.specs.Promises.Noted.{places_length, count_at, FeedNoted, RankNoted}
 use Rattle.overlay_noted.specs.Laws.Places.{trip_behind}
-use Rattle.overlay_seek.specs.declared.Found.TheVariants.{At, Missing}
 use Rattle.overlay_seek.specs.Laws.Answers.{at_place, not_there}
 use Rattle.overlay_find.specs.Promises.Finds.{Finds}
 use Rattle.overlay_find.specs.Laws.Halving.{Halving, Middle, halving_start, halving_within, halving_none, middle}
@@ -59,7 +58,7 @@ module _ {s places : List ℕ} {r : ℕ} {rest : List ℕ} where
     search_few R =
         omega (arith, halving_within texts texts_order rest (S.to R.noted), R.noted.few)
 
-    pub search_none : hi ≤ lo → Finds (get texts rest) s places r Missing
+    pub search_none : hi ≤ lo → Finds (get texts rest) s places r None
     search_none h = record { to = λ N. not_there (halving_none texts texts_order rest (S.to N) h) }
 
     module _ (h : lo < hi) where
@@ -73,8 +72,8 @@ module _ {s places : List ℕ} {r : ℕ} {rest : List ℕ} where
           → Middle texts texts_order rest (trips_of e.1) lo hi mid
       halved N = middle texts texts_order rest mid (S.to N) (omega arith) (omega arith)
 
-      module _ {p : ℕ} (w : p ≡ get_or places (2048 * r + mid) 0) {o : Order} (C : Compares s p rest o) where
-        told : {e : List ℕ × Feed} (N : FeedNoted s places r e) {x : Order} → o ≡ x → lex_of rest (halved N).it.0 ≡ x
+      module _ {p : ℕ} (w : p ≡ get_or places (2048 * r + mid) 0) {o : Ordering} (C : Compares s p rest o) where
+        told : {e : List ℕ × Feed} (N : FeedNoted s places r e) {x : Ordering} → o ≡ x → lex_of rest (halved N).it.0 ≡ x
         told N i =
             let M = halved N in
             let t = trip_here M.front M.it M.back N M.joined M.at w in
@@ -83,10 +82,10 @@ module _ {s places : List ℕ} {r : ℕ} {rest : List ℕ} where
         pub search_less : o ≡ Less → Searching s places r rest lo mid
         search_less i = record { to = λ N. (halved N).less (told N i) }
 
-        pub search_more : o ≡ More → Searching s places r rest (mid + 1) hi
+        pub search_more : o ≡ Greater → Searching s places r rest (mid + 1) hi
         search_more i = record { to = λ N. (halved N).more (told N i) }
 
-        pub search_same : {q : ℕ} → o ≡ Same → Passes (text 0 any) s p q → Finds (get texts rest) s places r (At q)
+        pub search_same : {q : ℕ} → o ≡ Equal → Passes (text 0 any) s p q → Finds (get texts rest) s places r (Some q)
         search_same {q} i P = record {
           to = λ N.
               let M = halved N in

@@ -1,13 +1,11 @@
 -- Law. Tests of entries, by the texts and numbers that stand in them.
-use Rattle.std.specs.Prelude.{◌≡◌, refl, Bool, true, false, List, ℕ, ◌-◌, eqb, take, drop}
+use Rattle.std.specs.Prelude.{◌≡◌, refl, Bool, true, false, List, ℕ, ◌-◌, eqb, take, drop, Option, Some, None}
 use Rattle.std.proofs.Common.{sym, ap, ◌∙◌}
 use Rattle.basics.specs.Options.{given_and}
 use Rattle.basics.specs.Texts.{same}
 use Rattle.basics.specs.Laws.Booleans.{and_no, and_yes}
 use Rattle.formats.specs.Class.{Class, any}
 use Rattle.formats.specs.Format.{number, text, optional, Value}
-use Rattle.formats.specs.declared.OptionalNumber.{OptionalNumber}
-use Rattle.formats.specs.declared.OptionalNumber.TheVariants.{Absent, Present}
 use Rattle.formats_write.specs.Promises.Given.{given_number}
 use Rattle.formats_write.specs.Laws.Slices.{slice_is}
 use Rattle.formats_read.specs.Promises.Here.{Here}
@@ -36,18 +34,18 @@ module _ {s : List ℕ} {p a e : ℕ} (T : ReadsText s p a e) where
   }
 
 -- the direction
-pub any_direction : {s : List ℕ} {p : ℕ} {d : OptionalNumber} → d ≡ Absent → DirectionIs s p d true
+pub any_direction : {s : List ℕ} {p : ℕ} {d : Option ℕ} → d ≡ None → DirectionIs s p d true
 any_direction e = record { is = λ h. rw e refl }
 
-module _ {s : List ℕ} {p n : ℕ} {d o : OptionalNumber} (e : d ≡ Present n)
+module _ {s : List ℕ} {p n : ℕ} {d o : Option ℕ} (e : d ≡ Some n)
     (O : (lo hi : ℕ) (v : Value (optional (number lo hi))) (q : ℕ) → Here (optional (number lo hi)) s p q v
     → given_number o ≡ v) where
-  pub no_direction : o ≡ Absent → DirectionIs s p d false
+  pub no_direction : o ≡ None → DirectionIs s p d false
   no_direction k = record {
     is = λ {v} {q} h. rw e (ap (given_and (eqb n)) (ap given_number (sym k) ∙ O _ _ v q h));
   }
 
-  pub one_direction : {m : ℕ} → o ≡ Present m → DirectionIs s p d (eqb n m)
+  pub one_direction : {m : ℕ} → o ≡ Some m → DirectionIs s p d (eqb n m)
   one_direction k = record {
     is = λ {v} {q} h. rw e (ap (given_and (eqb n)) (ap given_number (sym k) ∙ O _ _ v q h));
   }
@@ -57,7 +55,7 @@ ended : {s : List ℕ} {p q m : ℕ} {l : ℕ} {c : Class} {v : List ℕ} → Pa
     → q ≡ m
 ended P h = sym ((any_text P).to h)
 
-module _ {s f leg date : List ℕ} {d : OptionalNumber} {p : ℕ} {b : Bool} (D : IsText s p date b) where
+module _ {s f leg date : List ℕ} {d : Option ℕ} {p : ℕ} {b : Bool} (D : IsText s p date b) where
   pub other_date : b ≡ false → Described s p f leg d date false
   other_date e = record {
     is = λ {v} h.
@@ -89,7 +87,7 @@ module _ {s f leg date : List ℕ} {d : OptionalNumber} {p : ℕ} {b : Bool} (D 
           ∙ sym (rw (k, i) (and_yes (direction_matches (given_number d) v.1.1.0)));
     }
 
-pub described_is : {s f leg date : List ℕ} {d : OptionalNumber} {p m k : ℕ} {b : Bool} → Passes (text 0 any) s p m
+pub described_is : {s f leg date : List ℕ} {d : Option ℕ} {p m k : ℕ} {b : Bool} → Passes (text 0 any) s p m
     → Leads 2 trip s m k → Described s k f leg d date b → Tests trip_entry (descriptor_test f leg d date) s p b
 described_is P L D = record {
   to = λ h.

@@ -1,12 +1,11 @@
 -- Law. The writing of a state with one feed put: what stands before its body, the body, and what follows it.
-use Rattle.std.specs.Prelude.{◌≡◌, List, ◌∷◌, ◌++◌, ℕ, ◌+◌, ◌-◌, ◌≤◌, length}
+use Rattle.std.specs.Prelude.{◌≡◌, List, ◌∷◌, ◌++◌, ℕ, ◌+◌, ◌-◌, ◌≤◌, length, Option}
 use Rattle.std.proofs.Common.{sym, ◌∙◌, append_assoc, arith, length-append, take_all}
 use Rattle.std.proofs.Math.Path.{ap}
 use Rattle.std.proofs.Math.Seq.{slice, length-slice}
 use Rattle.formats.specs.Readers.{many_w}
 use Rattle.formats.specs.Number.{number_w}
 use Rattle.formats.specs.Format.{Format, Value, write}
-use Rattle.formats_write.specs.declared.Put.{Put}
 use Rattle.formats_write.specs.Laws.Adds.{then, same}
 use Rattle.formats_write.specs.Promises.Adds.{Adds}
 use Rattle.formats_write.specs.Promises.Given.{text_w}
@@ -33,7 +32,7 @@ regroup a n m t d e = simp append_assoc
 
 module _ {b : List ℕ} {q : ℕ} {s : State} {f : List ℕ} {from to count : ℕ} (S : Spot b q s f from to count) where
   -- before the body
-  pub opened : (v : ℕ) {w c n first : ℕ} {l m o i : List ℕ} {r k j z : Put} → ReadsHead b w c n first
+  pub opened : (v : ℕ) {w c n first : ℕ} {l m o i : List ℕ} {r k j z : Option ℕ} → ReadsHead b w c n first
       → Adds l r m k (head_w v count)
       → (first ≤ from → from ≤ length b → Adds m k o j (slice first from b))
       → (0 ≤ length f → length f ≤ length f → Adds o j i z (text_w (slice 0 (length f) f)))
@@ -48,7 +47,7 @@ module _ {b : List ℕ} {q : ℕ} {s : State} {f : List ℕ} {from to count : �
       then (then a y) (same (t (omega arith) (omega arith)) (ap text_w u))
 
   -- behind it
-  pub closed : {l m : List ℕ} {r k : Put} → (to ≤ q → q ≤ length b → Adds l r m k (slice to q b))
+  pub closed : {l m : List ℕ} {r k : Option ℕ} → (to ≤ q → q ≤ length b → Adds l r m k (slice to q b))
       → Adds l r m k (closing_w S.back)
   closed g = let x = run feed_entry b to q S.back S.behind in same (g x.forward x.within) x.written
 
@@ -57,7 +56,7 @@ module _ {b : List ℕ} {q : ℕ} {s : State} {f : List ℕ} {from to count : �
       ap length (S.puts F) ∙ length-append S.front ((f, F) ∷ S.back) ∙ omega (arith, S.many)
 
   -- A STATE WITH ONE FEED PUT
-  pub framed : (v : ℕ) (F : Feed) {l m o i : List ℕ} {r k j z : Put} → Adds l r m k (opening_w v count S.front f)
+  pub framed : (v : ℕ) (F : Feed) {l m o i : List ℕ} {r k j z : Option ℕ} → Adds l r m k (opening_w v count S.front f)
       → Adds m k o j (write feed F) → Adds o j i z (closing_w S.back)
       → Adds l r i z (write overlay (put_feed f F v s))
   unfolding put_feed

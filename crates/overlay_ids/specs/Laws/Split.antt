@@ -1,11 +1,10 @@
 -- Law. A scan back for the last '@' of a key.
-use Rattle.std.specs.Prelude.{◌≡◌, refl, List, [], ◌∷◌, ◌++◌, ℕ, suc, ◌+◌, ◌-◌, ◌≤◌, ◌<◌, length, take, drop, get_or}
+use Rattle.std.specs.Prelude.{◌≡◌, refl, List, [], ◌∷◌, ◌++◌, ℕ, suc, ◌+◌, ◌-◌, ◌≤◌, ◌<◌, length, take, drop, get_or, Some, None}
 use Rattle.std.proofs.Common.{sym, ap, ◌∙◌, arith, take-append-drop, drop-cons, eq-eqb, ne_eqb}
 use Rattle.std.proofs.Math.Option.{none, some}
 use Rattle.std.proofs.Math.Seq.{drop-length}
 use Rattle.alerts.specs.Text.{rsplit_once}
 use Rattle.overlay_ids.specs.Promises.Ids.{LastAt}
-use Rattle.overlay_ids.specs.declared.Place.TheVariants.{At, Nowhere}
 
 -- from i on there is no '@'
 pub record Free (key : List ℕ) (i : ℕ) : Type 0 where
@@ -45,14 +44,14 @@ module _ {key : List ℕ} {i : ℕ} (F : Free key i) (z : 0 < i) where
       rw n (ap (rsplit_once 64) (sym whole)
       ∙ split_here (take (i - 1) key) (get_or key (i - 1) 0) (drop i key) F.is e)
 
-  pub free_found : get_or key (i - 1) 0 ≡ 64 → LastAt key (At (i - 1))
+  pub free_found : get_or key (i - 1) 0 ≡ 64 → LastAt key (Some (i - 1))
   free_found e = record {
     found = λ k h. let w : i - 1 ≡ k = cc in rw w at (split_is e);
     lost = λ h. absurd (let w : ◌≡◌ {A = ℕ} 0 1 = cc in omega arith);
     within = λ k h. let w : i - 1 ≡ k = cc in omega (arith, F.within);
   }
 
-pub free_whole : {key : List ℕ} {i : ℕ} → Free key i → i ≤ 0 → LastAt key Nowhere
+pub free_whole : {key : List ℕ} {i : ℕ} → Free key i → i ≤ 0 → LastAt key None
 free_whole {key} {i} F z = record {
   found = λ k h. absurd (let w : ◌≡◌ {A = ℕ} 0 1 = cc in omega arith);
   lost = λ h. let w : i ≡ 0 = omega arith in rw w at F.is;

@@ -1,22 +1,20 @@
 -- Promise. Where an id's feed ends, where a key's last '@' is, and which ids are one.
-use Rattle.std.specs.Prelude.{◌≡◌, Bool, ◌&&◌, ◌||◌, not, List, ◌∷◌, ◌++◌, ℕ, ◌+◌, ◌≤◌, ◌<◌, length, take, drop}
+use Rattle.std.specs.Prelude.{◌≡◌, Bool, ◌&&◌, ◌||◌, not, List, ◌∷◌, ◌++◌, ℕ, ◌+◌, ◌≤◌, ◌<◌, length, take, drop, Option, Some, None}
 use Rattle.std.proofs.Math.Option.{none, some}
 use Rattle.basics.specs.Lists.{is_empty}
 use Rattle.basics.specs.Texts.{same}
 use Rattle.decode.specs.Key.{prefixed}
 use Rattle.alerts.specs.Text.{ends, rsplit_once}
 use Rattle.overlay.specs.Lookup.{feed_of, route_matches}
-use Rattle.overlay_ids.specs.declared.Place.{Place}
-use Rattle.overlay_ids.specs.declared.Place.TheVariants.{At, Nowhere}
 
 pub record FeedEnd (id : List ℕ) (r : ℕ) : Type 0 where
   pub is : take r id ≡ feed_of id
   pub within : r ≤ length id
 
-pub record LastAt (key : List ℕ) (r : Place) : Type 0 where
-  pub found : (k : ℕ) → r ≡ At k → rsplit_once 64 key ≡ some (take k key, drop (k + 1) key)
-  pub lost : r ≡ Nowhere → rsplit_once 64 key ≡ none
-  pub within : (k : ℕ) → r ≡ At k → k < length key
+pub record LastAt (key : List ℕ) (r : Option ℕ) : Type 0 where
+  pub found : (k : ℕ) → r ≡ Some k → rsplit_once 64 key ≡ some (take k key, drop (k + 1) key)
+  pub lost : r ≡ None → rsplit_once 64 key ≡ none
+  pub within : (k : ℕ) → r ≡ Some k → k < length key
 
 -- whether a key is feed f, ':' and r
 pub record IsJoined (f r key : List ℕ) (t : Bool) : Type 0 where

@@ -1,5 +1,5 @@
 -- Law. A feed's trips by checked reading: an entry and its key, and the count of the keys without '@'.
-use Rattle.std.specs.Prelude.{◌≡◌, Bool, true, false, cond, ◌||◌, List, [], ◌∷◌, ◌++◌, ℕ, ◌+◌, ◌≤◌, ◌<◌, eqb, leb, length, drop, get_or}
+use Rattle.std.specs.Prelude.{◌≡◌, Bool, true, false, cond, ◌||◌, List, [], ◌∷◌, ◌++◌, ℕ, ◌+◌, ◌≤◌, ◌<◌, eqb, leb, length, drop, get_or, Option, Some, None}
 use Rattle.std.proofs.Math.Path.{refl}
 use Rattle.std.proofs.Common.{sym, ap, ◌∙◌, add-one, drop_of_length-le, drop-cons}
 use Rattle.std.proofs.Math.Option.{some}
@@ -7,12 +7,6 @@ use borrow.Author.Tests.{eq-eqb, ne_eqb}
 use Rattle.basics.specs.Laws.Booleans.{both_true, or_assoc}
 use Rattle.formats.specs.Class.{Class, printable, in_class}
 use Rattle.formats.specs.Format.{Format, text, ◌&◌, Value, read}
-use Rattle.formats.specs.declared.Skip.{Skip}
-use Rattle.formats.specs.declared.Skip.TheVariants as skip
-use Rattle.formats_check.specs.declared.CheckedText.{CheckedText}
-use Rattle.formats_check.specs.declared.CheckedText.TheVariants.{At, No}
-use Rattle.formats_check.specs.declared.Entry.{Entry}
-use Rattle.formats_check.specs.declared.Entry.TheVariants as entry
 use Rattle.formats_check.specs.Promises.Checked.{fine, Test, behind, holds, Tested}
 use Rattle.formats_check.specs.Laws.Checked.{Tells, parts, more_no, more_bad, more_so}
 use Rattle.formats_check.specs.Laws.Climbing.{Spans, span_key, span_forward, span_within, Entered, enter_no}
@@ -38,19 +32,19 @@ keyed_fine v h =
     rw (p.0, q.0) refl
 
 -- AN ENTRY
-module _ {s : List ℕ} {at : ℕ} {r : CheckedText} (S : Spans 137 printable s at r) where
-  pub trip_key : (f : List ℕ) → r ≡ No → Entered 137 printable (entry_good f) s at entry.No
+module _ {s : List ℕ} {at : ℕ} {r : Option (ℕ × ℕ)} (S : Spans 137 printable s at r) where
+  pub trip_key : (f : List ℕ) → r ≡ None → Entered 137 printable (entry_good f) s at None
   trip_key f h = enter_no (more_no (entry_no S trip_good h) (λ e. key_ok f e.0 e.1) refl)
 
-  module _ {a e : ℕ} (h : r ≡ At a e) where
+  module _ {a e : ℕ} (h : r ≡ Some (a, e)) where
     pub key_inside : Inside s a e
     key_inside = record { forward = span_forward S h; within = span_within S h }
 
-    module _ {x : Skip} (T : Tested trip trip_good s e x) where
-      pub trip_none : (f : List ℕ) → x ≡ skip.Broken → Entered 137 printable (entry_good f) s at entry.No
+    module _ {x : Option ℕ} (T : Tested trip trip_good s e x) where
+      pub trip_none : (f : List ℕ) → x ≡ None → Entered 137 printable (entry_good f) s at None
       trip_none f i = enter_no (more_no (entry_so S h T) (λ e. key_ok f e.0 e.1) i)
 
-      module _ {q : ℕ} (i : x ≡ skip.At q) {f : List ℕ} {b : Bool} (K : Keys f s a e b) where
+      module _ {q : ℕ} (i : x ≡ Some q) {f : List ℕ} {b : Bool} (K : Keys f s a e b) where
         tells : Tells trip_entry (λ e. key_ok f e.0 e.1) s at b
         tells = record { on = go }
           where
@@ -63,14 +57,14 @@ module _ {s : List ℕ} {at : ℕ} {r : CheckedText} (S : Spans 137 printable s 
                 let c = (both_true (leb (length v.0) 137) (in_class printable v.0) w.0).1 in
                 K.on (rw k at c) v.1 u P.rest w.1 ∙ ap (λ x. key_ok f x v.1) (sym k)
 
-        pub trip_other : b ≡ false → Entered 137 printable (entry_good f) s at entry.No
+        pub trip_other : b ≡ false → Entered 137 printable (entry_good f) s at None
         trip_other j = enter_no (more_bad (entry_so S h T) _ i keyed_fine tells j)
 
-        pub trip_so : b ≡ true → Entered 137 printable (entry_good f) s at (entry.At a e q)
+        pub trip_so : b ≡ true → Entered 137 printable (entry_good f) s at (Some (a, e, q))
         trip_so j = enter_so S h (more_so (entry_so S h T) _ i keyed_fine tells j) refl
 
-pub entered_inside : {s : List ℕ} {at : ℕ} {r : Entry} {l : ℕ} {c : Class} {g : Format} {t : Test (text l c & g)}
-    → Entered l c t s at r → {a e q : ℕ} → r ≡ entry.At a e q → Inside s a e
+pub entered_inside : {s : List ℕ} {at : ℕ} {r : Option (ℕ × ℕ × ℕ)} {l : ℕ} {c : Class} {g : Format} {t : Test (text l c & g)}
+    → Entered l c t s at r → {a e q : ℕ} → r ≡ Some (a, e, q) → Inside s a e
 entered_inside E h = record { forward = entered_forward E h; within = entered_in E h }
 
 -- '@' IN A TEXT: what is left to look at says it of the whole

@@ -19,7 +19,7 @@ pub returns-in_default-piece-2 : goal.returns-in_default-piece-2
 returns-in_default-piece-2 c = search tail_between
 
 pub piece-requires-4 : goal.piece-requires-4
-piece-requires-4 c = piece_inside c.piece-3.ensures c.in-At-piece-2.is c.requires.inside_3
+piece-requires-4 c = piece_inside c.piece-3.ensures c.in-Some-piece-2.is c.requires.inside_3
 
 pub returns : goal.returns
 returns c = search tail_so

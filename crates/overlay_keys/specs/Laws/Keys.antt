@@ -1,5 +1,5 @@
 -- Law. The keys of a trip's record, piece by piece.
-use Rattle.std.specs.Prelude.{◌≡◌, ◌⊎◌, Bool, true, cond, ◌&&◌, ◌||◌, not, ℕ, zero, suc, ◌+◌, ◌-◌, ◌≤◌, ◌<◌, eqb, take, drop, get_or}
+use Rattle.std.specs.Prelude.{◌≡◌, ◌⊎◌, Bool, true, cond, ◌&&◌, ◌||◌, not, ℕ, zero, suc, ◌+◌, ◌-◌, ◌≤◌, ◌<◌, eqb, take, drop, get_or, Option, Some, None}
 use Rattle.std.proofs.Math.Path.{refl, sym, ap}
 use Rattle.std.proofs.Common.{◌∙◌, inl, inr, arith, drop_of_length-le, take-take, length-take-le}
 use mathlib.Core.List.{List, [], ◌∷◌, ◌++◌}
@@ -15,13 +15,7 @@ use Rattle.formats.specs.Laws.Law.{found}
 use Rattle.basics.specs.Laws.Booleans.{and_no}
 use Rattle.basics.specs.Laws.Options.{none_some}
 use Rattle.formats.specs.Format.{Format, small, optional, list, ◌&◌, Value, read}
-use Rattle.formats.specs.declared.Numeral.{Numeral}
-use Rattle.formats.specs.declared.Numeral.TheVariants.{Got, Bad}
-use Rattle.formats.specs.declared.Skip.{Skip}
-use Rattle.formats.specs.declared.Skip.TheVariants.{At, Broken}
 use Rattle.formats.proofs.Numbers.{opened}
-use Rattle.formats_check.specs.declared.CheckedText.{CheckedText}
-use Rattle.formats_check.specs.declared.CheckedText.TheVariants as span
 use Rattle.formats_check.specs.Promises.Checked.{Number, fine, Fine}
 use Rattle.formats_check.specs.Laws.Checked.{Out, Parts, parts, no_parts}
 use Rattle.formats_check.specs.Laws.Elements.{no_number, a_number}
@@ -55,33 +49,33 @@ given s y c h i z {w} {u} q = go (eqb c 1) (rw (opened s y c h i, ne_eqb c 0 z) 
     go false q = none_some q
 
 module _ {s : List ℕ} {y at e : ℕ} where
-  pub direction_end : length s ≤ y → Direction s y at e Broken
+  pub direction_end : length s ≤ y → Direction s y at e None
   direction_end h = record { moves = moves_stop; on = λ w u q. none_some (sym (opening h) ∙ q) }
     where
       opening : length s ≤ y → read (optional number32) (drop y s) ≡ none
       opening h = rw (drop_of_length-le s h) refl
 
   module _ {c : ℕ} (h : y < length s) (i : c ≡ get_or s y 0) where
-    pub direction_none : c ≡ 0 → Inside s at e → Direction s y at e (At at)
+    pub direction_none : c ≡ 0 → Inside s at e → Direction s y at e (Some at)
     direction_none z I =
         record {
           moves = moves_none I;
-          on = λ w u q. found (λ (w : Way) u. Piece (direction_text w) s at e (At at)) (sym opening ∙ q)
+          on = λ w u q. found (λ (w : Way) u. Piece (direction_text w) s at e (Some at)) (sym opening ∙ q)
               (piece_empty I);
         }
       where
         opening : read (optional number32) (drop y s) ≡ some (inl tt, drop (y + 1) s)
         opening = rw (opened s y c h i, z) refl
 
-  module _ (h : y < length s) (z : get_or s y 0 ≡ 0 → ⊥) {o : Numeral} (N : Number s (y + 1) o) where
-    pub direction_bad : o ≡ Bad → Direction s y at e Broken
+  module _ (h : y < length s) (z : get_or s y 0 ≡ 0 → ⊥) {o : Option (ℕ × ℕ)} (N : Number s (y + 1) o) where
+    pub direction_bad : o ≡ None → Direction s y at e None
     direction_bad k =
         record {
           moves = moves_stop;
           on = λ w u q. none_some (rw (no_number N k) at (given s y (get_or s y 0) h refl z q));
         }
 
-    pub direction_so : {n p : ℕ} → o ≡ Got n p → {r : Skip} → Piece (decimal_of 10 n) s at e r → Direction s y at e r
+    pub direction_so : {n p : ℕ} → o ≡ Some (n, p) → {r : Option ℕ} → Piece (decimal_of 10 n) s at e r → Direction s y at e r
     direction_so {n} {p} k {r} P =
         record {
           moves = piece_moves P;
@@ -91,11 +85,11 @@ module _ {s : List ℕ} {y at e : ℕ} where
 
 -- THE ROUTE, with the feed in front
 module _ {f s : List ℕ} {x y at e : ℕ} where
-  pub route_none : x ≡ y → Inside s at e → Route f s x y at e (At at)
+  pub route_none : x ≡ y → Inside s at e → Route f s x y at e (Some at)
   route_none h I = record { is = rw (bytes_none s x y (omega arith)) (piece_empty I) }
 
   module _ (J : Inside s x y) (h : x ≡ y → ⊥) where
-    whole : {r : Skip} → Piece (f ++ 58 ∷ bytes s x y) s at e r → Route f s x y at e r
+    whole : {r : Option ℕ} → Piece (f ++ 58 ∷ bytes s x y) s at e r → Route f s x y at e r
     whole {r} P = record { is = ap_piece (full (bytes s x y) (bytes_length J)) }
       where
         full : (l : List ℕ) → length l ≡ y - x → prefixed f l ≡ f ++ 58 ∷ l
@@ -105,18 +99,18 @@ module _ {f s : List ℕ} {x y at e : ℕ} where
         ap_piece : prefixed f (bytes s x y) ≡ f ++ 58 ∷ bytes s x y → Piece (prefixed f (bytes s x y)) s at e r
         ap_piece i = rw i P
 
-    module _ {q : Skip} (P : Piece f s at e q) where
-      pub route_feed : q ≡ Broken → Route f s x y at e Broken
+    module _ {q : Option ℕ} (P : Piece f s at e q) where
+      pub route_feed : q ≡ None → Route f s x y at e None
       route_feed i = whole (piece_stop P (58 ∷ bytes s x y) i)
 
-      module _ {m : ℕ} (i : q ≡ At m) {o : Skip} (Q : Piece (58 ∷ []) s m e o) where
-        pub route_colon : o ≡ Broken → Route f s x y at e Broken
+      module _ {m : ℕ} (i : q ≡ Some m) {o : Option ℕ} (Q : Piece (58 ∷ []) s m e o) where
+        pub route_colon : o ≡ None → Route f s x y at e None
         route_colon j = whole (piece_then P i (piece_stop Q (bytes s x y) j))
 
-        pub route_so : {n : ℕ} → o ≡ At n → {r : Skip} → Piece (bytes s x y) s n e r → Route f s x y at e r
+        pub route_so : {n : ℕ} → o ≡ Some n → {r : Option ℕ} → Piece (bytes s x y) s n e r → Route f s x y at e r
         route_so j R = whole (piece_then P i (piece_then Q j R))
 
-pub route_inside : {f s : List ℕ} {x y at e : ℕ} {r : Skip} → Route f s x y at e r → {m : ℕ} → r ≡ At m → {a : ℕ}
+pub route_inside : {f s : List ℕ} {x y at e : ℕ} {r : Option ℕ} → Route f s x y at e r → {m : ℕ} → r ≡ Some m → {a : ℕ}
     → Inside s a e → Inside s m e
 route_inside R h I = piece_inside R.is h I
 
@@ -127,8 +121,8 @@ before = 35 ∷ 114 ∷ 61 ∷ []
 abbrev pub between : List ℕ
 between = 38 ∷ 100 ∷ 61 ∷ []
 
-module _ {f s : List ℕ} {x y at e : ℕ} {q : Skip} (P : Piece before s at e q) where
-  pub head_mark : q ≡ Broken → Head f s x y at e Broken
+module _ {f s : List ℕ} {x y at e : ℕ} {q : Option ℕ} (P : Piece before s at e q) where
+  pub head_mark : q ≡ None → Head f s x y at e None
   head_mark h =
       record {
         moves = moves_stop;
@@ -136,22 +130,22 @@ module _ {f s : List ℕ} {x y at e : ℕ} {q : Skip} (P : Piece before s at e q
             piece_stop (piece_stop (piece_stop P (prefixed f (bytes s x y)) h) between refl) (direction_text w) refl;
       }
 
-  module _ {m : ℕ} (h : q ≡ At m) {o : Skip} (R : Route f s x y m e o) where
+  module _ {m : ℕ} (h : q ≡ Some m) {o : Option ℕ} (R : Route f s x y m e o) where
     first_two : Piece (before ++ prefixed f (bytes s x y)) s at e o
     first_two = piece_then P h R.is
 
-    pub head_route : o ≡ Broken → Head f s x y at e Broken
+    pub head_route : o ≡ None → Head f s x y at e None
     head_route i =
         record { moves = moves_stop; on = λ w u j. piece_stop (piece_stop first_two between i) (direction_text w) refl }
 
-    module _ {n : ℕ} (i : o ≡ At n) {g : Skip} (B : Piece between s n e g) where
+    module _ {n : ℕ} (i : o ≡ Some n) {g : Option ℕ} (B : Piece between s n e g) where
       first_three : Piece (before ++ prefixed f (bytes s x y) ++ between) s at e g
       first_three = piece_then first_two i B
 
-      pub head_between : g ≡ Broken → Head f s x y at e Broken
+      pub head_between : g ≡ None → Head f s x y at e None
       head_between j = record { moves = moves_stop; on = λ w u k. piece_stop first_three (direction_text w) j }
 
-      pub head_so : {p : ℕ} → g ≡ At p → {r : Skip} → Direction s y p e r → Head f s x y at e r
+      pub head_so : {p : ℕ} → g ≡ Some p → {r : Option ℕ} → Direction s y p e r → Head f s x y at e r
       head_so j D =
           record {
             moves = moves_then (piece_moves first_three) j D.moves;
@@ -165,64 +159,64 @@ date_mark = 38 ∷ 115 ∷ 100 ∷ 61 ∷ []
 abbrev pub time_mark : List ℕ
 time_mark = 38 ∷ 115 ∷ 116 ∷ 61 ∷ []
 
-module _ {s : List ℕ} {b d u v at e : ℕ} {q : Skip} (P : Piece date_mark s at e q) where
-  pub tail_mark : q ≡ Broken → Tail s b d u v at e Broken
+module _ {s : List ℕ} {b d u v at e : ℕ} {q : Option ℕ} (P : Piece date_mark s at e q) where
+  pub tail_mark : q ≡ None → Tail s b d u v at e None
   tail_mark h =
       record { is = piece_stop (piece_stop (piece_stop P (bytes s b d) h) time_mark refl) (bytes s u v) refl }
 
-  module _ {m : ℕ} (h : q ≡ At m) {o : Skip} (D : Piece (bytes s b d) s m e o) where
-    pub tail_date : o ≡ Broken → Tail s b d u v at e Broken
+  module _ {m : ℕ} (h : q ≡ Some m) {o : Option ℕ} (D : Piece (bytes s b d) s m e o) where
+    pub tail_date : o ≡ None → Tail s b d u v at e None
     tail_date i = record { is = piece_stop (piece_stop (piece_then P h D) time_mark i) (bytes s u v) refl }
 
-    module _ {n : ℕ} (i : o ≡ At n) {g : Skip} (M : Piece time_mark s n e g) where
-      pub tail_between : g ≡ Broken → Tail s b d u v at e Broken
+    module _ {n : ℕ} (i : o ≡ Some n) {g : Option ℕ} (M : Piece time_mark s n e g) where
+      pub tail_between : g ≡ None → Tail s b d u v at e None
       tail_between j = record { is = piece_stop (piece_then (piece_then P h D) i M) (bytes s u v) j }
 
-      pub tail_so : {p : ℕ} → g ≡ At p → {r : Skip} → Piece (bytes s u v) s p e r → Tail s b d u v at e r
+      pub tail_so : {p : ℕ} → g ≡ Some p → {r : Option ℕ} → Piece (bytes s u v) s p e r → Tail s b d u v at e r
       tail_so j T = record { is = piece_then (piece_then (piece_then P h D) i M) j T }
 
-pub head_inside : {f s : List ℕ} {x y at e : ℕ} {r : Skip} → Head f s x y at e r → {m : ℕ} → r ≡ At m → {a : ℕ}
+pub head_inside : {f s : List ℕ} {x y at e : ℕ} {r : Option ℕ} → Head f s x y at e r → {m : ℕ} → r ≡ Some m → {a : ℕ}
     → Inside s a e → Inside s m e
 head_inside H h I = moves_inside H.moves h I
 
 -- where a text stands is inside
-pub span_inside : {l : ℕ} {c : Class} {s : List ℕ} {at : ℕ} {r : CheckedText} → Spans l c s at r → {a e : ℕ}
-    → r ≡ span.At a e
+pub span_inside : {l : ℕ} {c : Class} {s : List ℕ} {at : ℕ} {r : Option (ℕ × ℕ)} → Spans l c s at r → {a e : ℕ}
+    → r ≡ Some (a, e)
     → Inside s a e
 span_inside S h = record { forward = span_forward S h; within = span_within S h }
 
 -- HEAD AND TAIL
-module _ {f s : List ℕ} {a e b d x y u v : ℕ} {q : Skip} (H : Head f s x y a e q) where
-  pub match_head : q ≡ Broken → Matches f s a e b d x y u v false
+module _ {f s : List ℕ} {a e b d x y u v : ℕ} {q : Option ℕ} (H : Head f s x y a e q) where
+  pub match_head : q ≡ None → Matches f s a e b d x y u v false
   match_head h =
       record {
         on = λ w z i.
             piece_not (piece_stop (H.on w z i) (tail_of (bytes s b d) (bytes s u v)) h) refl;
       }
 
-  module _ {m : ℕ} (h : q ≡ At m) {o : Skip} (T : Tail s b d u v m e o) where
-    pub match_tail : o ≡ Broken → Matches f s a e b d x y u v false
+  module _ {m : ℕ} (h : q ≡ Some m) {o : Option ℕ} (T : Tail s b d u v m e o) where
+    pub match_tail : o ≡ None → Matches f s a e b d x y u v false
     match_tail j = record { on = λ w z i. piece_not (piece_then (H.on w z i) h T.is) j }
 
-    pub match_so : Inside s a e → {n : ℕ} → o ≡ At n → {t : Bool} → t ≡ eqb n e → Matches f s a e b d x y u v t
+    pub match_so : Inside s a e → {n : ℕ} → o ≡ Some n → {t : Bool} → t ≡ eqb n e → Matches f s a e b d x y u v t
     match_so I j {t} k = record { on = λ w z i. piece_end (piece_then (H.on w z i) h T.is) j I t k }
 
 -- THE INCOMPLETE KEY
 abbrev time_on : Format
 time_on = time & list 128 (number32 & stop_update)
 
-module _ {s : List ℕ} {d : ℕ} {r : CheckedText} (R : Spans 64 printable s d r) where
-  pub incomplete_route : {f : List ℕ} {a e b : ℕ} → r ≡ span.No → Incomplete f s a e b d false
+module _ {s : List ℕ} {d : ℕ} {r : Option (ℕ × ℕ)} (R : Spans 64 printable s d r) where
+  pub incomplete_route : {f : List ℕ} {a e b : ℕ} → r ≡ None → Incomplete f s a e b d false
   incomplete_route h =
       record { on = λ v u q g. absurd (no_parts (optional number32 & time_on) (span_none R h) q refl g) }
 
-  module _ {x y : ℕ} (h : r ≡ span.At x y) where
+  module _ {x y : ℕ} (h : r ≡ Some (x, y)) where
     routed : {v : Value route_on} {u : List ℕ} → read route_on (drop d s) ≡ some (v, u)
         → Parts id (optional number32 & time_on) s d y v u
     routed q = parts (optional number32 & time_on) (span_is R h) q refl
 
-    module _ {o : Skip} (W : Fine (optional number32) s y o) where
-      pub incomplete_way : {f : List ℕ} {a e b : ℕ} → o ≡ Broken → Incomplete f s a e b d false
+    module _ {o : Option ℕ} (W : Fine (optional number32) s y o) where
+      pub incomplete_way : {f : List ℕ} {a e b : ℕ} → o ≡ None → Incomplete f s a e b d false
       incomplete_way i =
           record {
             on = λ v u q g.
@@ -230,12 +224,12 @@ module _ {s : List ℕ} {d : ℕ} {r : CheckedText} (R : Spans 64 printable s d 
                 (optional number32 & time_on) v.1) g));
           }
 
-      module _ {z : ℕ} (i : o ≡ At z) {p : CheckedText} (T : Spans 16 printable s z p) where
+      module _ {z : ℕ} (i : o ≡ Some z) {p : Option (ℕ × ℕ)} (T : Spans 16 printable s z p) where
         timed : {v : Value route_on} {u : List ℕ} → read route_on (drop d s) ≡ some (v, u)
             → Parts (optional number32) time_on s y z v.1 u
         timed q = parts time_on W (routed q).rest i
 
-        pub incomplete_time : {f : List ℕ} {a e b : ℕ} → p ≡ span.No → Incomplete f s a e b d false
+        pub incomplete_time : {f : List ℕ} {a e b : ℕ} → p ≡ None → Incomplete f s a e b d false
         incomplete_time j =
             record {
               on = λ v u q g.
@@ -245,7 +239,7 @@ module _ {s : List ℕ} {d : ℕ} {r : CheckedText} (R : Spans 64 printable s d 
                   (and_right (fine id v.0) (fine (optional number32 & time_on) v.1) g)));
             }
 
-        pub incomplete_so : {f : List ℕ} {a e b : ℕ} {k l : ℕ} → p ≡ span.At k l → {t : Bool}
+        pub incomplete_so : {f : List ℕ} {a e b : ℕ} {k l : ℕ} → p ≡ Some (k, l) → {t : Bool}
             → Matches f s a e b d x y k l t → Incomplete f s a e b d t
         incomplete_so {f} {a} {e} {b} {k} {l} j {t} M = record { on = λ v u q g. told v u q }
           where
@@ -324,7 +318,7 @@ module _ {s : List ℕ} {a e b d : ℕ} (I : Inside s a e) (J : Inside s b d) wh
   dated_long h =
       record { on = λ c. dated_over size (bytes s b d) (bytes s a e) (omega (arith, sized)) (omega (arith, sized)) }
 
-  module _ (z : d - b ≡ 0 → ⊥) (h : d - b + 2 ≤ e - a) (k : e - a ≤ d - b + 65) {q : Skip}
+  module _ (z : d - b ≡ 0 → ⊥) (h : d - b + 2 ≤ e - a) (k : e - a ≤ d - b + 65) {q : Option ℕ}
       (P : Piece (64 ∷ []) s (e - (d - b) - 1) e q) where
     abbrev mark : ℕ
     mark = e - (d - b) - 1
@@ -346,14 +340,14 @@ module _ {s : List ℕ} {a e b d : ℕ} (I : Inside s a e) (J : Inside s b d) wh
         (bytes_join s a mark e (omega (arith, I.forward)) (omega arith))
         ∙ same_front (bytes s a mark) (bytes s mark e) (64 ∷ bytes s b d)
 
-    pub dated_mark : q ≡ Broken → Dated s a e b d false
+    pub dated_mark : q ≡ None → Dated s a e b d false
     dated_mark i = record { on = λ c. piece_not (piece_stop P (bytes s b d) i) refl ∙ sym (told c) }
 
-    module _ {m : ℕ} (i : q ≡ At m) {o : Skip} (Q : Piece (bytes s b d) s m e o) where
-      pub dated_other : o ≡ Broken → Dated s a e b d false
+    module _ {m : ℕ} (i : q ≡ Some m) {o : Option ℕ} (Q : Piece (bytes s b d) s m e o) where
+      pub dated_other : o ≡ None → Dated s a e b d false
       dated_other j = record { on = λ c. piece_not (piece_then P i Q) j ∙ sym (told c) }
 
-      pub dated_so : {n : ℕ} → o ≡ At n → {t : Bool} → t ≡ eqb n e → Dated s a e b d t
+      pub dated_so : {n : ℕ} → o ≡ Some n → {t : Bool} → t ≡ eqb n e → Dated s a e b d t
       dated_so j {t} w =
           record {
             on = λ c.
@@ -394,16 +388,16 @@ module _ {f s : List ℕ} {a e : ℕ} (I : Inside s a e) where
 abbrev flag_on : Format
 flag_on = small 1 & date & route_on
 
-module _ {s : List ℕ} {e : ℕ} {r : Skip} (A : Fine (optional delay) s e r) where
-  pub longer_delay : {f : List ℕ} {a : ℕ} → r ≡ Broken → Longer f s a e false
+module _ {s : List ℕ} {e : ℕ} {r : Option ℕ} (A : Fine (optional delay) s e r) where
+  pub longer_delay : {f : List ℕ} {a : ℕ} → r ≡ None → Longer f s a e false
   longer_delay h = record { on = λ c v u q g. absurd (no_parts flag_on A q h g) }
 
-  module _ {p : ℕ} (h : r ≡ At p) {o : Skip} (B : Fine (small 1) s p o) where
+  module _ {p : ℕ} (h : r ≡ Some p) {o : Option ℕ} (B : Fine (small 1) s p o) where
     behind_delay : {v : Trip} {u : List ℕ} → read trip (drop e s) ≡ some (v, u)
         → read flag_on (drop p s) ≡ some (v.1, u)
     behind_delay q = (parts flag_on A q h).rest
 
-    pub longer_flag : {f : List ℕ} {a : ℕ} → o ≡ Broken → Longer f s a e false
+    pub longer_flag : {f : List ℕ} {a : ℕ} → o ≡ None → Longer f s a e false
     longer_flag i =
         record {
           on = λ c v u q g.
@@ -412,12 +406,12 @@ module _ {s : List ℕ} {e : ℕ} {r : Skip} (A : Fine (optional delay) s e r) w
               v.1) g));
         }
 
-    module _ {q : ℕ} (i : o ≡ At q) {w : CheckedText} (D : Spans 16 printable s q w) where
+    module _ {q : ℕ} (i : o ≡ Some q) {w : Option (ℕ × ℕ)} (D : Spans 16 printable s q w) where
       behind_flag : {v : Trip} {u : List ℕ} → read trip (drop e s) ≡ some (v, u)
           → read (date & route_on) (drop q s) ≡ some (v.1.1, u)
       behind_flag x = (parts (date & route_on) B (behind_delay x) i).rest
 
-      pub longer_date : {f : List ℕ} {a : ℕ} → w ≡ span.No → Longer f s a e false
+      pub longer_date : {f : List ℕ} {a : ℕ} → w ≡ None → Longer f s a e false
       longer_date j =
           record {
             on = λ c v u x g.
@@ -426,7 +420,7 @@ module _ {s : List ℕ} {e : ℕ} {r : Skip} (A : Fine (optional delay) s e r) w
                 (and_right (fine (optional delay) v.0) (fine flag_on v.1) g));
           }
 
-      module _ {a b d : ℕ} (j : w ≡ span.At b d) {t : Bool} (T : Dated s a e b d t) where
+      module _ {a b d : ℕ} (j : w ≡ Some (b, d)) {t : Bool} (T : Dated s a e b d t) where
         cut : {v : Trip} {u : List ℕ} → read trip (drop e s) ≡ some (v, u) → Parts date route_on s q d v.1.1 u
         cut x = parts route_on (span_is D j) (behind_flag x) refl
 

@@ -1,11 +1,9 @@
 -- Law. Pieces of a key, one after another.
-use Rattle.std.specs.Prelude.{◌≡◌, refl, List, [], ◌∷◌, ◌++◌, Bool, true, false, ℕ, suc, ◌+◌, ◌-◌, ◌/◌, ◌%◌, ◌≤◌, ◌<◌, eqb, length, take, drop, get_or}
+use Rattle.std.specs.Prelude.{◌≡◌, refl, List, [], ◌∷◌, ◌++◌, Bool, true, false, ℕ, suc, ◌+◌, ◌-◌, ◌/◌, ◌%◌, ◌≤◌, ◌<◌, eqb, length, take, drop, get_or, Option, Some, None}
 use Rattle.std.proofs.Common.{sym, ap, ◌∙◌, append_assoc, append-nil, arith, length-append, length-drop, length-take-le, take-add, take-take, drop-drop, drop-cons, eqb-true, lt-ltb, le-ltb}
 use Rattle.std.proofs.lemmas.List.{append_cancel_left}
 use Rattle.std.proofs.Math.Seq.{take-append_seam}
 use Rattle.std.proofs.lemmas.Bool.{eqb-false}
-use Rattle.formats.specs.declared.Skip.{Skip}
-use Rattle.formats.specs.declared.Skip.TheVariants.{At, Broken}
 use Rattle.basics.specs.Texts.{same}
 use Rattle.basics.specs.Laws.Booleans.{false_true}
 use Rattle.basics.specs.Laws.Texts.{same_refl, same_true}
@@ -28,21 +26,21 @@ bytes_none s a e z = rw z refl
 
 -- one piece
 module _ {s : List ℕ} {at e : ℕ} (I : Inside s at e) where
-  pub piece_empty : Piece [] s at e (At at)
+  pub piece_empty : Piece [] s at e (Some at)
   piece_empty = record { tells = (omega arith, I.forward, bytes_none s at at (omega arith)) }
 
-  pub piece_short : {x : List ℕ} → e - at < length x → Piece x s at e Broken
+  pub piece_short : {x : List ℕ} → e - at < length x → Piece x s at e None
   piece_short {x} h =
       record { tells = λ z q. omega (arith, bytes_length I, ap length q, length-append x z) }
 
   module _ {x : List ℕ} (h : length x ≤ e - at) {t : Bool} (i : t ≡ same (take (at + length x - at)
       (drop at s)) x) where
-    pub piece_so : t ≡ true → Piece x s at e (At (at + length x))
+    pub piece_so : t ≡ true → Piece x s at e (Some (at + length x))
     piece_so f =
         let k : at + length x ≤ e = omega (arith, I.forward) in
         record { tells = (omega arith, k, same_true (bytes s at (at + length x)) x (sym i ∙ f)) }
 
-    pub piece_other : t ≡ false → Piece x s at e Broken
+    pub piece_other : t ≡ false → Piece x s at e None
     piece_other f = record { tells = λ z q. false_true (sym f ∙ i ∙ ap (λ y. same y x) (is z q) ∙ same_refl x) }
       where
         is : (z : List ℕ) → bytes s at e ≡ x ++ z → take (at + length x - at) (drop at s) ≡ x
@@ -51,18 +49,18 @@ module _ {s : List ℕ} {at e : ℕ} (I : Inside s at e) where
             rw n (sym (take-take (length x) (e - at) (drop at s) h) ∙ ap (take (length x)) q ∙ take-append_seam x z)
 
   -- one byte
-  pub byte_end : {x : ℕ} → e ≤ at → Piece (x ∷ []) s at e Broken
+  pub byte_end : {x : ℕ} → e ≤ at → Piece (x ∷ []) s at e None
   byte_end h = piece_short (omega arith)
 
   module _ {x b : ℕ} (h : at < e) (i : b ≡ get_or s at 0) where
-    pub byte_so : b ≡ x → Piece (x ∷ []) s at e (At (at + 1))
+    pub byte_so : b ≡ x → Piece (x ∷ []) s at e (Some (at + 1))
     byte_so f =
         let n : at + 1 - at ≡ suc 0 = omega arith in
         let j : get_or s at 0 ≡ x = sym i ∙ f in
         let here : at < length s = omega (arith, I.within) in
         record { tells = (omega arith, omega arith, rw (n, drop-cons s at 0 here) (ap (λ y. y ∷ []) j)) }
 
-    pub byte_other : (b ≡ x → ⊥) → Piece (x ∷ []) s at e Broken
+    pub byte_other : (b ≡ x → ⊥) → Piece (x ∷ []) s at e None
     byte_other f =
         let n : e - at ≡ suc (e - at - 1) = omega arith in
         let here : at < length s = omega (arith, I.within) in
@@ -72,14 +70,14 @@ module _ {s : List ℕ} {at e : ℕ} (I : Inside s at e) where
         heads q = cc
 
 -- one after the other
-module _ {x s : List ℕ} {at e : ℕ} {r : Skip} (P : Piece x s at e r) where
-  stops : r ≡ Broken → (z : List ℕ) → bytes s at e ≡ x ++ z → ⊥
+module _ {x s : List ℕ} {at e : ℕ} {r : Option ℕ} (P : Piece x s at e r) where
+  stops : r ≡ None → (z : List ℕ) → bytes s at e ≡ x ++ z → ⊥
   stops h = rw h at P.tells
 
-  pub piece_stop : (y : List ℕ) → r ≡ Broken → Piece (x ++ y) s at e Broken
+  pub piece_stop : (y : List ℕ) → r ≡ None → Piece (x ++ y) s at e None
   piece_stop y h = record { tells = λ z q. stops h (y ++ z) (q ∙ append_assoc x y z) }
 
-  module _ {m : ℕ} (h : r ≡ At m) where
+  module _ {m : ℕ} (h : r ≡ Some m) where
     at_m : (at ≤ m) × (m ≤ e) × (bytes s at m ≡ x)
     at_m = rw h at P.tells
 
@@ -89,16 +87,16 @@ module _ {x s : List ℕ} {at e : ℕ} {r : Skip} (P : Piece x s at e r) where
     pub piece_inside : {a : ℕ} → Inside s a e → Inside s m e
     piece_inside I = record { forward = at_m.1; within = I.within }
 
-    pub piece_then : {y : List ℕ} {q : Skip} → Piece y s m e q → Piece (x ++ y) s at e q
+    pub piece_then : {y : List ℕ} {q : Option ℕ} → Piece y s m e q → Piece (x ++ y) s at e q
     piece_then {y} {q} Q = record { tells = go q Q.tells }
       where
-        go : (q : Skip) → Pieced y s m e q → Pieced (x ++ y) s at e q
-        go (At n) t = (
+        go : (q : Option ℕ) → Pieced y s m e q → Pieced (x ++ y) s at e q
+        go (Some n) t = (
           omega (arith, at_m.0, t.0),
           t.1,
           bytes_join s at m n at_m.0 t.0 ∙ rw (at_m.2, t.2) refl,
         )
-        go Broken t = λ z q.
+        go None t = λ z q.
             t z
             (append_cancel_left x (bytes s m e) (y ++ z)
             (ap (λ w. w ++ bytes s m e) (sym at_m.2) ∙ sym (bytes_join s at m e at_m.0 at_m.1) ∙ q
@@ -107,20 +105,20 @@ module _ {x s : List ℕ} {at e : ℕ} {r : Skip} (P : Piece x s at e r) where
   pub piece_moves : Moves at e r
   piece_moves = record { tells = go r P.tells }
     where
-      go : (r : Skip) → Pieced x s at e r → Moved at e r
-      go (At m) t = (t.0, t.1)
-      go Broken t = tt
+      go : (r : Option ℕ) → Pieced x s at e r → Moved at e r
+      go (Some m) t = (t.0, t.1)
+      go None t = tt
 
   -- the whole is the same just where the pieces end with it
   not_same : (b : Bool) → (b ≡ true → ⊥) → false ≡ b
   not_same false f = refl
   not_same true f = absurd (f refl)
 
-  pub piece_not : r ≡ Broken → false ≡ same (bytes s at e) x
+  pub piece_not : r ≡ None → false ≡ same (bytes s at e) x
   piece_not h =
       not_same (same (bytes s at e) x) (λ i. stops h [] (same_true (bytes s at e) x i ∙ sym (append-nil x)))
 
-  pub piece_end : {m : ℕ} → r ≡ At m → Inside s at e → (t : Bool) → t ≡ eqb m e → t ≡ same (bytes s at e) x
+  pub piece_end : {m : ℕ} → r ≡ Some m → Inside s at e → (t : Bool) → t ≡ eqb m e → t ≡ same (bytes s at e) x
   piece_end {m} h I true i =
       let j : m ≡ e = eqb-true m e (sym i) in
       let k : bytes s at e ≡ x = ap (bytes s at) (sym j) ∙ (at_m h).2 in
@@ -143,43 +141,43 @@ module _ {x s : List ℕ} {at e : ℕ} {r : Skip} (P : Piece x s at e r) where
       within p q = omega arith
 
 -- places that move on
-pub moves_stop : {at e : ℕ} → Moves at e Broken
+pub moves_stop : {at e : ℕ} → Moves at e None
 moves_stop = record { tells = tt }
 
-pub moves_none : {s : List ℕ} {at e : ℕ} → Inside s at e → Moves at e (At at)
+pub moves_none : {s : List ℕ} {at e : ℕ} → Inside s at e → Moves at e (Some at)
 moves_none I = record { tells = (omega arith, I.forward) }
 
-module _ {at e : ℕ} {r : Skip} (M : Moves at e r) {m : ℕ} (h : r ≡ At m) where
+module _ {at e : ℕ} {r : Option ℕ} (M : Moves at e r) {m : ℕ} (h : r ≡ Some m) where
   moved : (at ≤ m) × (m ≤ e)
   moved = rw h at M.tells
 
   pub moves_inside : {s : List ℕ} {a : ℕ} → Inside s a e → Inside s m e
   moves_inside I = record { forward = moved.1; within = I.within }
 
-  pub moves_then : {q : Skip} → Moves m e q → Moves at e q
+  pub moves_then : {q : Option ℕ} → Moves m e q → Moves at e q
   moves_then {q} N = record { tells = go q N.tells }
     where
-      go : (q : Skip) → Moved m e q → Moved at e q
-      go (At n) t = (omega (arith, moved.0, t.0), t.1)
-      go Broken t = tt
+      go : (q : Option ℕ) → Moved m e q → Moved at e q
+      go (Some n) t = (omega (arith, moved.0, t.0), t.1)
+      go None t = tt
 
 -- numbers in decimal
 module _ (k n : ℕ) {s : List ℕ} {at e : ℕ} where
-  pub decimal_none : Inside s at e → k ≡ 0 → Piece (decimal_of k n) s at e (At at)
+  pub decimal_none : Inside s at e → k ≡ 0 → Piece (decimal_of k n) s at e (Some at)
   decimal_none I z = rw z (piece_empty I)
 
-  pub decimal_one : (k ≡ 0 → ⊥) → n < 10 → {r : Skip} → Piece ((48 + n) ∷ []) s at e r → Piece (decimal_of k n) s at e r
+  pub decimal_one : (k ≡ 0 → ⊥) → n < 10 → {r : Option ℕ} → Piece ((48 + n) ∷ []) s at e r → Piece (decimal_of k n) s at e r
   decimal_one z h {r} P =
       let j : k ≡ suc (k - 1) = omega arith in
       rw (j, lt-ltb n 10 h) P
 
-  module _ (z : k ≡ 0 → ⊥) (h : 10 ≤ n) {r : Skip} (P : Piece (decimal_of (k - 1) (n / 10)) s at e r) where
-    pub decimal_stop : r ≡ Broken → Piece (decimal_of k n) s at e Broken
+  module _ (z : k ≡ 0 → ⊥) (h : 10 ≤ n) {r : Option ℕ} (P : Piece (decimal_of (k - 1) (n / 10)) s at e r) where
+    pub decimal_stop : r ≡ None → Piece (decimal_of k n) s at e None
     decimal_stop i =
         let j : k ≡ suc (k - 1) = omega arith in
         rw (j, le-ltb n 10 h) (piece_stop P ((48 + n % 10) ∷ []) i)
 
-    pub decimal_more : {m : ℕ} → r ≡ At m → {q : Skip} → Piece ((48 + n % 10) ∷ []) s m e q
+    pub decimal_more : {m : ℕ} → r ≡ Some m → {q : Option ℕ} → Piece ((48 + n % 10) ∷ []) s m e q
         → Piece (decimal_of k n) s at e q
     decimal_more i Q =
         let j : k ≡ suc (k - 1) = omega arith in

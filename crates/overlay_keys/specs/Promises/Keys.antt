@@ -1,9 +1,8 @@
 -- Promise. Whether a key that stands in front of a trip's record is one of the record's.
-use Rattle.std.specs.Prelude.{◌≡◌, Bool, true, ◌||◌, List, ◌++◌, ℕ, drop}
+use Rattle.std.specs.Prelude.{◌≡◌, Bool, true, ◌||◌, List, ◌++◌, ℕ, drop, Option}
 use Rattle.std.proofs.Math.Option.{some}
 use Rattle.formats.specs.Class.{printable, in_class}
 use Rattle.formats.specs.Format.{Format, optional, list, ◌&◌, Value, read}
-use Rattle.formats.specs.declared.Skip.{Skip}
 use Rattle.formats_check.specs.Promises.Checked.{fine}
 use Rattle.basics.specs.Texts.{same}
 use Rattle.decode.specs.Trip.{Trip, id, number32, time, stop_update, trip, date_of}
@@ -16,21 +15,21 @@ abbrev pub route_on : Format
 route_on = id & optional number32 & time & list 128 (number32 & stop_update)
 
 -- for the direction that stands at y: it is a piece; the head of the incomplete key is one, its route from x up to y
-pub record Direction (s : List ℕ) (y at e : ℕ) (r : Skip) : Type 0 where
+pub record Direction (s : List ℕ) (y at e : ℕ) (r : Option ℕ) : Type 0 where
   pub moves : Moves at e r
   pub on : (w : Maybe ℕ) (u : List ℕ) → read (optional number32) (drop y s) ≡ some (w, u)
       → Piece (direction_text w) s at e r
 
-pub record Route (f s : List ℕ) (x y at e : ℕ) (r : Skip) : Type 0 where
+pub record Route (f s : List ℕ) (x y at e : ℕ) (r : Option ℕ) : Type 0 where
   pub is : Piece (prefixed f (bytes s x y)) s at e r
 
-pub record Head (f s : List ℕ) (x y at e : ℕ) (r : Skip) : Type 0 where
+pub record Head (f s : List ℕ) (x y at e : ℕ) (r : Option ℕ) : Type 0 where
   pub moves : Moves at e r
   pub on : (w : Maybe ℕ) (u : List ℕ) → read (optional number32) (drop y s) ≡ some (w, u)
       → Piece (head_of f (bytes s x y) w) s at e r
 
 -- the date from b up to d, the time from u up to v
-pub record Tail (s : List ℕ) (b d u v at e : ℕ) (r : Skip) : Type 0 where
+pub record Tail (s : List ℕ) (b d u v at e : ℕ) (r : Option ℕ) : Type 0 where
   pub is : Piece (tail_of (bytes s b d) (bytes s u v)) s at e r
 
 pub record Matches (f s : List ℕ) (a e b d x y u v : ℕ) (t : Bool) : Type 0 where

@@ -10,23 +10,23 @@ overflow_sub-result c =
     c.read_entry-y.ensures c.first.ensures)
     c.in-Less.is
 
-pub overflow_sub-result-in-Same : goal.overflow_sub-result-in-Same
-overflow_sub-result-in-Same c =
+pub overflow_sub-result-in-Equal : goal.overflow_sub-result-in-Equal
+overflow_sub-result-in-Equal c =
     left_same (firsts c.args.n c.args.m c.read_entry-x.ensures
     c.read_entry-y.ensures c.first.ensures)
-    c.in-Same.is
+    c.in-Equal.is
 
-pub overflow_sub-result-in-Same-2 : goal.overflow_sub-result-in-Same-2
-overflow_sub-result-in-Same-2 c =
+pub overflow_sub-result-in-Equal-2 : goal.overflow_sub-result-in-Equal-2
+overflow_sub-result-in-Equal-2 c =
     left_both (firsts c.args.n c.args.m c.read_entry-x.ensures
     c.read_entry-y.ensures c.first.ensures)
-    c.requires c.in-Same.is
+    c.requires c.in-Equal.is
 
-pub overflow_sub-result-in-More : goal.overflow_sub-result-in-More
-overflow_sub-result-in-More c =
+pub overflow_sub-result-in-Greater : goal.overflow_sub-result-in-Greater
+overflow_sub-result-in-Greater c =
     left_more (firsts c.args.n c.args.m c.read_entry-x.ensures
     c.read_entry-y.ensures c.first.ensures)
-    c.requires c.in-More.is
+    c.requires c.in-Greater.is
 
 pub returns-in-Less : goal.returns-in-Less
 returns-in-Less c =
@@ -34,14 +34,14 @@ returns-in-Less c =
     c.read_entry-y.ensures c.first.ensures)
     c.fresh.ensures c.in-Less.is
 
-pub returns-in-Same : goal.returns-in-Same
-returns-in-Same c =
+pub returns-in-Equal : goal.returns-in-Equal
+returns-in-Equal c =
     turned_same (firsts c.args.n c.args.m c.read_entry-x.ensures
     c.read_entry-y.ensures c.first.ensures)
-    c.fresh-in-Same.ensures c.in-Same.is
+    c.fresh-in-Equal.ensures c.in-Equal.is
 
-pub returns-in-More : goal.returns-in-More
-returns-in-More c =
+pub returns-in-Greater : goal.returns-in-Greater
+returns-in-Greater c =
     turned_more (firsts c.args.n c.args.m c.read_entry-x.ensures
     c.read_entry-y.ensures c.first.ensures)
-    c.fresh-in-More.ensures c.requires c.in-More.is
+    c.fresh-in-Greater.ensures c.requires c.in-Greater.is

@@ -1,11 +1,10 @@
 -- Law. The merge run to count, and run to write.
-use Rattle.std.specs.Prelude.{◌≡◌, refl, Bool, true, false, cond, List, [], ◌∷◌, ℕ, ◌+◌, ◌≤◌, ◌<◌, length}
+use Rattle.std.specs.Prelude.{◌≡◌, refl, Bool, true, false, cond, List, [], ◌∷◌, ℕ, ◌+◌, ◌≤◌, ◌<◌, length, Option}
 use Rattle.std.proofs.Common.{sym, ◌∙◌, append-nil, arith, length-append}
 use Rattle.std.proofs.Math.Seq.{slice}
 use Rattle.basics.specs.Laws.Booleans.{false_true}
 use Rattle.formats.specs.Readers.{many_w}
 use Rattle.formats.specs.Format.{write}
-use Rattle.formats_write.specs.declared.Put.{Put}
 use Rattle.formats_write.specs.Laws.Adds.{none, then, same}
 use Rattle.formats_write.specs.Promises.Adds.{Adds}
 use Rattle.formats_read.specs.Laws.Progress.{one_more}
@@ -55,16 +54,16 @@ module _ {sheet : List ℕ} {a n : ℕ} {old : List ℕ} {b m limit : ℕ} where
     }
 
 -- the writing of what was kept so far
-pub record Writing (l : List ℕ) (r : Put) (o : List ℕ) (k : Put) (sheet : List ℕ) (a n : ℕ) (old : List ℕ)
+pub record Writing (l : List ℕ) (r : Option ℕ) (o : List ℕ) (k : Option ℕ) (sheet : List ℕ) (a n : ℕ) (old : List ℕ)
     (b m limit p i q j : ℕ) : Type 0 where
   pub merge : Merge sheet a n old b m limit p i q j (λ us. Adds l r o k (many_w (write vehicle_entry) us))
 
-module _ {l : List ℕ} {r : Put} {sheet : List ℕ} {a n : ℕ} {old : List ℕ} {b m limit : ℕ} where
+module _ {l : List ℕ} {r : Option ℕ} {sheet : List ℕ} {a n : ℕ} {old : List ℕ} {b m limit : ℕ} where
   pub write_start : Writing l r l r sheet a n old b m limit a n b m
   write_start = record { merge = begin none }
 
-  module _ {o : List ℕ} {k : Put} {p i q j : ℕ} (W : Writing l r o k sheet a n old b m limit p i q j) where
-    pub write_on : {t : Turn} {o' : List ℕ} {k' : Put} → Turned sheet p i old q j limit t
+  module _ {o : List ℕ} {k : Option ℕ} {p i q j : ℕ} (W : Writing l r o k sheet a n old b m limit p i q j) where
+    pub write_on : {t : Turn} {o' : List ℕ} {k' : Option ℕ} → Turned sheet p i old q j limit t
         → PutsEntry o k o' k' sheet old t
         → Writing l r o' k' sheet a n old b m limit t.p t.n t.q t.m
     write_on U P = record {
@@ -77,7 +76,7 @@ module _ {l : List ℕ} {r : Put} {sheet : List ℕ} {a n : ℕ} {old : List ℕ
     write_end z = record { of = λ xs ys clock e B. ended W.merge z xs ys clock e B }
 
 -- ONE ENTRY: of the sheet, of the feed, or none
-module _ {l : List ℕ} {r : Put} {m : List ℕ} {q : Put} {sheet old : List ℕ} where
+module _ {l : List ℕ} {r : Option ℕ} {m : List ℕ} {q : Option ℕ} {sheet old : List ℕ} where
   module _ (t : Turn) where
     pub put_sheet : t.keep ≡ true → t.sheet ≡ true
         → (t.from ≤ t.to → t.to ≤ length sheet → Adds l r m q (slice t.from t.to sheet))
@@ -95,5 +94,5 @@ module _ {l : List ℕ} {r : Put} {m : List ℕ} {q : Put} {sheet old : List ℕ
       gone = λ y. false_true (sym y ∙ k);
     }
 
-pub put_none : {l : List ℕ} {r : Put} {sheet old : List ℕ} (t : Turn) → t.keep ≡ false → PutsEntry l r l r sheet old t
+pub put_none : {l : List ℕ} {r : Option ℕ} {sheet old : List ℕ} (t : Turn) → t.keep ≡ false → PutsEntry l r l r sheet old t
 put_none t k = record { kept = λ v h y. false_true (sym k ∙ y); gone = λ y. none }

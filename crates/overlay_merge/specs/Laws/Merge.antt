@@ -8,8 +8,8 @@ use Rattle.std.proofs.lemmas.Bool.{eqb-false, lt-leb}
 use Rattle.std.specs.Int.{w64}
 use Rattle.basics.specs.Laws.Booleans.{not_true}
 use Rattle.slices.specs.Lists.{lex_of}
-use Rattle.slices.specs.declared.Order.{Order}
-use Rattle.slices.specs.declared.Order.TheVariants.{Less, Same, More}
+use Rattle.std.specs.declared.cmp.Ordering.{Ordering}
+use Rattle.std.specs.declared.cmp.Ordering.TheVariants.{Less, Equal, Greater}
 use Rattle.maps.specs.Map.{puts}
 use Rattle.maps.specs.Order.{texts}
 use Rattle.maps.proofs.Laws.Map.{rest_ascending}
@@ -26,18 +26,18 @@ use Rattle.overlay_merge.specs.Promises.Merge.{Merge}
 use Rattle.overlay_merge.specs.Laws.Puts.{puts_last, puts_less, puts_same, puts_more}
 
 -- no order is another
-less_same : {C : Type 0} → Less ≡ Same → C
+less_same : {C : Type 0} → Less ≡ Equal → C
 less_same e = absurd (let z : ◌≡◌ {A = ℕ} 0 1 = cc in omega arith)
 
-less_more : {C : Type 0} → Less ≡ More → C
+less_more : {C : Type 0} → Less ≡ Greater → C
 less_more e = absurd (let z : ◌≡◌ {A = ℕ} 0 1 = cc in omega arith)
 
-same_more : {C : Type 0} → Same ≡ More → C
+same_more : {C : Type 0} → Equal ≡ Greater → C
 same_more e = absurd (let z : ◌≡◌ {A = ℕ} 0 1 = cc in omega arith)
 
 -- the order of the two first keys, by what is left
 module _ (n m : ℕ) (a b : List ℕ) where
-  at_end : 0 ≡ n → first_of n m a b ≡ More
+  at_end : 0 ≡ n → first_of n m a b ≡ Greater
   at_end e = rw (eq-eqb n 0 (sym e)) refl
 
   old_at_end : 0 < n → 0 ≡ m → first_of n m a b ≡ Less
@@ -46,13 +46,13 @@ module _ (n m : ℕ) (a b : List ℕ) where
   neither : 0 < n → 0 < m → first_of n m a b ≡ lex_of a b
   neither y z = rw (ne_eqb n 0 (omega arith), ne_eqb m 0 (omega arith)) refl
 
-  pub first_more : n ≡ 0 → More ≡ first_of n m a b
+  pub first_more : n ≡ 0 → Greater ≡ first_of n m a b
   first_more e = sym (at_end (sym e))
 
   pub first_less : (n ≡ 0 → ⊥) → m ≡ 0 → Less ≡ first_of n m a b
   first_less y e = rw (ne_eqb n 0 y, eq-eqb m 0 e) refl
 
-pub first_lex : (n m : ℕ) (s t : List ℕ) {a e b f : ℕ} {o : Order} → (n ≡ 0 → ⊥) → (m ≡ 0 → ⊥)
+pub first_lex : (n m : ℕ) (s t : List ℕ) {a e b f : ℕ} {o : Ordering} → (n ≡ 0 → ⊥) → (m ≡ 0 → ⊥)
     → (a ≤ e) × (e ≤ length s) × (b ≤ f) × (f ≤ length t)
     → o ≡ lex_of (take (e - a) (drop a s)) (take (f - b) (drop b t)) → o ≡ first_of n m (slice a e s) (slice b f t)
 first_lex n m s t {a} {e} {b} {f} y z h o =
@@ -105,12 +105,12 @@ module _ {sheet : List ℕ} {p n : ℕ} {old : List ℕ} {q m : ℕ} where
   }
 
 -- THE TURNS
-pub firsts : (n m : ℕ) {sheet : List ℕ} {p : ℕ} {old : List ℕ} {q xa xe xu xr ya ye yu yr : ℕ} {o : Order}
+pub firsts : (n m : ℕ) {sheet : List ℕ} {p : ℕ} {old : List ℕ} {q xa xe xu xr ya ye yu yr : ℕ} {o : Ordering}
     → ReadsEntry sheet p xa xe xu xr → ReadsEntry old q ya ye yu yr
     → o ≡ first_of n m (slice xa xe sheet) (slice ya ye old) → Firsts sheet p n old q m xa xe xu xr ya ye yu yr o
 firsts n m E F f = record { sheet_reads = E; old_reads = F; first = f }
 
-module _ {sheet : List ℕ} {p n : ℕ} {old : List ℕ} {q m xa xe xu xr ya ye yu yr : ℕ} {o : Order}
+module _ {sheet : List ℕ} {p n : ℕ} {old : List ℕ} {q m xa xe xu xr ya ye yu yr : ℕ} {o : Ordering}
     (H : Firsts sheet p n old q m xa xe xu xr ya ye yu yr o) where
   lex : {x y : List ℕ × Vehicle} {xs ys : Vehicles} → Both sheet p n old q m (x ∷ xs) (y ∷ ys) → o ≡ lex_of x.0 y.0
   lex {x} B =
@@ -120,7 +120,7 @@ module _ {sheet : List ℕ} {p n : ℕ} {old : List ℕ} {q m xa xe xu xr ya ye 
       ∙ ap (lex_of x.0) (H.old_reads.key B.old_stand.1)
 
   -- a list at its end
-  no_sheet : {ys : Vehicles} → Both sheet p n old q m [] ys → o ≡ More
+  no_sheet : {ys : Vehicles} → Both sheet p n old q m [] ys → o ≡ Greater
   no_sheet B = H.first ∙ at_end n m (slice xa xe sheet) (slice ya ye old) B.sheet_count
 
   no_old : {x : List ℕ × Vehicle} {xs : Vehicles} → Both sheet p n old q m (x ∷ xs) [] → o ≡ Less
@@ -128,7 +128,7 @@ module _ {sheet : List ℕ} {p n : ℕ} {old : List ℕ} {q m xa xe xu xr ya ye 
       H.first ∙ old_at_end n m (slice xa xe sheet) (slice ya ye old) (omega (arith, B.sheet_count)) B.old_count
 
   -- an entry of the sheet is left where it comes first; one of the feed, where it does and one is left at all
-  sheet_left : (o ≡ More → ⊥) → 0 < n
+  sheet_left : (o ≡ Greater → ⊥) → 0 < n
   sheet_left h = go (eqb n 0) refl
     where
       go : (t : Bool) → eqb n 0 ≡ t → 0 < n
@@ -148,13 +148,13 @@ module _ {sheet : List ℕ} {p n : ℕ} {old : List ℕ} {q m xa xe xu xr ya ye 
   pub left_less : o ≡ Less → 1 ≤ n
   left_less l = omega (arith, sheet_left (λ e. less_more (sym l ∙ e)))
 
-  pub left_same : o ≡ Same → 1 ≤ n
+  pub left_same : o ≡ Equal → 1 ≤ n
   left_same l = omega (arith, sheet_left (λ e. same_more (sym l ∙ e)))
 
-  pub left_both : 0 < n + m → o ≡ Same → 1 ≤ m
+  pub left_both : 0 < n + m → o ≡ Equal → 1 ≤ m
   left_both z l = omega (arith, old_left z (λ e. less_same (sym e ∙ l)))
 
-  pub left_more : 0 < n + m → o ≡ More → 1 ≤ m
+  pub left_more : 0 < n + m → o ≡ Greater → 1 ≤ m
   left_more z l = omega (arith, old_left z (λ e. less_more (sym e ∙ l)))
 
   module _ {limit : ℕ} {k : Bool} (G : Fresh xu limit k) where
@@ -197,7 +197,7 @@ module _ {sheet : List ℕ} {p n : ℕ} {old : List ℕ} {q m xa xe xu xr ya ye 
       takes = λ {xs} {ys} B. less l xs ys B;
     }
 
-    level : o ≡ Same → (xs ys : Vehicles) → Both sheet p n old q m xs ys → Taken sheet old limit same_turn xs ys
+    level : o ≡ Equal → (xs ys : Vehicles) → Both sheet p n old q m xs ys → Taken sheet old limit same_turn xs ys
     level l [] ys B = same_more (sym l ∙ no_sheet B)
     level l (x ∷ xs) [] B = less_same (sym (no_old B) ∙ l)
     level l (x ∷ xs) (y ∷ ys) B = record {
@@ -210,7 +210,7 @@ module _ {sheet : List ℕ} {p n : ℕ} {old : List ℕ} {q m xa xe xu xr ya ye 
       keeps = sheet_keeps B;
     }
 
-    pub turned_same : o ≡ Same → Turned sheet p n old q m limit same_turn
+    pub turned_same : o ≡ Equal → Turned sheet p n old q m limit same_turn
     turned_same l = record {
       falls = omega (arith, left_same l);
       takes = λ {xs} {ys} B. level l xs ys B;
@@ -226,7 +226,7 @@ module _ {sheet : List ℕ} {p n : ℕ} {old : List ℕ} {q m xa xe xu xr ya ye 
     abbrev more_turn : Turn
     more_turn = record { sheet = false; from = q; to = yr; keep = k; p = p; n = n; q = yr; m = m - 1 }
 
-    more : 0 < n + m → o ≡ More → (xs ys : Vehicles) → Both sheet p n old q m xs ys
+    more : 0 < n + m → o ≡ Greater → (xs ys : Vehicles) → Both sheet p n old q m xs ys
         → Taken sheet old limit more_turn xs ys
     more z l [] [] B = absurd (omega (arith, B.sheet_count, B.old_count))
     more z l [] (y ∷ ys) B = record {
@@ -249,7 +249,7 @@ module _ {sheet : List ℕ} {p n : ℕ} {old : List ℕ} {q m xa xe xu xr ya ye 
       keeps = old_keeps B;
     }
 
-    pub turned_more : 0 < n + m → o ≡ More → Turned sheet p n old q m limit more_turn
+    pub turned_more : 0 < n + m → o ≡ Greater → Turned sheet p n old q m limit more_turn
     turned_more z l = record {
       falls = omega (arith, left_more z l);
       takes = λ {xs} {ys} B. more z l xs ys B;

@@ -1,7 +1,7 @@
 -- Law. Entries that ascend, put one after the other into a map, are merged with it: of the two first ones the lesser
 -- comes first, and of two with one key the new one.
 use Rattle.std.specs.Prelude.{◌≡◌, refl, true, List, [], ◌∷◌}
-use Rattle.slices.specs.declared.Order.TheVariants.{Less, Same, More}
+use Rattle.std.specs.declared.cmp.Ordering.TheVariants.{Less, Equal, Greater}
 use Rattle.basics.specs.Laws.Booleans.{both_true}
 use Rattle.maps.specs.Map.{Ordered, is_less, put, puts, above, ascending}
 use Rattle.maps.proofs.Laws.Map.{Lawful, is_less_means}
@@ -30,11 +30,11 @@ module _ {K : Type 0} {O : Ordered K} (W : Lawful O) {A : Type 0} where
         → puts O (x ∷ l) (y ∷ m) ≡ x ∷ puts O l (y ∷ m)
     puts_less y m o = rw o (puts_past x l (y ∷ m) h)
 
-    pub puts_same : (y : K × A) (m : List (K × A)) → O.compare x.0 y.0 ≡ Same
+    pub puts_same : (y : K × A) (m : List (K × A)) → O.compare x.0 y.0 ≡ Equal
         → puts O (x ∷ l) (y ∷ m) ≡ x ∷ puts O l m
     puts_same y m o = rw o (puts_past x l m h)
 
-    pub puts_more : (y : K × A) (m : List (K × A)) → O.compare x.0 y.0 ≡ More
+    pub puts_more : (y : K × A) (m : List (K × A)) → O.compare x.0 y.0 ≡ Greater
         → puts O (x ∷ l) (y ∷ m) ≡ y ∷ puts O (x ∷ l) m
     puts_more y m o =
         rw o (puts_past y l (put O x.0 x.1 m) (above_less y.0 x.0 l (W.less x.0 y.0 o) h))

@@ -3,8 +3,8 @@ use Rattle.std.specs.Prelude.{◌≡◌, Bool, true, false, cond, not, List, ◌
 use Rattle.std.specs.Int.Signed.{lt_z}
 use Rattle.std.proofs.Math.Seq.{slice}
 use Rattle.slices.specs.Lists.{lex_of}
-use Rattle.slices.specs.declared.Order.{Order}
-use Rattle.slices.specs.declared.Order.TheVariants.{Less, More}
+use Rattle.std.specs.declared.cmp.Ordering.{Ordering}
+use Rattle.std.specs.declared.cmp.Ordering.TheVariants.{Less, Greater}
 use Rattle.maps.specs.Map.{puts, ascending}
 use Rattle.maps.specs.Order.{texts}
 use Rattle.formats.specs.Number.{zag}
@@ -16,15 +16,15 @@ use Rattle.overlay_merge.specs.declared.Turn.{Turn}
 use Rattle.overlay_merge.specs.Promises.Entry.{ReadsEntry}
 
 -- which of the two keys comes first, where n and m entries are left: a list that is at its end comes last
-abbrev pub first_of : ℕ → ℕ → List ℕ → List ℕ → Order
-first_of n m a b = cond (eqb n 0) More (cond (eqb m 0) Less (lex_of a b))
+abbrev pub first_of : ℕ → ℕ → List ℕ → List ℕ → Ordering
+first_of n m a b = cond (eqb n 0) Greater (cond (eqb m 0) Less (lex_of a b))
 
 -- an entry whose time has the code u is not told before the limit
 pub record Fresh (u limit : ℕ) (keep : Bool) : Type 0 where
   pub is : keep ≡ not (lt_z (zag u) (zag limit))
 
 -- what is read at the two places: the entries there, and which comes first
-pub record Firsts (sheet : List ℕ) (p n : ℕ) (old : List ℕ) (q m xa xe xu xr ya ye yu yr : ℕ) (o : Order) :
+pub record Firsts (sheet : List ℕ) (p n : ℕ) (old : List ℕ) (q m xa xe xu xr ya ye yu yr : ℕ) (o : Ordering) :
     Type 0 where
   pub sheet_reads : ReadsEntry sheet p xa xe xu xr
   pub old_reads : ReadsEntry old q ya ye yu yr

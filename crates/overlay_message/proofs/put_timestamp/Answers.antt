@@ -3,13 +3,13 @@ use Rattle.formats_write.specs.Promises.Given.{given_signed}
 use Rattle.overlay_message.specs.Laws.Bodies.{timestamp_new, timestamp_old}
 use Rattle.overlay_message.proofs.put_timestamp.Goals as goal
 
-pub returns-in-Given : goal.returns-in-Given
-returns-in-Given c =
-    timestamp_new c.args.given (given_signed c.args.known) c.in-Given.is
+pub returns-in-Some : goal.returns-in-Some
+returns-in-Some c =
+    timestamp_new c.args.given (given_signed c.args.known) c.in-Some.is
     c.signed_code.ensures
     c.byte-q.ensures c.number.ensures
 
-pub returns-in-Absent : goal.returns-in-Absent
-returns-in-Absent c =
-    timestamp_old c.args.given (given_signed c.args.known) c.in-Absent.is
+pub returns-in-None : goal.returns-in-None
+returns-in-None c =
+    timestamp_old c.args.given (given_signed c.args.known) c.in-None.is
     c.optional_signed.ensures

@@ -1,13 +1,11 @@
 -- Law. A feed as a message leaves it, written part by part.
-use Rattle.std.specs.Prelude.{ℕ, suc, ◌+◌, ◌-◌, ◌*◌, ◌≤◌, ◌<◌, ◌≡◌, refl, List, [], ◌∷◌, ◌++◌, ℤ, length}
+use Rattle.std.specs.Prelude.{ℕ, suc, ◌+◌, ◌-◌, ◌*◌, ◌≤◌, ◌<◌, ◌≡◌, refl, List, [], ◌∷◌, ◌++◌, ℤ, length, Option, Some, None}
 use Rattle.std.proofs.Common.{sym, ap, ap₂, subst, ◌∙◌, arith, lt-ltb, le-ltb}
 use Rattle.std.proofs.Math.Option.{some}
 use Rattle.std.proofs.Math.Seq.{slice}
 use Rattle.basics.specs.Options.{Maybe}
 use Rattle.formats.specs.Number.{number_w, zig}
 use Rattle.formats.specs.Format.{list, write}
-use Rattle.formats_write.specs.declared.Put.{Put}
-use Rattle.formats_write.specs.declared.Put.TheVariants.{At}
 use Rattle.formats_write.specs.Laws.Adds.{then, same, wrote}
 use Rattle.formats_write.specs.Laws.Slices.{slice_join}
 use Rattle.formats_write.specs.Promises.Adds.{Adds, Wrote}
@@ -17,7 +15,6 @@ use Rattle.realtime.specs.Schema.{feed_message}
 use Rattle.realtime.specs.Schema as schema
 use Rattle.realtime.specs.Typed.{int64}
 use Rattle.realtime_views.specs.declared.Header.{Header}
-use Rattle.realtime_views.specs.declared.Timestamp.{Timestamp}
 use Rattle.realtime_views.specs.Promises.Views.{HeaderRead, view_timestamp}
 use Rattle.decode.specs.Sizes.{most_trips}
 use Rattle.decode.specs.Trip.{trip_entry}
@@ -41,7 +38,7 @@ module _ {h : List ℕ} {F : Feed} {a e : ℕ} {p : Parts} (P : PartsOf h F a e 
       P.alerts_here.within)
       ∙ ap₂ ◌++◌ P.vehicles_here.written P.alerts_here.written
 
-  pub body_adds : {l₀ l₁ l₂ l₃ l₄ : List ℕ} {r₀ r₁ r₂ r₃ r₄ : Put} (v : Maybe ℤ) (n : ℕ) (T : Trips)
+  pub body_adds : {l₀ l₁ l₂ l₃ l₄ : List ℕ} {r₀ r₁ r₂ r₃ r₄ : Option ℕ} (v : Maybe ℤ) (n : ℕ) (T : Trips)
       → Adds l₀ r₀ l₁ r₁ (optional_w signed_w v) → Adds l₁ r₁ l₂ r₂ (number_w n)
       → Adds l₂ r₂ l₃ r₃ (write (list most_trips trip_entry) T)
       → (p.vehicles ≤ p.end → p.end ≤ length h → Adds l₃ r₃ l₄ r₄ (slice p.vehicles p.end h))
@@ -51,7 +48,7 @@ module _ {h : List ℕ} {F : Feed} {a e : ℕ} {p : Parts} (P : PartsOf h F a e 
       then x (then y (then z (same (w k P.alerts_here.within) rest_written)))
 
 -- the message's timestamp and the count of what it leaves
-pub feed_adds : {l m : List ℕ} {r q : Put} {h s : List ℕ} {F : Feed} {a e : ℕ} {p : Parts} {t : Tree} {d : Header}
+pub feed_adds : {l m : List ℕ} {r q : Option ℕ} {h s : List ℕ} {F : Feed} {a e : ℕ} {p : Parts} {t : Tree} {d : Header}
     {c : ℕ} (f : List ℕ) (T : Trips) → PartsOf h F a e p → tree schema.feed feed_message s ≡ some t
     → HeaderRead schema.feed s d → c ≡ count_without_at f T
     → Adds l r m q (write feed
@@ -64,19 +61,19 @@ feed_adds {s} {F} {p} {t} {d} f T P is H c x =
     (ap₂ timestamp_after (ap (λ h. h.timestamp) (H.of t is)) P.timestamp_is) c)
 
 -- a timestamp: of the message, and the old one
-pub timestamp_new : {l m o : List ℕ} {r q k : Put} (g : Timestamp) (v : Maybe ℤ) {n c : ℕ} → g ≡ Timestamp.Given n
+pub timestamp_new : {l m o : List ℕ} {r q k : Option ℕ} (g : Option ℕ) (v : Maybe ℤ) {n c : ℕ} → g ≡ Some n
     → c ≡ zig (int64 n) → Adds l r m q (1 ∷ []) → Adds m q o k (number_w c)
     → Adds l r o k (optional_w signed_w (timestamp_after (view_timestamp g) v))
 timestamp_new g v e d a b = rw e (then a (same b (ap number_w d)))
 
-pub timestamp_old : {l m : List ℕ} {r q : Put} (g : Timestamp) (v : Maybe ℤ) → g ≡ Timestamp.Absent
+pub timestamp_old : {l m : List ℕ} {r q : Option ℕ} (g : Option ℕ) (v : Maybe ℤ) → g ≡ None
     → Adds l r m q (optional_w signed_w v) → Adds l r m q (optional_w signed_w (timestamp_after (view_timestamp g) v))
 timestamp_old g v e a = rw e a
 
 -- the state around it
-pub state_wrote : {l₀ l₁ l₂ l₃ : List ℕ} {r₁ r₂ r₃ : Put} {b : List ℕ} {q : ℕ} {st : State} {f : List ℕ}
+pub state_wrote : {l₀ l₁ l₂ l₃ : List ℕ} {r₁ r₂ r₃ : Option ℕ} {b : List ℕ} {q : ℕ} {st : State} {f : List ℕ}
     {from to count version : ℕ} (F : Feed) (S : Spot b q st f from to count) → version ≡ version_of st
-    → Adds l₀ (At 0) l₁ r₁ (opening_w version count S.front f) → Adds l₁ r₁ l₂ r₂ (write feed F)
+    → Adds l₀ (Some 0) l₁ r₁ (opening_w version count S.front f) → Adds l₁ r₁ l₂ r₂ (write feed F)
     → Adds l₂ r₂ l₃ r₃ (closing_w S.back) → Wrote l₀ l₃ r₃ (write overlay (put_feed f F (version_of st) st))
 state_wrote {l₀} {l₃} {r₃} {st} {f} {version} F S e a b c =
     subst (λ v. Wrote l₀ l₃ r₃ (write overlay (put_feed f F v st))) e (wrote (framed S version F a b c))

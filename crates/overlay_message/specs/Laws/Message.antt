@@ -1,5 +1,5 @@
 -- Law. The state after a message, by what the index says of its trips and where its feed's body goes.
-use Rattle.std.specs.Prelude.{ℕ, ◌≤◌, ◌≡◌, refl, Bool, true, false, cond, List, [], ◌∷◌, length}
+use Rattle.std.specs.Prelude.{ℕ, ◌≤◌, ◌≡◌, refl, Bool, true, false, cond, List, [], ◌∷◌, length, Option, None}
 use Rattle.std.proofs.Common.{sym, subst, ◌∙◌, arith, le-ltb}
 use Rattle.std.proofs.Math.Path.{ap, ap₂}
 use Rattle.std.proofs.Math.Bool.{◌&&◌}
@@ -11,8 +11,6 @@ use Rattle.maps.proofs.Laws.Map.{puts_itself}
 use Rattle.maps.proofs.Laws.Order.{texts_order}
 use Rattle.formats.specs.Format.{write}
 use Rattle.formats_judge.specs.Judged.{ok}
-use Rattle.formats_write.specs.declared.Put.{Put}
-use Rattle.formats_write.specs.declared.Put.TheVariants.{Full}
 use Rattle.formats_write.specs.Promises.Adds.{Wrote}
 use Rattle.realtime.specs.Tree.{Tree, tree}
 use Rattle.realtime.specs.Schema.{feed_message}
@@ -48,7 +46,7 @@ use Rattle.overlay_message.specs.Promises.Message.{Leads, Ready, feed_after}
 some_same : {A : Type 0} {a b : A} → some a ≡ some b → a ≡ b
 some_same e = cc
 
-of_open : {l m : List ℕ} {r : Put} {f s o : List ℕ} {end : ℕ} (O : Open o end)
+of_open : {l m : List ℕ} {r : Option ℕ} {f s o : List ℕ} {end : ℕ} (O : Open o end)
     → ((t : Tree) → tree schema.feed feed_message s ≡ some t → Changes l m r (after_message f t O.state))
     → Leads l m r f s o
 of_open {l} {m} {r} {f} O c = record {
@@ -58,7 +56,7 @@ of_open {l} {m} {r} {f} O c = record {
 -- ---- where the feed's body goes
 
 module _ {o f : List ℕ} {end : ℕ} {r : FeedSpot} (O : Open o end) (P : FindsSpot o f r) where
-  pub full_leads : {l s : List ℕ} → r ≡ FeedSpot.Full → Leads l l Full f s o
+  pub full_leads : {l s : List ℕ} → r ≡ FeedSpot.Full → Leads l l None f s o
   unfolding after_message
   full_leads e =
       of_open O (λ t is. over_seven (after_message f t O.state) ((P.to O.here O.valid).full e _ _))
@@ -146,19 +144,19 @@ module _ {o h f : List ℕ} {end from body count : ℕ} {known : Bool} (K : Read
 
     -- a limit is passed
     too_many : {l : List ℕ} → is_trips (view_left (λ n. held s h (index keys marks order n)) left) ≡ false
-        → Leads l l Full f s o
+        → Leads l l None f s o
     too_many d =
         of_open K.opened (λ t is.
         over_seven (after_message f t st) (seven_is is ∙ ap is_trips (sym (left_is is)) ∙ d))
 
-    pub many_trips : {l : List ℕ} → left ≡ Left.ManyTrips → Leads l l Full f s o
+    pub many_trips : {l : List ℕ} → left ≡ Left.ManyTrips → Leads l l None f s o
     many_trips e = too_many (ap (λ x. is_trips (view_left (λ n. held s h (index keys marks order n)) x)) e)
 
-    pub many_updates : {l : List ℕ} → left ≡ Left.ManyUpdates → Leads l l Full f s o
+    pub many_updates : {l : List ℕ} → left ≡ Left.ManyUpdates → Leads l l None f s o
     many_updates e = too_many (ap (λ x. is_trips (view_left (λ n. held s h (index keys marks order n)) x)) e)
 
     -- the trips are written
-    pub exchanged : {l m : List ℕ} {r : Put} {n v to : ℕ} {q : Parts} → left ≡ Left.Trips n v → ReadsBack h p v q
+    pub exchanged : {l m : List ℕ} {r : Option ℕ} {n v to : ℕ} {q : Parts} → left ≡ Left.Trips n v → ReadsBack h p v q
         → to ≡ cond known q.end from
         → ((st : State) (F : Feed) (a e : ℕ) (t : Tree) → Spot o end st f from to count → PartsOf h F a e q
         → tree schema.feed feed_message s ≡ some t

@@ -1,8 +1,7 @@
 -- Promise. A feed and a state as a message leaves them.
-use Rattle.std.specs.Prelude.{ℕ, ◌≤◌, ◌≡◌, Bool, List, ℤ, length}
-use Rattle.std.proofs.Math.Option.{Option, some, map}
+use Rattle.std.specs.Prelude.{ℕ, ◌≤◌, ◌≡◌, Bool, List, ℤ, length, Option}
+use Rattle.std.proofs.Math.Option.{Option as LogicOption, some, map}
 use Rattle.basics.specs.Options.{Maybe, maybe, or_other}
-use Rattle.formats_write.specs.declared.Put.{Put}
 use Rattle.realtime.specs.Tree.{Tree, tree}
 use Rattle.realtime.specs.Schema.{feed_message}
 use Rattle.realtime.specs.Schema as schema
@@ -17,7 +16,7 @@ use Rattle.overlay_frame.specs.Promises.Changes.{Changes}
 use Rattle.overlay_open.specs.Promises.Held.{Open}
 
 -- a message's timestamp, else the old one
-abbrev pub timestamp_after : Option ℕ → Maybe ℤ → Maybe ℤ
+abbrev pub timestamp_after : LogicOption ℕ → Maybe ℤ → Maybe ℤ
 timestamp_after given known = or_other (maybe (map int64 given)) known
 
 -- the feed F after a message that leaves these trips
@@ -26,7 +25,7 @@ feed_after f t F T =
     feed_with (or_other (timestamp_in t) (timestamp_of F)) (count_without_at f T) T (vehicles_of F) (alerts_of F)
 
 -- THE STATE AFTER A MESSAGE
-pub record Leads (l m : List ℕ) (r : Put) (f s o : List ℕ) : Type 0 where
+pub record Leads (l m : List ℕ) (r : Option ℕ) (f s o : List ℕ) : Type 0 where
   pub of : {st : State} {t : Tree} → state_of o ≡ some st → tree schema.feed feed_message s ≡ some t
       → Changes l m r (after_message f t st)
 

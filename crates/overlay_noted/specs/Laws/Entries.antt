@@ -1,13 +1,7 @@
 -- Law. The places of trips, noted one after the other.
-use Rattle.std.specs.Prelude.{◌≡◌, refl, List, [], ◌∷◌, ℕ, ◌+◌, ◌-◌, ◌≤◌, ◌<◌, length, get_or}
+use Rattle.std.specs.Prelude.{◌≡◌, refl, List, [], ◌∷◌, ℕ, ◌+◌, ◌-◌, ◌≤◌, ◌<◌, length, get_or, Option, Some, None}
 use Rattle.std.proofs.Common.{sym, ◌∙◌, arith, length-append}
 use Rattle.formats.specs.Class.{printable}
-use Rattle.formats.specs.declared.Numeral.{Numeral}
-use Rattle.formats.specs.declared.Numeral.TheVariants.{Got}
-use Rattle.formats.specs.declared.Skip.{Skip}
-use Rattle.formats.specs.declared.Skip.TheVariants.{Broken}
-use Rattle.formats_check.specs.declared.Entry.{Entry}
-use Rattle.formats_check.specs.declared.Entry.TheVariants as entry
 use Rattle.formats_check.specs.Promises.Checked.{Number, Test}
 use Rattle.formats_check.specs.Laws.Climbing.{Entered}
 use Rattle.formats_read.specs.Laws.Walk.{Walk, begin, onward, ended, of_list}
@@ -49,8 +43,8 @@ module _ {s : List ℕ} {a n base : ℕ} {old : List ℕ} where
     pub noting_kept : length l ≡ length old
     noting_kept = N.kept
 
-    pub noting_on : {t : Test trip_entry} {r : Entry} {m : List ℕ} {x y e : ℕ} → n ≤ most_trips → base ≤ 6144 → 0 < left
-        → p ≤ length s → Put l i p m → Entered 137 printable t s p r → r ≡ entry.At x y e
+    pub noting_on : {t : Test trip_entry} {r : Option (ℕ × ℕ × ℕ)} {m : List ℕ} {x y e : ℕ} → n ≤ most_trips → base ≤ 6144 → 0 < left
+        → p ≤ length s → Put l i p m → Entered 137 printable t s p r → r ≡ Some (x, y, e)
         → Noting s a n base old e (i + 1) (left - 1) m
     noting_on {m} {e} k b z f Q E h = record {
       walk = λ F. onward (N.walk (fits_as (sym (put_kept Q)) F)) e z
@@ -72,7 +66,7 @@ module _ {s : List ℕ} {a n base : ℕ} {old : List ℕ} where
       above = λ j h. put_else Q j (λ o. omega (arith, N.sum)) ∙ N.above j h;
     }
 
-    pub noting_end : n ≤ most_trips → left ≤ 0 → {r : Skip} → Unless r Broken (EntriesPut s a n base old l)
+    pub noting_end : n ≤ most_trips → left ≤ 0 → {r : Option ℕ} → Unless r None (EntriesPut s a n base old l)
     noting_end k z = record {
       so = λ _. record {
         row = record { kept = N.kept; below = N.below; above = λ j h. N.above j (omega arith) };
@@ -81,8 +75,8 @@ module _ {s : List ℕ} {a n base : ℕ} {old : List ℕ} where
     }
 
 -- the list, behind whose count the trips stand
-pub trips_put : {s : List ℕ} {at base : ℕ} {old new : List ℕ} {o : Numeral} → Number s at o → {n p : ℕ} → o ≡ Got n p
-    → {r : Skip} → Unless r Broken (EntriesPut s p n base old new) → Unless r Broken (TripsPut s at base old new)
+pub trips_put : {s : List ℕ} {at base : ℕ} {old new : List ℕ} {o : Option (ℕ × ℕ)} → Number s at o → {n p : ℕ} → o ≡ Some (n, p)
+    → {r : Option ℕ} → Unless r None (EntriesPut s p n base old new) → Unless r None (TripsPut s at base old new)
 trips_put {s} {base} {new} N h U =
     unless_map (λ E. record {
       row = E.row;

@@ -21,14 +21,14 @@ slice_bounds-feed-start c = search (span_forward, span_within)
 pub slice_bounds-feed-end : goal.slice_bounds-feed-end
 slice_bounds-feed-end c = search (span_forward, span_within)
 
-pub returns-in-At-feed-clause-entered : goal.returns-in-At-feed-clause-entered
-returns-in-At-feed-clause-entered c = search feed_so
+pub returns-in-Some-feed-clause-entered : goal.returns-in-Some-feed-clause-entered
+returns-in-Some-feed-clause-entered c = search feed_so
 
-pub returns-in-At-feed-clause-unless : goal.returns-in-At-feed-clause-unless
-returns-in-At-feed-clause-unless c = search entry_put
+pub returns-in-Some-feed-clause-unless : goal.returns-in-Some-feed-clause-unless
+returns-in-Some-feed-clause-unless c = search entry_put
 
-pub returns-in-Broken-clause-entered : goal.returns-in-Broken-clause-entered
-returns-in-Broken-clause-entered c = search feed_none
+pub returns-in-None-clause-entered : goal.returns-in-None-clause-entered
+returns-in-None-clause-entered c = search feed_none
 
-pub returns-in-Broken-clause-unless : goal.returns-in-Broken-clause-unless
-returns-in-Broken-clause-unless c = unless_no
+pub returns-in-None-clause-unless : goal.returns-in-None-clause-unless
+returns-in-None-clause-unless c = unless_no

@@ -3,8 +3,8 @@ use Rattle.overlay_open.specs.Laws.Feed.{timestamp_no, timestamp_so}
 use borrow.Author.Rules.{rules}
 use Rattle.overlay_open.proofs.timestamp.Goals as goal
 
-pub returns-in-Got : goal.returns-in-Got
-returns-in-Got c = search (timestamp_so, timestamp_no)
+pub returns-in-Some : goal.returns-in-Some
+returns-in-Some c = search (timestamp_so, timestamp_no)
 
-pub returns-in-Bad : goal.returns-in-Bad
-returns-in-Bad c = search (timestamp_so, timestamp_no)
+pub returns-in-None : goal.returns-in-None
+returns-in-None c = search (timestamp_so, timestamp_no)

@@ -1,17 +1,11 @@
 -- Law. Feeds noted one after the other; what is noted of a state.
-use Rattle.std.specs.Prelude.{◌≡◌, refl, List, [], ◌∷◌, ◌++◌, ℕ, ◌+◌, ◌-◌, ◌≤◌, ◌<◌, length, drop}
+use Rattle.std.specs.Prelude.{◌≡◌, refl, List, [], ◌∷◌, ◌++◌, ℕ, ◌+◌, ◌-◌, ◌≤◌, ◌<◌, length, drop, Option, Some, None}
 use Rattle.std.proofs.Common.{sym, ◌∙◌, arith, length-append}
 use Rattle.basics.specs.Lists.{All}
 use Rattle.formats.specs.Class.{token}
 use Rattle.formats.specs.Format.{list}
 use Rattle.formats.specs.Readers.{const_r}
 use Rattle.formats.specs.Promises.Outcome.{skipped}
-use Rattle.formats.specs.declared.Numeral.{Numeral}
-use Rattle.formats.specs.declared.Numeral.TheVariants.{Got}
-use Rattle.formats.specs.declared.Skip.{Skip}
-use Rattle.formats.specs.declared.Skip.TheVariants as skip
-use Rattle.formats_check.specs.declared.Entry.{Entry}
-use Rattle.formats_check.specs.declared.Entry.TheVariants as entry
 use Rattle.formats_check.specs.Promises.Checked.{Number}
 use Rattle.formats_check.specs.Laws.Elements.{constant_so}
 use Rattle.formats_check.specs.Laws.Climbing.{Entered}
@@ -23,7 +17,6 @@ use Rattle.overlay_noted.specs.Promises.Noting.{Unless, Fits}
 use Rattle.overlay_noted.specs.Laws.Places.{feeds_kept, feeds_more}
 use Rattle.overlay_noted.specs.Laws.Passes.{checked_passes, entered_passes, number_reads, number_passes, behind}
 use Rattle.overlay_noted.specs.Laws.Passes.{skip_so, entry_so, unless_map, fits_as}
-use Rattle.overlay_open.specs.declared.Opened.TheVariants.{No, At}
 use Rattle.overlay_open.specs.Promises.State.{entry_good}
 use Rattle.overlay_open.specs.Promises.Opened.{ending, Notes}
 use Rattle.overlay_open.specs.Promises.Held.{HeldFeed}
@@ -51,8 +44,8 @@ module _ {s : List ℕ} {a n : ℕ} where
   feeding_start = record { walk = λ m. begin (record { count = refl; noted = λ h. tt }) }
 
   module _ {p left r : ℕ} {l : List ℕ} (F : Feeding s a n p left r l) where
-    pub feeding_on : {x : Entry} {m : List ℕ} → 0 < left → Entered 16 token entry_good s p x
-        → Unless x entry.No (FeedPut s p r l m) → {b d e : ℕ} → x ≡ entry.At b d e
+    pub feeding_on : {x : Option (ℕ × ℕ × ℕ)} {m : List ℕ} → 0 < left → Entered 16 token entry_good s p x
+        → Unless x None (FeedPut s p r l m) → {b d e : ℕ} → x ≡ Some (b, d, e)
         → Feeding s a n e (left - 1) (r + 1) m
     feeding_on {x} {m} z E U {b} {d} {e} h =
         let Q = entry_so U h in
@@ -71,25 +64,25 @@ module _ {s : List ℕ} {a n : ℕ} where
               });
         }
 
-    pub feeding_end : left ≤ 0 → {old : List ℕ} → length l ≡ length old → {x : Skip}
-        → Unless x skip.Broken (FeedsPut s a n old l)
+    pub feeding_end : left ≤ 0 → {old : List ℕ} → length l ≡ length old → {x : Option ℕ}
+        → Unless x None (FeedsPut s a n old l)
     feeding_end z k =
         record { so = λ _. record { kept = k; each = λ o vs q c g. (ended (F.walk o) z vs q c g).noted } }
 
 -- THE LIST, AND THE STATE
-pub feeds_put : {s : List ℕ} {at : ℕ} {old l : List ℕ} {o : Numeral} → Number s at o → {n p : ℕ} → o ≡ Got n p
-    → {x : Skip} → Unless x skip.Broken (FeedsPut s p n old l)
-    → Unless x skip.Broken (HeldPut (list 4 feed_entry) (λ v. v) s at old l)
+pub feeds_put : {s : List ℕ} {at : ℕ} {old l : List ℕ} {o : Option (ℕ × ℕ)} → Number s at o → {n p : ℕ} → o ≡ Some (n, p)
+    → {x : Option ℕ} → Unless x None (FeedsPut s p n old l)
+    → Unless x None (HeldPut (list 4 feed_entry) (λ v. v) s at old l)
 feeds_put {s} {l} N h U =
     unless_map (λ F. record {
       kept = F.kept;
       each = λ m x. of_list {P = λ us. All HeldFeed us → FeedsNoted s l 0 us} x (number_reads N h) (F.each m);
     }) U
 
-pub state_put : {s : List ℕ} {at : ℕ} {old l : List ℕ} {y : Skip} → y ≡ skipped s (const_r 1 (drop at s)) → {p : ℕ}
-    → y ≡ skip.At p → {o : Numeral} → Number s p o → {v q : ℕ} → o ≡ Got v q → {x : Skip}
-    → Unless x skip.Broken (HeldPut (list 4 feed_entry) (λ v. v) s q old l)
-    → Unless x skip.Broken (HeldPut overlay feeds_of s at old l)
+pub state_put : {s : List ℕ} {at : ℕ} {old l : List ℕ} {y : Option ℕ} → y ≡ skipped s (const_r 1 (drop at s)) → {p : ℕ}
+    → y ≡ Some p → {o : Option (ℕ × ℕ)} → Number s p o → {v q : ℕ} → o ≡ Some (v, q) → {x : Option ℕ}
+    → Unless x None (HeldPut (list 4 feed_entry) (λ v. v) s q old l)
+    → Unless x None (HeldPut overlay feeds_of s at old l)
 state_put e h N i U =
     unless_map (λ H. record {
       kept = H.kept;
@@ -97,11 +90,11 @@ state_put e h N i U =
     }) U
 
 -- AN OPENED BUFFER
-pub notes_no : {s old l : List ℕ} → Notes s old l No
+pub notes_no : {s old l : List ℕ} → Notes s old l None
 notes_no = record { at = λ m h. absurd (let z : ◌≡◌ {A = ℕ} 0 1 = cc in omega arith) }
 
-pub notes_so : {s old l : List ℕ} {x : Skip} {p : ℕ} → Unless x skip.Broken (HeldPut overlay feeds_of s 0 old l)
-    → x ≡ skip.At p → At p ≡ ending (state_of s) → Notes s old l (At p)
+pub notes_so : {s old l : List ℕ} {x : Option ℕ} {p : ℕ} → Unless x None (HeldPut overlay feeds_of s 0 old l)
+    → x ≡ Some p → Some p ≡ ending (state_of s) → Notes s old l (Some p)
 notes_so U h e = record {
   at = λ m i.
       let O = open_at e i in

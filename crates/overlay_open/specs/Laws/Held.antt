@@ -1,7 +1,7 @@
 -- Law. An opened buffer's state taken apart: where it stands, and what holds of each feed and of each trip.
-use Rattle.std.specs.Prelude.{◌≡◌, refl, true, ◌&&◌, List, ℕ, ◌≤◌, leb, length}
+use Rattle.std.specs.Prelude.{◌≡◌, refl, true, ◌&&◌, List, ℕ, ◌≤◌, leb, length, Option, Some, None}
 use Rattle.std.proofs.Common.{sym, ◌∙◌, arith, leb-true}
-use Rattle.std.proofs.Math.Option.{Option, none, some}
+use Rattle.std.proofs.Math.Option.{Option as LogicOption, none, some}
 use Rattle.std.proofs.Math.Seq.{take-append_seam}
 use Rattle.basics.specs.Lists.{All, all}
 use Rattle.basics.specs.Laws.Booleans.{both_true}
@@ -22,8 +22,6 @@ use Rattle.overlay.specs.Valid.{trip_valid, count_valid, feed_valid, valid}
 use Rattle.overlay.specs.Image.{filled, image, state_of}
 use Rattle.overlay.proofs.Laws.Buffer.{state_buffer, ValidParts, valid_parts}
 use Rattle.overlay.proofs.Laws.EveryEntry.{each_of, each_map, each_both, get_each}
-use Rattle.overlay_open.specs.declared.Opened.{Opened}
-use Rattle.overlay_open.specs.declared.Opened.TheVariants.{No, At}
 use Rattle.overlay_open.specs.Promises.Opened.{ending}
 use Rattle.overlay_open.specs.Promises.Held.{Open, HeldTrip, HeldFeed}
 use Rattle.overlay_open.specs.Laws.Fine.{within_fine}
@@ -44,19 +42,19 @@ opened_here b s e =
     }
 
 -- what an answer says
-pub open_at : {b : List ℕ} {r : Opened} {p : ℕ} → r ≡ ending (state_of b) → r ≡ At p → Open b p
+pub open_at : {b : List ℕ} {r : Option ℕ} {p : ℕ} → r ≡ ending (state_of b) → r ≡ Some p → Open b p
 open_at {b} {r} {p} e h = go (state_of b) refl (sym h ∙ e)
   where
-    go : (o : Option State) → state_of b ≡ o → At p ≡ ending o → Open b p
+    go : (o : LogicOption State) → state_of b ≡ o → Some p ≡ ending o → Open b p
     go none i j = absurd (let z : ◌≡◌ {A = ℕ} 0 1 = cc in omega arith)
     go (some s) i j =
         let k : p ≡ length (write overlay s) = cc in
         record { state = s; is = i; here = rw k (opened_here b s i); valid = opened_valid b s i }
 
-pub open_no : (b : List ℕ) {r : Opened} → r ≡ ending (state_of b) → r ≡ No → state_of b ≡ none
+pub open_no : (b : List ℕ) {r : Option ℕ} → r ≡ ending (state_of b) → r ≡ None → state_of b ≡ none
 open_no b e h = go (state_of b) (sym h ∙ e)
   where
-    go : (o : Option State) → No ≡ ending o → o ≡ none
+    go : (o : LogicOption State) → None ≡ ending o → o ≡ none
     go none j = refl
     go (some s) j = absurd (let z : ◌≡◌ {A = ℕ} 0 1 = cc in omega arith)
 

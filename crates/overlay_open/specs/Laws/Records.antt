@@ -1,16 +1,8 @@
 -- Law. The records of a feed noted, and what stands in front of them passed: its count, its timestamp, its id.
-use Rattle.std.specs.Prelude.{◌≡◌, refl, List, ℕ, ◌*◌, ◌<◌}
+use Rattle.std.specs.Prelude.{◌≡◌, refl, List, ℕ, ◌*◌, ◌<◌, Option, Some, None}
 use Rattle.std.proofs.Common.{sym, ◌∙◌, arith}
 use Rattle.formats.specs.Class.{token}
 use Rattle.formats.specs.Format.{Format, list, optional, ◌&◌, Value}
-use Rattle.formats.specs.declared.Numeral.{Numeral}
-use Rattle.formats.specs.declared.Numeral.TheVariants.{Got}
-use Rattle.formats.specs.declared.Skip.{Skip}
-use Rattle.formats.specs.declared.Skip.TheVariants as skip
-use Rattle.formats_check.specs.declared.CheckedText.{CheckedText}
-use Rattle.formats_check.specs.declared.CheckedText.TheVariants.{At}
-use Rattle.formats_check.specs.declared.Entry.{Entry}
-use Rattle.formats_check.specs.declared.Entry.TheVariants as entry
 use Rattle.formats_check.specs.Promises.Checked.{Number, Fine, Test, Tested}
 use Rattle.formats_check.specs.Laws.Checked.{tested_in}
 use Rattle.formats_check.specs.Laws.Climbing.{Spans, span_is}
@@ -28,10 +20,10 @@ use Rattle.overlay_open.specs.Promises.State.{records, counted}
 use Rattle.overlay_open.specs.Promises.Feeds.{RecordsPut, FeedPut}
 
 -- THE RECORDS
-module _ {s : List ℕ} {at r : ℕ} {old mid : List ℕ} {x : Skip} {t : Test (list 2048 trip_entry)}
-    (T : Tested (list 2048 trip_entry) t s at x) (U : Unless x skip.Broken (TripsPut s at (2048 * r) old mid)) {p : ℕ}
-    (h : x ≡ skip.At p) {y : Skip} {u : Test (list 1024 vehicle_entry)} (W : Tested (list 1024 vehicle_entry) u s p y)
-    {q : ℕ} (i : y ≡ skip.At q) {n m : ℕ} (N : ReadsNumber s at n m) {entry : ℕ} {new : List ℕ}
+module _ {s : List ℕ} {at r : ℕ} {old mid : List ℕ} {x : Option ℕ} {t : Test (list 2048 trip_entry)}
+    (T : Tested (list 2048 trip_entry) t s at x) (U : Unless x None (TripsPut s at (2048 * r) old mid)) {p : ℕ}
+    (h : x ≡ Some p) {y : Option ℕ} {u : Test (list 1024 vehicle_entry)} (W : Tested (list 1024 vehicle_entry) u s p y)
+    {q : ℕ} (i : y ≡ Some q) {n m : ℕ} (N : ReadsNumber s at n m) {entry : ℕ} {new : List ℕ}
     (Q : PartsPut mid new r entry n p q) (l : r < 4) where
   put : RecordsPut records (λ v. v) s at r entry old new
   put =
@@ -61,7 +53,7 @@ module _ {s : List ℕ} {at r : ℕ} {old mid : List ℕ} {x : Skip} {t : Test (
             };
       }
 
-  pub records_put : {z : Skip} → Unless z skip.Broken (RecordsPut records (λ v. v) s at r entry old new)
+  pub records_put : {z : Option ℕ} → Unless z None (RecordsPut records (λ v. v) s at r entry old new)
   records_put = record { so = λ _. put }
 
 -- WHAT STANDS IN FRONT
@@ -73,21 +65,21 @@ behind_put P R = record {
   each = λ o h few. R.each o (behind P h) few;
 }
 
-pub counted_put : {s : List ℕ} {at r entry : ℕ} {old new : List ℕ} {o : Numeral} → Number s at o → {n p : ℕ}
-    → o ≡ Got n p → {x : Skip} → Unless x skip.Broken (RecordsPut records (λ v. v) s p r entry old new)
-    → Unless x skip.Broken (RecordsPut counted (λ v. v.1) s at r entry old new)
+pub counted_put : {s : List ℕ} {at r entry : ℕ} {old new : List ℕ} {o : Option (ℕ × ℕ)} → Number s at o → {n p : ℕ}
+    → o ≡ Some (n, p) → {x : Option ℕ} → Unless x None (RecordsPut records (λ v. v) s p r entry old new)
+    → Unless x None (RecordsPut counted (λ v. v.1) s at r entry old new)
 counted_put N h U = unless_map (behind_put (number_passes N h)) U
 
-pub feed_put : {s : List ℕ} {at r entry : ℕ} {old new : List ℕ} {y : Skip} → Fine (optional timestamp) s at y → {p : ℕ}
-    → y ≡ skip.At p → {x : Skip} → Unless x skip.Broken (RecordsPut counted (λ v. v.1) s p r entry old new)
-    → Unless x skip.Broken (RecordsPut feed (λ v. v.1.1) s at r entry old new)
+pub feed_put : {s : List ℕ} {at r entry : ℕ} {old new : List ℕ} {y : Option ℕ} → Fine (optional timestamp) s at y → {p : ℕ}
+    → y ≡ Some p → {x : Option ℕ} → Unless x None (RecordsPut counted (λ v. v.1) s p r entry old new)
+    → Unless x None (RecordsPut feed (λ v. v.1.1) s at r entry old new)
 feed_put C h U = unless_map (behind_put (checked_passes C h)) U
 
 -- THE FEED
-pub entry_put : {s : List ℕ} {at r : ℕ} {old new : List ℕ} → r < 4 → {y : CheckedText}
-    → Spans 16 token s at y → {a e : ℕ} → y ≡ At a e → {x : Skip}
-    → Unless x skip.Broken (RecordsPut feed (λ v. v.1.1) s e r at old new) → {q : ℕ} → x ≡ skip.At q
-    → {z : Entry} → Unless z entry.No (FeedPut s at r old new)
+pub entry_put : {s : List ℕ} {at r : ℕ} {old new : List ℕ} → r < 4 → {y : Option (ℕ × ℕ)}
+    → Spans 16 token s at y → {a e : ℕ} → y ≡ Some (a, e) → {x : Option ℕ}
+    → Unless x None (RecordsPut feed (λ v. v.1.1) s e r at old new) → {q : ℕ} → x ≡ Some q
+    → {z : Option (ℕ × ℕ × ℕ)} → Unless z None (FeedPut s at r old new)
 entry_put l S h U i =
     let R = skip_so U i in
     let B = behind_put (checked_passes (span_is S h) refl) R in

@@ -15,8 +15,8 @@ entry_place-p-requires c = (search noted_room, search rank_low)
 pub returns-in-Less : goal.returns-in-Less
 returns-in-Less c = search rank_less
 
-pub returns-in-Same : goal.returns-in-Same
-returns-in-Same c = search rank_same
+pub returns-in-Equal : goal.returns-in-Equal
+returns-in-Equal c = search rank_same
 
 pub overflow_add-r : goal.overflow_add-r
 overflow_add-r c = let h : c.loop-left.r < 4 = search rank_low in omega arith

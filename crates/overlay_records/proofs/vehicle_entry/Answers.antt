@@ -5,8 +5,8 @@ use Rattle.overlay_records.proofs.vehicle_entry.Goals as goal
 pub returns-in_default : goal.returns-in_default
 returns-in_default c = search vehicle_key
 
-pub returns-in-At-vehicle : goal.returns-in-At-vehicle
-returns-in-At-vehicle c = search (vehicle_so, vehicle_none)
+pub returns-in-Some-vehicle : goal.returns-in-Some-vehicle
+returns-in-Some-vehicle c = search (vehicle_so, vehicle_none)
 
-pub returns-in-Broken : goal.returns-in-Broken
-returns-in-Broken c = search (vehicle_so, vehicle_none)
+pub returns-in-None : goal.returns-in-None
+returns-in-None c = search (vehicle_so, vehicle_none)

@@ -11,8 +11,8 @@ slice_bounds-feed_rank-end c = simp length-take (omega arith)
 pub alerts_place-requires : goal.alerts_place-requires
 alerts_place-requires c = (search noted_room, search found_low)
 
-pub returns-in-At : goal.returns-in-At
-returns-in-At c = search alerts_in
+pub returns-in-Some : goal.returns-in-Some
+returns-in-Some c = search alerts_in
 
-pub returns-in-Missing : goal.returns-in-Missing
-returns-in-Missing c = search no_alerts
+pub returns-in-None : goal.returns-in-None
+returns-in-None c = search no_alerts

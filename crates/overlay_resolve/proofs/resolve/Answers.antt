@@ -7,8 +7,8 @@ use Rattle.overlay_resolve.proofs.resolve.Goals as goal
 pub slice_bounds-trip_in_feed-end : goal.slice_bounds-trip_in_feed-end
 slice_bounds-trip_in_feed-end c = simp length-take (omega arith)
 
-pub returns-in-At : goal.returns-in-At
-returns-in-At c = search by_id
+pub returns-in-Some : goal.returns-in-Some
+returns-in-Some c = search by_id
 
-pub returns-in-Missing : goal.returns-in-Missing
-returns-in-Missing c = search by_leg
+pub returns-in-None : goal.returns-in-None
+returns-in-None c = search by_leg

@@ -9,11 +9,11 @@ by_descriptor-requires c = search rank_noted
 pub entry_place-requires : goal.entry_place-requires
 entry_place-requires c = (search noted_room, search found_low)
 
-pub returns-in-At-by_descriptor : goal.returns-in-At-by_descriptor
-returns-in-At-by_descriptor c = search record_found
+pub returns-in-Some-by_descriptor : goal.returns-in-Some-by_descriptor
+returns-in-Some-by_descriptor c = search record_found
 
-pub returns-in-Missing-by_descriptor : goal.returns-in-Missing-by_descriptor
-returns-in-Missing-by_descriptor c = search record_missing
+pub returns-in-None-by_descriptor : goal.returns-in-None-by_descriptor
+returns-in-None-by_descriptor c = search record_missing
 
-pub returns-in-Missing : goal.returns-in-Missing
-returns-in-Missing c = search feed_missing
+pub returns-in-None : goal.returns-in-None
+returns-in-None c = search feed_missing

@@ -9,11 +9,11 @@ get_trip-requires c = search rank_noted
 pub entry_place-requires : goal.entry_place-requires
 entry_place-requires c = (search noted_room, search found_low)
 
-pub returns-in-At-get_trip : goal.returns-in-At-get_trip
-returns-in-At-get_trip c = search record_found
+pub returns-in-Some-get_trip : goal.returns-in-Some-get_trip
+returns-in-Some-get_trip c = search record_found
 
-pub returns-in-Missing-get_trip : goal.returns-in-Missing-get_trip
-returns-in-Missing-get_trip c = search record_missing
+pub returns-in-None-get_trip : goal.returns-in-None-get_trip
+returns-in-None-get_trip c = search record_missing
 
-pub returns-in-Missing : goal.returns-in-Missing
-returns-in-Missing c = search feed_missing
+pub returns-in-None : goal.returns-in-None
+returns-in-None c = search feed_missing

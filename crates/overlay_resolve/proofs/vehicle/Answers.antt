@@ -11,8 +11,8 @@ slice_bounds-feed_rank-end c = simp length-take (omega arith)
 pub vehicles_place-p-requires : goal.vehicles_place-p-requires
 vehicles_place-p-requires c = (search noted_room, search found_low)
 
-pub returns-in-At : goal.returns-in-At
-returns-in-At c = search in_feed
+pub returns-in-Some : goal.returns-in-Some
+returns-in-Some c = search in_feed
 
-pub returns-in-Missing : goal.returns-in-Missing
-returns-in-Missing c = search no_feed_holds
+pub returns-in-None : goal.returns-in-None
+returns-in-None c = search no_feed_holds

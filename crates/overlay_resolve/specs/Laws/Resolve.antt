@@ -1,51 +1,44 @@
 -- Law. The record of a leg, by the searches that it is made of.
-use Rattle.std.specs.Prelude.{◌≡◌, refl, true, false, List, [], ◌∷◌, ℕ, length, take}
+use Rattle.std.specs.Prelude.{◌≡◌, refl, true, false, List, [], ◌∷◌, ℕ, length, take, Option, Some, None}
 use Rattle.std.proofs.Common.{sym, arith}
 use Rattle.std.proofs.Math.Path.{ap}
-use Rattle.std.proofs.Math.Option.{Option, none}
+use Rattle.std.proofs.Math.Option.{Option as LogicOption, none}
 use Rattle.basics.specs.Lists.{is_empty}
 use Rattle.basics.specs.Options.{or_else, bind_o}
-use Rattle.formats.specs.declared.OptionalNumber.{OptionalNumber}
 use Rattle.formats_write.specs.Promises.Given.{given_number}
 use Rattle.decode.specs.Leaves.{Trips}
 use Rattle.decode.specs.Trip.{Trip}
 use Rattle.overlay.specs.Records.{shown}
 use Rattle.overlay.specs.Lookup.{FeedTrip, feed_of, in_feed, get_trip, find_trip_by_descriptor, resolve_trip_rt}
 use Rattle.overlay_feeds.specs.Laws.Head.{begins}
-use Rattle.overlay_places.specs.declared.FeedRank.{FeedRank}
-use Rattle.overlay_places.specs.declared.FeedRank.TheVariants as rank
 use Rattle.overlay_noted.specs.Promises.Noted.{entry_at}
 use Rattle.overlay_places.specs.Promises.Ranks.{RanksFeed}
-use Rattle.overlay_seek.specs.declared.Found as seek
-use Rattle.overlay_seek.specs.declared.Found.TheVariants as place
 use Rattle.overlay_ids.specs.Promises.Ids.{FeedEnd}
 use Rattle.overlay_find.specs.Promises.Finds.{Finds}
-use Rattle.overlay_resolve.specs.declared.Resolved.{Resolved}
-use Rattle.overlay_resolve.specs.declared.Resolved.TheVariants.{At, Missing}
 use Rattle.overlay_resolve.specs.Promises.Shown.{ResolvedAt, FoundIn, Resolves}
 use Rattle.overlay_resolve.specs.Promises.Shown.{in_trips, by_route, record_for}
 use Rattle.overlay_resolve.specs.Laws.Shown.{shown_some, shown_none}
 
-found_at : {b : List ℕ} {p e : ℕ} {o : Option FeedTrip} → ResolvedAt b p e o → FoundIn b o (At p e)
+found_at : {b : List ℕ} {p e : ℕ} {o : LogicOption FeedTrip} → ResolvedAt b p e o → FoundIn b o (Some (p, e))
 found_at {b} {p} {e} R = record {
   found = λ q d h. let x : p ≡ q = cc in let y : e ≡ d = cc in rw (x, y) at R;
   missing = λ h. absurd (let z : ◌≡◌ {A = ℕ} 0 1 = cc in omega arith);
 }
 
-found_none : {b : List ℕ} {o : Option FeedTrip} → o ≡ none → FoundIn b o Missing
+found_none : {b : List ℕ} {o : LogicOption FeedTrip} → o ≡ none → FoundIn b o None
 found_none e = record { found = λ q d h. absurd (let z : ◌≡◌ {A = ℕ} 0 1 = cc in omega arith); missing = λ h. e }
 
 -- A FEED'S RECORD
-module _ (look : Trips → Option Trip) {f b places : List ℕ} {x : FeedRank} (F : RanksFeed b places f x) where
-  pub feed_missing : x ≡ rank.Missing → Resolves (in_trips f look) b Missing
+module _ (look : Trips → LogicOption Trip) {f b places : List ℕ} {x : Option ℕ} (F : RanksFeed b places f x) where
+  pub feed_missing : x ≡ None → Resolves (in_trips f look) b None
   unfolding in_trips
   feed_missing e = record {
     to = λ {st} h o. found_none (ap (λ x. bind_o x (λ R. in_feed f (look R.trips)))
         (shown_none st f ((F.to h).lost e)));
   }
 
-  module _ {r : ℕ} {t : seek.Found} (w : x ≡ rank.At r) (A : Finds look b places r t) where
-    pub record_missing : t ≡ place.Missing → Resolves (in_trips f look) b Missing
+  module _ {r : ℕ} {t : Option ℕ} (w : x ≡ Some r) (A : Finds look b places r t) where
+    pub record_missing : t ≡ None → Resolves (in_trips f look) b None
     unfolding in_trips
     record_missing n = record {
       to = λ {st} h o.
@@ -54,7 +47,7 @@ module _ (look : Trips → Option Trip) {f b places : List ℕ} {x : FeedRank} (
           found_none (rw s (ap (in_feed f) ((A.to M.noted).missing n)));
     }
 
-    pub record_found : {q e : ℕ} → t ≡ place.At q → e ≡ entry_at places r → Resolves (in_trips f look) b (At q e)
+    pub record_found : {q e : ℕ} → t ≡ Some q → e ≡ entry_at places r → Resolves (in_trips f look) b (Some (q, e))
     unfolding in_trips
     record_found {q} n i = record {
       to = λ {st} h o.
@@ -81,12 +74,12 @@ no_bytes : (s : List ℕ) → length s ≡ 0 → is_empty s ≡ true
 no_bytes [] n = refl
 no_bytes (b ∷ s) n = absurd (omega arith)
 
-module _ (route : List ℕ) (d : OptionalNumber) (date : List ℕ) {b : List ℕ} where
-  pub route_empty : length route ≡ 0 → Resolves (by_route route (given_number d) date) b Missing
+module _ (route : List ℕ) (d : Option ℕ) (date : List ℕ) {b : List ℕ} where
+  pub route_empty : length route ≡ 0 → Resolves (by_route route (given_number d) date) b None
   unfolding by_route
   route_empty n = record { to = λ h o. found_none (rw (no_bytes route n) refl) }
 
-  pub route_named : {n : ℕ} {r : Resolved} → (length route ≡ 0 → ⊥) → FeedEnd route n
+  pub route_named : {n : ℕ} {r : Option (ℕ × ℕ)} → (length route ≡ 0 → ⊥) → FeedEnd route n
       → Resolves (in_trips (take n route) (find_trip_by_descriptor (take n route) route (given_number d) date)) b r
       → Resolves (by_route route (given_number d) date) b r
   unfolding by_route
@@ -97,12 +90,12 @@ module _ (route : List ℕ) (d : OptionalNumber) (date : List ℕ) {b : List ℕ
       record { to = λ h o. rw (some_bytes route k) (J.to h o) }
 
 -- and by its trip id first
-module _ (trip route : List ℕ) (d : OptionalNumber) (date : List ℕ) {b : List ℕ} {n : ℕ} {r : Resolved}
+module _ (trip route : List ℕ) (d : Option ℕ) (date : List ℕ) {b : List ℕ} {n : ℕ} {r : Option (ℕ × ℕ)}
     (E : FeedEnd trip n) (I : Resolves (in_trips (take n trip) (get_trip (take n trip) trip)) b r) where
   own : Resolves (in_trips (feed_of trip) (get_trip (feed_of trip) trip)) b r
   own = rw E.is at I
 
-  pub by_id : {p e : ℕ} → r ≡ At p e → Resolves (record_for trip route (given_number d) date) b (At p e)
+  pub by_id : {p e : ℕ} → r ≡ Some (p, e) → Resolves (record_for trip route (given_number d) date) b (Some (p, e))
   unfolding record_for resolve_trip_rt in_trips by_route
   by_id {p} {e} w = record {
     to = λ {st} h o.
@@ -118,7 +111,7 @@ module _ (trip route : List ℕ) (d : OptionalNumber) (date : List ℕ) {b : Lis
         });
   }
 
-  pub by_leg : {t : Resolved} → r ≡ Missing → Resolves (by_route route (given_number d) date) b t
+  pub by_leg : {t : Option (ℕ × ℕ)} → r ≡ None → Resolves (by_route route (given_number d) date) b t
       → Resolves (record_for trip route (given_number d) date) b t
   unfolding record_for resolve_trip_rt in_trips by_route
   by_leg w R = record {
@@ -126,7 +119,7 @@ module _ (trip route : List ℕ) (d : OptionalNumber) (date : List ℕ) {b : Lis
   }
 
 -- the date that a call works out
-pub dated : (trip route : List ℕ) (d : OptionalNumber) {date e b : List ℕ} {r : Resolved} → date ≡ e
+pub dated : (trip route : List ℕ) (d : Option ℕ) {date e b : List ℕ} {r : Option (ℕ × ℕ)} → date ≡ e
     → Resolves (record_for trip route (given_number d) date) b r
     → Resolves (record_for trip route (given_number d) e) b r
 dated trip route d w R = rw w at R

@@ -9,8 +9,8 @@ use Rattle.basics.specs.Options.{or_else}
 use Rattle.basics.specs.Texts.{same}
 use Rattle.basics.specs.Laws.Booleans.{false_true, both_ways}
 use Rattle.basics.specs.Laws.Texts.{same_true, same_refl}
-use Rattle.slices.specs.declared.Order.{Order}
-use Rattle.slices.specs.declared.Order.TheVariants.{Less, Same, More}
+use Rattle.std.specs.declared.cmp.Ordering.{Ordering}
+use Rattle.std.specs.declared.cmp.Ordering.TheVariants.{Less, Equal, Greater}
 use Rattle.maps.specs.Map.{Ordered, by_order, get}
 use Rattle.maps.specs.Order.{texts, numbers}
 use Rattle.maps.proofs.Laws.Map.{Lawful}
@@ -38,15 +38,15 @@ module _ {A : Type 0} (t : A → Bool) where
   first_none = refl
 
 -- a map's look-up
-abbrev is_same : Order → Bool
+abbrev is_same : Ordering → Bool
 is_same Less = false
-is_same Same = true
-is_same More = false
+is_same Equal = true
+is_same Greater = false
 
-is_same_means : (o : Order) → is_same o ≡ true → o ≡ Same
+is_same_means : (o : Ordering) → is_same o ≡ true → o ≡ Equal
 is_same_means Less e = false_true e
-is_same_means Same e = refl
-is_same_means More e = false_true e
+is_same_means Equal e = refl
+is_same_means Greater e = false_true e
 
 -- by a test of keys that says when they are one
 module _ {K : Type 0} {O : Ordered K} (W : Lawful O) (k : K) (t : K → Bool) (yes : (x : K) → t x ≡ true → x ≡ k)
@@ -56,11 +56,11 @@ module _ {K : Type 0} {O : Ordered K} (W : Lawful O) (k : K) (t : K → Bool) (y
       (λ e. ap (λ y. is_same (O.compare k y)) (yes x e) ∙ ap is_same (W.itself k))
       (λ e. ap t (sym (W.same k x (is_same_means (O.compare k x) e))) ∙ itself)
 
-  get_step : {A : Type 0} (e : K × A) (g : Option A) (r : Option (K × A)) (o : Order) (b : Bool) → b ≡ is_same o
+  get_step : {A : Type 0} (e : K × A) (g : Option A) (r : Option (K × A)) (o : Ordering) (b : Bool) → b ≡ is_same o
       → g ≡ value_of r → by_order o g (some e.1) g ≡ value_of (cond b (some e) r)
   get_step e g r Less b i h = rw i h
-  get_step e g r Same b i h = rw i refl
-  get_step e g r More b i h = rw i h
+  get_step e g r Equal b i h = rw i refl
+  get_step e g r Greater b i h = rw i h
 
   get_first : {A : Type 0} (m : List (K × A)) → get O k m ≡ value_of (first_that (λ e. t e.0) m)
   unfolding first_that

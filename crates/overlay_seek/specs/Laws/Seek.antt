@@ -1,6 +1,6 @@
 -- Law. A loop that seeks the first of the keys and values standing one after another that passes a test: one law for
 -- trips, stop updates and vehicles.
-use Rattle.std.specs.Prelude.{◌≡◌, Bool, true, false, List, [], ◌∷◌, ◌++◌, ℕ, ◌-◌, ◌≤◌, ◌<◌, length}
+use Rattle.std.specs.Prelude.{◌≡◌, Bool, true, false, List, [], ◌∷◌, ◌++◌, ℕ, ◌-◌, ◌≤◌, ◌<◌, length, Some, None}
 use Rattle.std.proofs.Common.{sym, ap, ◌∙◌, arith}
 use Rattle.std.proofs.Math.Option.{none}
 use Rattle.basics.specs.Options.{or_else}
@@ -11,7 +11,6 @@ use Rattle.formats_read.specs.Laws.Here.{halves}
 use Rattle.formats_read.specs.Laws.Walk.{Walk, begin, onward, ended, of_list}
 use Rattle.formats_skip.specs.Promises.Passes.{Passes}
 use Rattle.overlay.specs.Lookup.{first_that, value_of}
-use Rattle.overlay_seek.specs.declared.Found.TheVariants.{At, Missing}
 use Rattle.overlay_seek.specs.Promises.Answers.{Stands, Answers, Tests, Seeks}
 use Rattle.overlay_seek.specs.Laws.First.{first_append, first_one, first_none}
 use Rattle.overlay_seek.specs.Laws.Answers.{at_place, not_there}
@@ -54,9 +53,9 @@ module _ {a b : Format} {t : Value (a & b) → Bool} {s : List ℕ} where
 
       -- it passes, and its value is at m
       pub seek_hit : {at m : ℕ} → ReadsNumber s at n x → 0 < left → Tests (a & b) t s p r → r ≡ true → Passes a s p m
-          → Seeks a b t s at (At m)
+          → Seeks a b t s at (Some m)
       seek_hit {m} N z T f P = record {
-        to = λ h. of_list {P = λ vs. Answers b s (value_of (first_that t vs)) (At m)} h N (λ vs q c w.
+        to = λ h. of_list {P = λ vs. Answers b s (value_of (first_that t vs)) (Some m)} h N (λ vs q c w.
             let A = S.walk.at vs q c w in
             at_place (it_stands q p m vs A.behind A.ahead A.joined (omega (arith, A.count)) A.stand
             A.so (told T f) P));
@@ -64,8 +63,8 @@ module _ {a b : Format} {t : Value (a & b) → Bool} {s : List ℕ} where
 
     -- none is left
     pub seek_miss : {p left at : ℕ} → Seeking (a & b) t s x n p left → ReadsNumber s at n x → left ≤ 0
-        → Seeks a b t s at Missing
+        → Seeks a b t s at None
     seek_miss S N z = record {
-      to = λ h. of_list {P = λ vs. Answers b s (value_of (first_that t vs)) Missing} h N (λ vs q c w.
+      to = λ h. of_list {P = λ vs. Answers b s (value_of (first_that t vs)) None} h N (λ vs q c w.
           not_there (ap value_of (ended S.walk z vs q c w)));
     }

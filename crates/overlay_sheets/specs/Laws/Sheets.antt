@@ -1,5 +1,5 @@
 -- Law. A state by an alert sheet, and by a vehicle sheet: its feed's body is put where it goes.
-use Rattle.std.specs.Prelude.{◌≡◌, ℕ, ◌+◌, ◌%◌, ◌^◌, ◌<◌, ◌≤◌, Bool, true, cond, ◌&&◌, List, length, ℤ, pos, ◌-ℤ◌, nat_le, refl}
+use Rattle.std.specs.Prelude.{◌≡◌, ℕ, ◌+◌, ◌%◌, ◌^◌, ◌<◌, ◌≤◌, Bool, true, cond, ◌&&◌, List, length, ℤ, pos, ◌-ℤ◌, nat_le, refl, Option, Some, None}
 use Rattle.std.proofs.Common.{sym, ◌∙◌, arith, le-leb}
 use Rattle.std.proofs.Math.Path.{ap, ap₂}
 use Rattle.std.proofs.lemmas.Bool.{lt-leb}
@@ -9,8 +9,6 @@ use Rattle.maps.specs.Order.{texts}
 use Rattle.formats.specs.Number.{zag}
 use Rattle.formats.specs.Format.{list, write}
 use Rattle.formats_judge.specs.Judged.{ok}
-use Rattle.formats_write.specs.declared.Put.{Put}
-use Rattle.formats_write.specs.declared.Put.TheVariants.{At, Full}
 use Rattle.formats_write.specs.Promises.Adds.{Adds}
 use Rattle.formats_write.specs.Laws.Adds.{same, wrote}
 use Rattle.formats_read.specs.Promises.Here.{Here}
@@ -37,11 +35,11 @@ use Rattle.overlay_bodies.specs.Promises.Bodies.{AlertsIn, VehiclesIn, VehiclesA
 -- A FIFTH FEED
 module _ {old f : List ℕ} {s : State} {end : ℕ} {r : FeedSpot} (P : FindsSpot old f r) (e : r ≡ FeedSpot.Full)
     (h : Here overlay old 0 end s) (u : valid s ≡ true) {l : List ℕ} where
-  pub alerts_full : (vs : List Alert) → Changes l l Full (after_alerts f vs s)
+  pub alerts_full : (vs : List Alert) → Changes l l None (after_alerts f vs s)
   unfolding after_alerts
   alerts_full vs = over_seven (after_alerts f vs s) ((P.to h u).full e _ _)
 
-  pub vehicles_full : (xs : Vehicles) (clock : ℤ) → Changes l l Full (after_vehicles f xs clock s)
+  pub vehicles_full : (xs : Vehicles) (clock : ℤ) → Changes l l None (after_vehicles f xs clock s)
   unfolding after_vehicles
   vehicles_full xs clock = over_seven (after_vehicles f xs clock s) ((P.to h u).full e _ _)
 
@@ -54,13 +52,13 @@ module _ {old h f : List ℕ} {s : State} {end from count body : ℕ} {known : B
   seven = (valid_parts s B.valid).seven
 
   -- the feed F in place of the old one, and version w
-  module _ {l o x y : List ℕ} {k j z : Put} {P : Parts} {to w : ℕ} (t : to ≡ cond known P.end from)
+  module _ {l o x y : List ℕ} {k j z : Option ℕ} {P : Parts} {to w : ℕ} (t : to ≡ cond known P.end from)
       (a : (q : ℕ) (s : State) (to : ℕ) (S : Spot old q s f from to count)
-      → Adds l (At 0) o k (opening_w w count S.front f))
+      → Adds l (Some 0) o k (opening_w w count S.front f))
       (g : (s : State) (f : List ℕ) (from count : ℕ) (S : Spot old end s f from to count)
       → Adds x j y z (closing_w S.back)) where
     put_written : (F : Feed) (n : ℕ) → w ≡ n → PartsOf h was body B.till P → Adds o k x j (write feed F)
-        → Adds l (At 0) y z (write overlay (put_feed f F n s))
+        → Adds l (Some 0) y z (write overlay (put_feed f F n s))
     put_written F n e T d =
         let S = goes B t T.end_is in
         same (framed S w F (a end s to S) d (g s f from count S)) (ap (λ n. write overlay (put_feed f F n s)) e)
@@ -84,7 +82,7 @@ module _ {old h f : List ℕ} {s : State} {end from count body : ℕ} {known : B
         → w ≡ (v + 1) % 2 ^ 64 → ReadsParts h body P
         → (PartsOf h was body B.till P
         → Adds o k x j (write feed (with_vehicles was (without_stale clock (puts texts xs (vehicles_of was))))))
-        → Adds l (At 0) y z (write overlay (after_vehicles f xs clock s))
+        → Adds l (Some 0) y z (write overlay (after_vehicles f xs clock s))
     unfolding after_vehicles
     vehicles_written xs clock H e R d =
         let T = R.to B.here in
@@ -118,13 +116,13 @@ module _ {old h f : List ℕ} {s : State} {end from count body : ℕ} {known : B
         (ap (λ b. nat_le (length left) 1024 && b) (all_true (ok 7 vehicle_entry) (unjudged 7 vehicle_entry refl) left)
         ∙ and_yes (nat_le (length left) 1024))
 
-    pub vehicles_many : {l : List ℕ} → 1024 < kept → Changes l l Full (after_vehicles f xs clock s)
+    pub vehicles_many : {l : List ℕ} → 1024 < kept → Changes l l None (after_vehicles f xs clock s)
     vehicles_many k =
         over_seven (after_vehicles f xs clock s) (seven_is ∙ lt-leb (length left) 1024 (counted.many k))
 
-    pub vehicles_few : {l y : List ℕ} {q : Put} → kept ≤ 1024
+    pub vehicles_few : {l y : List ℕ} {q : Option ℕ} → kept ≤ 1024
         → (VehiclesIn sheet h P.vehicles xs (vehicles_of was) → kept ≡ length left
-        → Adds l (At 0) y q (write overlay (after_vehicles f xs clock s)))
+        → Adds l (Some 0) y q (write overlay (after_vehicles f xs clock s)))
         → Changes l y q (after_vehicles f xs clock s)
     vehicles_few k a =
         let n = counted.few k in

@@ -1,9 +1,6 @@
 -- Law. A trip's record by checked reading.
-use Rattle.std.specs.Prelude.{◌≡◌, refl, List, ℕ, ◌%◌, ◌≤◌, ◌<◌, pos, negsuc, Bool, ◌&&◌}
+use Rattle.std.specs.Prelude.{◌≡◌, refl, List, ℕ, ◌%◌, ◌≤◌, ◌<◌, pos, negsuc, Bool, ◌&&◌, Option, Some, None}
 use Rattle.std.proofs.Common.{ap, ◌∙◌, arith}
-use Rattle.formats.specs.declared.Numeral.{Numeral}
-use Rattle.formats.specs.declared.Numeral.TheVariants.{Got, Bad}
-use Rattle.formats.specs.declared.Skip.TheVariants.{At, Broken}
 use Rattle.formats.specs.Format.{Format, small, optional, ◌&◌, list, Value}
 use Rattle.maps.specs.Map.{ascending}
 use Rattle.maps.specs.Order.{numbers}
@@ -15,36 +12,36 @@ use Rattle.formats_check.specs.Laws.Elements.{number_no, number_high, number_so,
 use Rattle.formats_check.specs.Laws.Elements.{around_in, around_over, upward_in, upward_over, upward_below}
 use Rattle.basics.specs.Laws.Booleans.{and_assoc}
 
-module _ {s : List ℕ} {at : ℕ} {o : Numeral} (e : Number s at o) where
-  pub delay_no : o ≡ Bad → Fine delay s at Broken
+module _ {s : List ℕ} {at : ℕ} {o : Option (ℕ × ℕ)} (e : Number s at o) where
+  pub delay_no : o ≡ None → Fine delay s at None
   delay_no h = signed_no (negsuc 2147483647) (pos 2147483647) e h
 
-  pub instant_no : o ≡ Bad → Fine instant s at Broken
+  pub instant_no : o ≡ None → Fine instant s at None
   instant_no h = signed_no (pos 0) (pos 4102444800) e h
 
-  pub number32_no : o ≡ Bad → Fine number32 s at Broken
+  pub number32_no : o ≡ None → Fine number32 s at None
   number32_no h = number_no 0 4294967295 e h
 
-  module _ {n p : ℕ} (h : o ≡ Got n p) where
-    pub number32_over : 4294967295 < n → Fine number32 s at Broken
+  module _ {n p : ℕ} (h : o ≡ Some (n, p)) where
+    pub number32_over : 4294967295 < n → Fine number32 s at None
     number32_over l = number_high 0 4294967295 e h (omega arith) l
 
-    pub number32_so : n ≤ 4294967295 → Fine number32 s at (At p)
+    pub number32_so : n ≤ 4294967295 → Fine number32 s at (Some p)
     number32_so l = number_so 0 4294967295 e h (omega arith) l
 
-    pub delay_over : 4294967295 < n → Fine delay s at Broken
+    pub delay_over : 4294967295 < n → Fine delay s at None
     delay_over l = signed_bad (negsuc 2147483647) (pos 2147483647) e h (around_over 2147483647 n (omega arith))
 
-    pub delay_so : n ≤ 4294967295 → Fine delay s at (At p)
+    pub delay_so : n ≤ 4294967295 → Fine delay s at (Some p)
     delay_so l = signed_so (negsuc 2147483647) (pos 2147483647) e h (around_in 2147483647 n (omega arith))
 
-    pub instant_odd : (n % 2 ≡ 0 → ⊥) → Fine instant s at Broken
+    pub instant_odd : (n % 2 ≡ 0 → ⊥) → Fine instant s at None
     instant_odd z = signed_bad (pos 0) (pos 4102444800) e h (upward_below 4102444800 n z)
 
-    pub instant_over : n % 2 ≡ 0 → 8204889600 < n → Fine instant s at Broken
+    pub instant_over : n % 2 ≡ 0 → 8204889600 < n → Fine instant s at None
     instant_over z l = signed_bad (pos 0) (pos 4102444800) e h (upward_over 4102444800 n z (omega arith))
 
-    pub instant_so : n % 2 ≡ 0 → n ≤ 8204889600 → Fine instant s at (At p)
+    pub instant_so : n % 2 ≡ 0 → n ≤ 8204889600 → Fine instant s at (Some p)
     instant_so z l = signed_so (pos 0) (pos 4102444800) e h (upward_in 4102444800 n z (omega arith))
 
 -- a record that is good: its annotations hold, and its updates ascend

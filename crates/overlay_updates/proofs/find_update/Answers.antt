@@ -3,11 +3,11 @@ use borrow.Author.Rules.{rules}
 use Rattle.overlay_updates.specs.Laws.Updates.{no_sequence, sequence_found, sequence_missing}
 use Rattle.overlay_updates.proofs.find_update.Goals as goal
 
-pub returns-in-Absent : goal.returns-in-Absent
-returns-in-Absent c = search no_sequence
+pub returns-in-None : goal.returns-in-None
+returns-in-None c = search no_sequence
 
-pub returns-in-At : goal.returns-in-At
-returns-in-At c = search sequence_found
+pub returns-in-Some-by_sequence : goal.returns-in-Some-by_sequence
+returns-in-Some-by_sequence c = search sequence_found
 
-pub returns-in-Missing : goal.returns-in-Missing
-returns-in-Missing c = search sequence_missing
+pub returns-in-None-by_sequence : goal.returns-in-None-by_sequence
+returns-in-None-by_sequence c = search sequence_missing

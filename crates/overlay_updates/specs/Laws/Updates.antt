@@ -1,9 +1,7 @@
 -- Law. A trip's updates sought where they stand.
-use Rattle.std.specs.Prelude.{◌≡◌, refl, Bool, true, false, List, ℕ, ◌-◌, ◌<◌, eqb, take, drop}
+use Rattle.std.specs.Prelude.{◌≡◌, refl, Bool, true, false, List, ℕ, ◌-◌, ◌<◌, eqb, take, drop, Option, Some, None}
 use Rattle.std.proofs.Common.{sym, ap, ◌∙◌, eq-eqb, ne_eqb}
 use Rattle.formats.specs.Format.{number, ◌&◌}
-use Rattle.formats.specs.declared.OptionalNumber.{OptionalNumber}
-use Rattle.formats.specs.declared.OptionalNumber.TheVariants.{Absent, Present}
 use Rattle.formats_write.specs.Promises.Given.{given_number}
 use Rattle.formats_write.specs.Laws.Slices.{slice_is}
 use Rattle.formats_read.specs.Promises.Reads.{ReadsNumber, ReadsText}
@@ -14,8 +12,6 @@ use Rattle.formats_skip.specs.Laws.Leads.{lead_field}
 use Rattle.decode.specs.Trip.{number32, trip, stop_update, updates_of}
 use Rattle.overlay.specs.Lookup.{stop_matches, stop_update_by_stop_id, find_stop_update}
 use Rattle.overlay_ids.specs.Promises.Ids.{StopFits}
-use Rattle.overlay_seek.specs.declared.Found.{Found}
-use Rattle.overlay_seek.specs.declared.Found.TheVariants.{At, Missing}
 use Rattle.overlay_seek.specs.Promises.Answers.{Tests, Seeks}
 use Rattle.overlay_seek.specs.Laws.Answers.{reworded, first_found, second_found}
 use Rattle.overlay_seek.specs.Laws.First.{get_number}
@@ -35,7 +31,7 @@ module _ {s : List ℕ} {p k m : ℕ} (N : ReadsNumber s p k m) where
   }
 
   module _ {n x c left : ℕ} (S : Seeking (number32 & stop_update) (numbered n) s x c p left) (z : 0 < left) where
-    pub sequence_hit : {at : ℕ} → k ≡ n → ReadsNumber s at c x → Seeks number32 stop_update (numbered n) s at (At m)
+    pub sequence_hit : {at : ℕ} → k ≡ n → ReadsNumber s at c x → Seeks number32 stop_update (numbered n) s at (Some m)
     sequence_hit e C = seek_hit S C z (sequence_told n true (eq-eqb k n e)) refl (number_passed N)
 
     pub sequence_on : {e : ℕ} → (k ≡ n → ⊥) → Passes stop_update s m e
@@ -53,7 +49,7 @@ module _ {s : List ℕ} {f y : List ℕ} {p m : ℕ} (P : Passes (number 0 0) s 
   }
 
   module _ {x c left : ℕ} (S : Seeking (number32 & stop_update) (stopping f y) s x c p left) (z : 0 < left) where
-    pub stop_hit : {at : ℕ} → r ≡ true → ReadsNumber s at c x → Seeks number32 stop_update (stopping f y) s at (At m)
+    pub stop_hit : {at : ℕ} → r ≡ true → ReadsNumber s at c x → Seeks number32 stop_update (stopping f y) s at (Some m)
     stop_hit e C = seek_hit S C z stop_told e (any_number P)
 
     pub stop_on : {e : ℕ} → r ≡ false → Passes stop_update s m e
@@ -69,7 +65,7 @@ stop_read {s} {p} {a} {e} {f} {y} T I = record {
 }
 
 -- the updates of a trip
-module _ {s : List ℕ} {p m : ℕ} (L : Leads 6 trip s p m) {r : Found} where
+module _ {s : List ℕ} {p m : ℕ} (L : Leads 6 trip s p m) {r : Option ℕ} where
   pub by_sequence : {n : ℕ} → Seeks number32 stop_update (numbered n) s m r → BySequence s p n r
   by_sequence {n} S = record {
     to = λ {t} h. reworded (get_number n (updates_of t)) (S.to (lead_field L tt h).here);
@@ -80,18 +76,18 @@ module _ {s : List ℕ} {p m : ℕ} (L : Leads 6 trip s p m) {r : Found} where
   by_stop {f} {y} S = record { to = λ {t} h. S.to (lead_field L tt h).here }
 
 -- by one, else by the other
-module _ {s : List ℕ} {p : ℕ} {f y : List ℕ} {r : Found} {o : OptionalNumber} where
-  pub no_sequence : o ≡ Absent → ByStop s p f y r → FindsUpdate s p f (given_number o) y r
+module _ {s : List ℕ} {p : ℕ} {f y : List ℕ} {r : Option ℕ} {o : Option ℕ} where
+  pub no_sequence : o ≡ None → ByStop s p f y r → FindsUpdate s p f (given_number o) y r
   unfolding find_stop_update
   no_sequence a B = record { to = λ h. rw a (B.to h) }
 
-  pub sequence_missing : {n : ℕ} {k : Found} → o ≡ Present n → BySequence s p n k → k ≡ Missing → ByStop s p f y r
+  pub sequence_missing : {n : ℕ} {k : Option ℕ} → o ≡ Some n → BySequence s p n k → k ≡ None → ByStop s p f y r
       → FindsUpdate s p f (given_number o) y r
   unfolding find_stop_update
   sequence_missing a A e B = record { to = λ h. rw a (second_found (A.to h) e (B.to h)) }
 
-pub sequence_found : {s : List ℕ} {p q n : ℕ} {f y : List ℕ} {k : Found} {o : OptionalNumber} → o ≡ Present n
-    → BySequence s p n k → k ≡ At q → FindsUpdate s p f (given_number o) y (At q)
+pub sequence_found : {s : List ℕ} {p q n : ℕ} {f y : List ℕ} {k : Option ℕ} {o : Option ℕ} → o ≡ Some n
+    → BySequence s p n k → k ≡ Some q → FindsUpdate s p f (given_number o) y (Some q)
 unfolding find_stop_update
 sequence_found {f} {y} a A e = record {
   to = λ {t} h. rw a (first_found (stop_update_by_stop_id f y t) (A.to h) e);

@@ -5,8 +5,8 @@ use Rattle.overlay_vehicle.proofs.or_keyed.Goals as goal
 pub returns-then-is_text : goal.returns-then-is_text
 returns-then-is_text c = search seen_here
 
-pub returns-in-At : goal.returns-in-At
-returns-in-At c = search seen_before
+pub returns-in-Some : goal.returns-in-Some
+returns-in-Some c = search seen_before
 
 pub returns-else-is_text : goal.returns-else-is_text
 returns-else-is_text c = search seen_not

@@ -2,8 +2,8 @@
 use Rattle.overlay_vehicle.specs.Laws.Vehicle.{sees_none, sees_one}
 use Rattle.overlay_vehicle.proofs.vehicle.Goals as goal
 
-pub returns-in-At : goal.returns-in-At
-returns-in-At c = search sees_one
+pub returns-in-Some : goal.returns-in-Some
+returns-in-Some c = search sees_one
 
-pub returns-in-Missing : goal.returns-in-Missing
-returns-in-Missing c = search sees_none
+pub returns-in-None : goal.returns-in-None
+returns-in-None c = search sees_none

@@ -1,5 +1,5 @@
 -- Law. A feed's vehicles sought where they stand, and one of them read.
-use Rattle.std.specs.Prelude.{◌≡◌, Bool, true, false, cond, List, ℕ, ◌+◌, ◌-◌, ◌≤◌, ◌<◌, length, get_or}
+use Rattle.std.specs.Prelude.{◌≡◌, Bool, true, false, cond, List, ℕ, ◌+◌, ◌-◌, ◌≤◌, ◌<◌, length, get_or, Option, Some, None}
 use Rattle.std.proofs.Math.Path.{refl}
 use Rattle.std.proofs.Common.{sym, ap, ◌∙◌, arith, lt-ltb}
 use Rattle.basics.specs.Options.{given_and}
@@ -14,19 +14,16 @@ use Rattle.formats_skip.specs.Laws.Passes.{any_text, any_optional_text, pair}
 use Rattle.decode.specs.Trip.{id, instant}
 use Rattle.overlay.specs.Lookup.{vehicle_for_trip}
 use Rattle.overlay.specs.State.{vehicle, vehicle_entry, trip_of}
-use Rattle.overlay_seek.specs.declared.Found.{Found}
-use Rattle.overlay_seek.specs.declared.Found.TheVariants.{At, Missing}
 use Rattle.overlay_seek.specs.Promises.Answers.{Tests, IsText, Seeks}
 use Rattle.overlay_seek.specs.Laws.Answers.{reworded, first_found, second_found}
 use Rattle.overlay_seek.specs.Laws.First.{get_text}
 use Rattle.overlay_seek.specs.Laws.Seek.{Seeking, seek_start, seek_on, seek_hit, seek_miss}
 use Rattle.vehicle_place.specs.declared.VehiclePlace.{VehiclePlace}
 use Rattle.vehicle_place.specs.Promises.Place.{ReadsPlace}
-use Rattle.overlay_vehicle.specs.declared.OptionalPlace.TheVariants.{Absent, Present}
 use Rattle.overlay_vehicle.specs.Promises.Vehicle.{MakesTrip, riding, keyed, Seen, FindsVehicle, ReadsVehicle}
 use Rattle.overlay_vehicle.specs.Promises.Vehicle.{SeesVehicle}
 
-no_place : {q : ℕ} → ◌≡◌ {A = Found} Missing (At q) → ⊥
+no_place : {q : ℕ} → ◌≡◌ {A = Option ℕ} None (Some q) → ⊥
 no_place e = let z : ◌≡◌ {A = ℕ} 0 1 = cc in omega arith
 
 -- the trip id of a vehicle, which may be absent
@@ -61,7 +58,7 @@ module _ {s x : List ℕ} {p m : ℕ} (P : Passes (text 0 any) s p m) where
 
   module _ {a n left : ℕ} {r : Bool} (z : 0 < left) where
     pub riding_hit : {at : ℕ} → Seeking vehicle_entry (riding x) s a n p left → MakesTrip s m x r → r ≡ true
-        → ReadsNumber s at n a → Seeks id vehicle (riding x) s at (At m)
+        → ReadsNumber s at n a → Seeks id vehicle (riding x) s at (Some m)
     riding_hit S M e N = seek_hit S N z (riding_told M) e (any_text P)
 
     pub riding_on : {e : ℕ} → Seeking vehicle_entry (riding x) s a n p left → MakesTrip s m x r → r ≡ false
@@ -73,27 +70,27 @@ module _ {s x : List ℕ} {p : ℕ} {r : Bool} (I : IsText s p x r) where
   keyed_told : Tests vehicle_entry (keyed x) s p r
   keyed_told = record { to = λ h. I.to (halves h).first }
 
-  module _ {seen : Found} (j : seen ≡ Missing) {m : ℕ} where
-    pub seen_here : r ≡ true → Seen seen s p m x (At m)
+  module _ {seen : Option ℕ} (j : seen ≡ None) {m : ℕ} where
+    pub seen_here : r ≡ true → Seen seen s p m x (Some m)
     seen_here e = record { stays = λ h. absurd (no_place (sym j ∙ h)); asks = λ h. (r, I, rw e refl) }
 
-    pub seen_not : r ≡ false → Seen seen s p m x Missing
+    pub seen_not : r ≡ false → Seen seen s p m x None
     seen_not e = record { stays = λ h. absurd (no_place (sym j ∙ h)); asks = λ h. (r, I, rw e refl) }
 
-pub seen_before : {seen : Found} {s x : List ℕ} {p m q : ℕ} → seen ≡ At q → Seen seen s p m x (At q)
+pub seen_before : {seen : Option ℕ} {s x : List ℕ} {p m q : ℕ} → seen ≡ Some q → Seen seen s p m x (Some q)
 seen_before j = record { stays = λ h. sym j ∙ h; asks = λ h. absurd (no_place (sym h ∙ j)) }
 
 -- n vehicles from a on: what was seen of x as a key, where `left` are left from p on
-pub record Keying (s : List ℕ) (at : ℕ) (x : List ℕ) (a n p left : ℕ) (seen : Found) : Type 0 where
-  pub none_yet : seen ≡ Missing → Seeking vehicle_entry (keyed x) s a n p left
-  pub one : {m : ℕ} → seen ≡ At m → ReadsNumber s at n a → Seeks id vehicle (keyed x) s at (At m)
+pub record Keying (s : List ℕ) (at : ℕ) (x : List ℕ) (a n p left : ℕ) (seen : Option ℕ) : Type 0 where
+  pub none_yet : seen ≡ None → Seeking vehicle_entry (keyed x) s a n p left
+  pub one : {m : ℕ} → seen ≡ Some m → ReadsNumber s at n a → Seeks id vehicle (keyed x) s at (Some m)
 
-pub keying_start : {s : List ℕ} {at : ℕ} {x : List ℕ} {a n : ℕ} → Keying s at x a n a n Missing
+pub keying_start : {s : List ℕ} {at : ℕ} {x : List ℕ} {a n : ℕ} → Keying s at x a n a n None
 keying_start = record { none_yet = λ e. seek_start; one = λ e. absurd (no_place e) }
 
-module _ {s x : List ℕ} {at a n p left m e : ℕ} {seen r : Found} (K : Keying s at x a n p left seen) (z : 0 < left)
+module _ {s x : List ℕ} {at a n p left m e : ℕ} {seen r : Option ℕ} (K : Keying s at x a n p left seen) (z : 0 < left)
     (P : Passes (text 0 any) s p m) (Q : Passes vehicle s m e) (S : Seen seen s p m x r) where
-  asked : seen ≡ Missing → (t : Bool) → IsText s p x t → r ≡ cond t (At m) Missing → Keying s at x a n e (left - 1) r
+  asked : seen ≡ None → (t : Bool) → IsText s p x t → r ≡ cond t (Some m) None → Keying s at x a n e (left - 1) r
   asked h true I i = record {
     none_yet = λ j. absurd (no_place (sym j ∙ i));
     one = λ j N. rw (sym i ∙ j) at (seek_hit (K.none_yet h) N z (keyed_told I) refl (any_text P));
@@ -106,9 +103,9 @@ module _ {s x : List ℕ} {at a n p left m e : ℕ} {seen r : Found} (K : Keying
   pub keying_on : Keying s at x a n e (left - 1) r
   keying_on = go seen refl
     where
-      go : (f : Found) → seen ≡ f → Keying s at x a n e (left - 1) r
-      go Missing h = let y = S.asks h in asked h y.0 y.1 y.2
-      go (At q) h = record {
+      go : (f : Option ℕ) → seen ≡ f → Keying s at x a n e (left - 1) r
+      go None h = let y = S.asks h in asked h y.0 y.1 y.2
+      go (Some q) h = record {
         none_yet = λ j. absurd (no_place (sym j ∙ S.stays h));
         one = λ j N. rw (sym (S.stays h) ∙ j) at (K.one h N);
       }
@@ -117,19 +114,19 @@ module _ {s x : List ℕ} {at a n p left m e : ℕ} {seen r : Found} (K : Keying
 module _ {s x : List ℕ} {at a n p left : ℕ} (S : Seeking vehicle_entry (riding x) s a n p left)
     (N : ReadsNumber s at n a) where
   pub trip_found : {m : ℕ} {r : Bool} → 0 < left → Passes (text 0 any) s p m → MakesTrip s m x r → r ≡ true
-      → FindsVehicle s at x (At m)
+      → FindsVehicle s at x (Some m)
   unfolding vehicle_for_trip
   trip_found z P M e = record { to = λ {vs} h. first_found _ ((riding_hit P z S M e N).to h) refl }
 
-  pub trip_missing : {seen : Found} → left ≤ 0 → Keying s at x a n p left seen → FindsVehicle s at x seen
+  pub trip_missing : {seen : Option ℕ} → left ≤ 0 → Keying s at x a n p left seen → FindsVehicle s at x seen
   unfolding vehicle_for_trip
   trip_missing {seen} z K = record {
     to = λ {vs} h. second_found ((seek_miss S N z).to h) refl (reworded (get_text x vs) ((go seen refl).to h));
   }
     where
-      go : (f : Found) → seen ≡ f → Seeks id vehicle (keyed x) s at seen
-      go Missing e = rw e (seek_miss (K.none_yet e) N z)
-      go (At m) e = rw e (K.one e N)
+      go : (f : Option ℕ) → seen ≡ f → Seeks id vehicle (keyed x) s at seen
+      go None e = rw e (seek_miss (K.none_yet e) N z)
+      go (Some m) e = rw e (K.one e N)
 
 -- the place of a vehicle
 module _ {s : List ℕ} {p a b c : ℕ} {r : VehiclePlace} where
@@ -154,11 +151,11 @@ module _ {s : List ℕ} {p a b c : ℕ} {r : VehiclePlace} where
   }
 
 -- the place of the vehicle that is found
-module _ {s x : List ℕ} {p : ℕ} {k : Found} (F : FindsVehicle s p x k) where
-  pub sees_none : k ≡ Missing → SeesVehicle s p x Absent
+module _ {s x : List ℕ} {p : ℕ} {k : Option ℕ} (F : FindsVehicle s p x k) where
+  pub sees_none : k ≡ None → SeesVehicle s p x None
   sees_none e = record { to = λ h. (F.to h).missing e }
 
-  pub sees_one : {q : ℕ} {r : VehiclePlace} → k ≡ At q → ReadsVehicle s q r → SeesVehicle s p x (Present r)
+  pub sees_one : {q : ℕ} {r : VehiclePlace} → k ≡ Some q → ReadsVehicle s q r → SeesVehicle s p x (Some r)
   sees_one {q} e R = record {
     to = λ h.
         let S = (F.to h).found q e in

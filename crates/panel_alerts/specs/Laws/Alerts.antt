@@ -1,15 +1,13 @@
 -- Law. The questions of a message's alerts in their order, and what an accepted one gives.
-use Rattle.std.specs.Prelude.{◌≡◌, Bool, true, false, cond, ◌&&◌, List, [], ℕ, ◌-◌, ◌≤◌, ◌<◌, eqb, leb, length}
+use Rattle.std.specs.Prelude.{◌≡◌, Bool, true, false, cond, ◌&&◌, List, [], ℕ, ◌-◌, ◌≤◌, ◌<◌, eqb, leb, length, Option, Some}
 use Rattle.std.proofs.Math.Path.{refl}
 use Rattle.std.proofs.Common.{sym, ap, ◌∙◌, arith, leb-true, le-leb, eq-eqb, ne_eqb}
-use Rattle.std.proofs.Math.Option.{Option, none, some}
+use Rattle.std.proofs.Math.Option.{Option as LogicOption, none, some}
 use Rattle.std.proofs.lemmas.Bool.{lt-leb}
 use Rattle.basics.specs.Lists.{all}
 use Rattle.basics.specs.Laws.Booleans.{both_true}
 use Rattle.formats.specs.Class.{token, in_class}
 use Rattle.formats_judge.specs.Judged.{ok}
-use Rattle.formats_write.specs.declared.Put.{Put}
-use Rattle.formats_write.specs.declared.Put.TheVariants as put
 use Rattle.formats_write.specs.Laws.Adds.{wrote}
 use Rattle.realtime.specs.Tree.{Tree, tree}
 use Rattle.realtime.specs.Schema.{alert_message, feed}
@@ -63,11 +61,11 @@ abbrev texts_of : List ℕ → Rules
 texts_of f = rules_by (63 - length f)
 
 module _ (f : List ℕ) (k : Tree → Outcome) where
-  abbrev chain : Bool → Option Tree → Outcome
+  abbrev chain : Bool → LogicOption Tree → Outcome
   chain short o =
       need short 3 (need_some o 4 (λ t. need (feed_ok f && texts_fine (texts_of f) alert_message t) 5 (k t)))
 
-  chain_refused : (short : Bool) (o : Option Tree) (n : ℕ)
+  chain_refused : (short : Bool) (o : LogicOption Tree) (n : ℕ)
       → n ≡ cond short (number_by (asked (texts_of f) alert_message o) (feed_ok f)) 3 → (n ≡ 0 → ⊥)
       → refused n ≡ chain short o
   chain_refused false o n e z = ap refused e
@@ -87,7 +85,7 @@ pub record Passed (f m : List ℕ) : Type 0 where
 pub passed : (f m : List ℕ) → 0 ≡ alerts_number f m → Passed f m
 passed f m e = go (leb (length m) 1048576) refl (tree feed alert_message m) refl e
   where
-    go : (a : Bool) → leb (length m) 1048576 ≡ a → (o : Option Tree) → tree feed alert_message m ≡ o
+    go : (a : Bool) → leb (length m) 1048576 ≡ a → (o : LogicOption Tree) → tree feed alert_message m ≡ o
         → 0 ≡ cond a (number_by (asked (texts_of f) alert_message o) (feed_ok f)) 3 → Passed f m
     go false i o j e = absurd (omega (arith, e))
     go true i none j e = absurd (omega (arith, e))
@@ -171,8 +169,8 @@ module _ {f m : List ℕ} {out : ℕ} {l : List ℕ} where
             ∙ rw (P.short, P.read, P.named, P.texts, seven P K, lt-leb r 256 g) refl);
       }
 
-      pub sheet_ends : {b : List ℕ} {w : Put} {e : Ending} → r ≤ 256 → out ≡ length b
-          → WrittenSheet f m b (put.At 0) l w → e ≡ ending_of 8 w
+      pub sheet_ends : {b : List ℕ} {w : Option ℕ} {e : Ending} → r ≤ 256 → out ≡ length b
+          → WrittenSheet f m b (Some 0) l w → e ≡ ending_of 8 w
           → Ends lengths [] (calls.feed_alerts f m out) l e
       sheet_ends {b} {w} {e} g k W i = record {
         is = ap (outcome_of l) i ∙ written_as 8 (wrote (W.of P.message P.read))

@@ -1,9 +1,9 @@
 -- Law. A card's questions in their order, and the finished card.
-use Rattle.std.specs.Prelude.{◌≡◌, Bool, true, false, List, [], ◌∷◌, ℕ, ◌≤◌, ◌<◌, leb, replicate}
+use Rattle.std.specs.Prelude.{◌≡◌, Bool, true, false, List, [], ◌∷◌, ℕ, ◌≤◌, ◌<◌, leb, replicate, Option, Some, None}
 use Rattle.std.proofs.Math.Path.{refl, sym, ap}
 use Rattle.std.proofs.Common.{◌∙◌, arith}
 use Rattle.std.proofs.Math.Bool.{cond}
-use Rattle.std.proofs.Math.Option.{Option, none, some}
+use Rattle.std.proofs.Math.Option.{Option as LogicOption, none, some}
 use Rattle.std.proofs.Math.ListN.{length, get_or}
 use Rattle.basics.specs.Options.{is_some}
 use Rattle.basics.specs.Texts.{same}
@@ -13,8 +13,6 @@ use Rattle.formats_judge.specs.Judged.{ok}
 use Rattle.formats_read.specs.Promises.Here.{Here}
 use Rattle.formats_read.specs.Laws.Here.{whole_here, halves}
 use Rattle.formats_skip.specs.Laws.Leads.{lead_field}
-use Rattle.formats_write.specs.declared.Put.{Put}
-use Rattle.formats_write.specs.declared.Put.TheVariants as put
 use Rattle.formats_write.specs.Laws.Adds.{wrote}
 use Rattle.decode.specs.Sizes.{most_old}
 use Rattle.overlay.specs.State.{State, overlay}
@@ -23,8 +21,6 @@ use Rattle.overlay.specs.Image.{state_of}
 use Rattle.overlay.proofs.Laws.Buffer.{state_buffer, held_rules}
 use Rattle.overlay.proofs.Laws.StaysValid.{kept_of}
 use Rattle.overlay.proofs.Laws.Within.{Judged56, right, formed_of}
-use Rattle.overlay_open.specs.declared.Opened.{Opened}
-use Rattle.overlay_open.specs.declared.Opened.TheVariants.{No, At}
 use Rattle.overlay_noted.specs.Promises.Noted.{places_length}
 use Rattle.overlay_open.specs.Promises.Opened.{ending, Notes}
 use Rattle.overlay_open.specs.Laws.Held.{opened_here, open_at, open_no, feeds_up}
@@ -84,8 +80,8 @@ module _ {c : List ℕ} (P : Passed c) where
 
 -- ---- THE FINISHED CARD
 
-pub card_written : {o c f t l m : List ℕ} {w : Put} {P : CardPlaces} {g : CardSurvey} → CardAt c 0 P
-    → Surveyed c P.legs o f t g → Enriches g.seen g.labels c 0 o f t l (put.At 0) m w
+pub card_written : {o c f t l m : List ℕ} {w : Option ℕ} {P : CardPlaces} {g : CardSurvey} → CardAt c 0 P
+    → Surveyed c P.legs o f t g → Enriches g.seen g.labels c 0 o f t l (Some 0) m w
     → FinishesCard o c l m w
 unfolding finished headers_of
 card_written {o} C S E = record {
@@ -103,18 +99,18 @@ nothing_known k {o} e = rw e (knows_nothing most_text o (length k))
 
 -- ---- the number of the first no
 
-pub asked_closed : (o c : List ℕ) {r : Opened} → r ≡ ending (state_of o) → r ≡ No → 2 ≡ asked_number o c
+pub asked_closed : (o c : List ℕ) {r : Option ℕ} → r ≡ ending (state_of o) → r ≡ None → 2 ≡ asked_number o c
 asked_closed o c e h = rw (open_no o e h) refl
 
-pub asked_open : (o c : List ℕ) {r : Opened} {p n : ℕ} → r ≡ ending (state_of o) → r ≡ At p → n ≡ card_number c
+pub asked_open : (o c : List ℕ) {r : Option ℕ} {p n : ℕ} → r ≡ ending (state_of o) → r ≡ Some p → n ≡ card_number c
     → n ≡ asked_number o c
 asked_open o c e h i = i ∙ sym (rw (open_at e h).is refl)
 
 pub two_notes : {o l : List ℕ} → AskedNotes o l 2
 two_notes = record { is = λ e. absurd (omega arith) }
 
-pub asked_notes : {o k l : List ℕ} {r : Opened} {p n : ℕ} → Notes o k l r → length o ≤ most_old
-    → length k ≡ places_length → r ≡ At p → AskedNotes o l n
+pub asked_notes : {o k l : List ℕ} {r : Option ℕ} {p n : ℕ} → Notes o k l r → length o ≤ most_old
+    → length k ≡ places_length → r ≡ Some p → AskedNotes o l n
 asked_notes N m k h = record { is = λ e. N.at (record { small = m; room = k }) h }
 
 -- all are answered by yes
@@ -126,7 +122,7 @@ pub record Fine (o c : List ℕ) : Type 0 where
 pub fine : {n : ℕ} (o c : List ℕ) → n ≡ asked_number o c → n ≡ 0 → Fine o c
 fine o c e z = go (state_of o) refl (sym z ∙ e)
   where
-    go : (s : Option State) → state_of o ≡ s → 0 ≡ cond (is_some s) (card_number c) 2 → Fine o c
+    go : (s : LogicOption State) → state_of o ≡ s → 0 ≡ cond (is_some s) (card_number c) 2 → Fine o c
     go none i j = absurd (omega (arith, j))
     go (some s) i j = record { state = s; is = i; passes = passed c j }
 
@@ -177,13 +173,13 @@ module _ {n : ℕ} {o s : List ℕ} {out i j k l : ℕ} {t : Bool} (A : t ≡ ca
     unfolding arriving_asks
     asked_no z = record { is = go (state_of o) e ∙ sym (asked_on n o s out i j k l A h) }
       where
-        go : (st : Option State) → q ≡ cond (is_some st) (card_number s) 2
+        go : (st : LogicOption State) → q ≡ cond (is_some st) (card_number s) 2
             → refused q ≡ need_some st 2 (λ st.
             need (leb (length s) 65536) 3 (need_some (whole card s) 4 (arriving_outcome (sized n) st)))
         go none i = ap refused i
         go (some st) i = refused_so s _ _ i z
 
-    pub card_ends : {m b : List ℕ} {w : Put} {r : Ending} → q ≡ 0 → out ≡ length b → FinishesCard o s b m w
+    pub card_ends : {m b : List ℕ} {w : Option ℕ} {r : Ending} → q ≡ 0 → out ≡ length b → FinishesCard o s b m w
         → r ≡ ending_of 8 w → Ends (sized n) o (calls.card s out (i ∷ j ∷ k ∷ l ∷ [])) m r
     unfolding arriving_asks finished
     card_ends {m} {b} z long F x =

@@ -1,14 +1,12 @@
 -- Law. An arriving card's questions 3 to 7, by what the judge answers.
-use Rattle.std.specs.Prelude.{◌≡◌, Bool, ◌&&◌, List, ℕ, ◌≤◌, ◌<◌, leb, length}
+use Rattle.std.specs.Prelude.{◌≡◌, Bool, ◌&&◌, List, ℕ, ◌≤◌, ◌<◌, leb, length, Option, Some, None}
 use Rattle.std.proofs.Math.Path.{refl, sym, ap}
 use Rattle.std.proofs.Common.{◌∙◌, arith, le-leb}
 use Rattle.std.proofs.Math.Bool.{true, false, cond}
-use Rattle.std.proofs.Math.Option.{Option, none, some}
+use Rattle.std.proofs.Math.Option.{Option as LogicOption, none, some}
 use Rattle.std.proofs.lemmas.Bool.{lt-leb}
 use Rattle.formats.specs.Format.{Value}
 use Rattle.formats_judge.specs.Judged.{ok, first_failing, verdict, judge_to}
-use Rattle.formats_judge.specs.declared.Judge.{Judge}
-use Rattle.formats_judge.specs.declared.Judge.TheVariants.{At, Broken}
 use Rattle.journey.specs.Card.{card}
 use Rattle.panel.specs.Outcome.{Outcome, refused, need, need_some}
 use Rattle.panel.specs.Questions.{whole}
@@ -23,12 +21,12 @@ module _ (s : List ℕ) where
   unfolding card_number
   card_long h = rw (lt-leb (length s) 65536 h) refl
 
-  module _ (h : length s ≤ 65536) {r : Judge} (j : r ≡ judge_to card s 0) where
-    pub card_broken : r ≡ Broken → 4 ≡ card_number s
+  module _ (h : length s ≤ 65536) {r : Option (ℕ × ℕ)} (j : r ≡ judge_to card s 0) where
+    pub card_broken : r ≡ None → 4 ≡ card_number s
     unfolding card_number
     card_broken e = rw (le-leb (length s) 65536 h, whole_broken card s j e) refl
 
-    module _ {p n : ℕ} (e : r ≡ At p n) where
+    module _ {p n : ℕ} (e : r ≡ Some (p, n)) where
       pub card_cut : p < length s → 4 ≡ card_number s
       unfolding card_number
       card_cut l = rw (le-leb (length s) 65536 h, whole_short card s j e l) refl
@@ -59,7 +57,7 @@ module _ (s : List ℕ) (more : Value card → Bool) (k : Value card → Outcome
   unfolding card_number
   refused_so {n} N z = go (leb (length s) 65536) (whole card s) N
     where
-      go : (b : Bool) (o : Option (Value card)) → n ≡ cond b (formed o (verdict card)) 3
+      go : (b : Bool) (o : LogicOption (Value card)) → n ≡ cond b (formed o (verdict card)) 3
           → refused n ≡ need b 3 (need_some o 4 asks)
       go false o e = ap refused e
       go true none e = ap refused e
@@ -81,7 +79,7 @@ pub passed : (s : List ℕ) → 0 ≡ card_number s → Passed s
 unfolding card_number
 passed s e = go (leb (length s) 65536) refl (whole card s) refl e
   where
-    go : (b : Bool) → leb (length s) 65536 ≡ b → (o : Option (Value card)) → whole card s ≡ o
+    go : (b : Bool) → leb (length s) 65536 ≡ b → (o : LogicOption (Value card)) → whole card s ≡ o
         → 0 ≡ cond b (formed o (verdict card)) 3 → Passed s
     go false i o j e = absurd (omega (arith, e))
     go true i none j e = absurd (omega (arith, e))

@@ -1,10 +1,9 @@
 -- Promise. The first of a card's questions whose answer is no, and the finished card.
-use Rattle.std.specs.Prelude.{◌≡◌, true, cond, List, ℕ, leb, length}
+use Rattle.std.specs.Prelude.{◌≡◌, true, cond, List, ℕ, leb, length, Option}
 use Rattle.std.proofs.Math.Option.{some}
 use Rattle.basics.specs.Options.{is_some}
 use Rattle.formats.specs.Format.{Value, write}
 use Rattle.formats_judge.specs.Judged.{ok, verdict}
-use Rattle.formats_write.specs.declared.Put.{Put}
 use Rattle.formats_write.specs.Promises.Adds.{Wrote}
 use Rattle.overlay.specs.State.{State}
 use Rattle.overlay.specs.Image.{state_of}
@@ -36,5 +35,5 @@ pub record Passed (s : List ℕ) : Type 0 where
   pub seven : ok 7 card value ≡ true
 
 -- the card c, finished over the state of o, from the start of an output on: l at first, m at last
-pub record FinishesCard (o c l m : List ℕ) (w : Put) : Type 0 where
+pub record FinishesCard (o c l m : List ℕ) (w : Option ℕ) : Type 0 where
   pub wrote : {st : State} → state_of o ≡ some st → (P : Passed c) → Wrote l m w (write card (finished st P.value))

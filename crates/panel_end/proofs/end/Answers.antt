@@ -3,8 +3,8 @@ use borrow.Author.Rules.{rules}
 use Rattle.panel_end.specs.Laws.End.{end_at, end_broken}
 use Rattle.panel_end.proofs.end.Goals as goal
 
-pub returns-in-At : goal.returns-in-At
-returns-in-At c = search end_at
+pub returns-in-Some : goal.returns-in-Some
+returns-in-Some c = search end_at
 
-pub returns-in-Broken : goal.returns-in-Broken
-returns-in-Broken c = search end_broken
+pub returns-in-None : goal.returns-in-None
+returns-in-None c = search end_broken

@@ -19,7 +19,7 @@ returns-in_default c =
 pub returns-then-number-ne0 : goal.returns-then-number-ne0
 returns-then-number-ne0 c =
     asked_no c.same_lengths.ensures c.if-not-same_lengths.false
-    (open_at c.«open».ensures c.in-At.is) c.message_number-number.ensures c.if-number-ne0.true
+    (open_at c.«open».ensures c.in-Some.is) c.message_number-number.ensures c.if-number-ne0.true
 
 pub after_message-requires-clause-lent : goal.after_message-requires-clause-lent
 after_message-requires-clause-lent c =
@@ -47,12 +47,12 @@ after_message-requires-clause-fact c =
     let L =
     lends a.n a.old.now (length a.new.now) a.keys.now a.marks.now a.order.now
     c.same_lengths.ensures c.if-not-same_lengths.false c.requires in
-    (open_at c.«open».ensures c.in-At.is, L.short)
+    (open_at c.«open».ensures c.in-Some.is, L.short)
 
 pub returns : goal.returns
 returns c =
     let a = c.args in
     message_ends c.same_lengths.ensures c.if-not-same_lengths.false
-    (open_at c.«open».ensures c.in-At.is)
+    (open_at c.«open».ensures c.in-Some.is)
     (passed a.feed.now a.message.now (sym c.if-number-ne0.false ∙ c.message_number-number.ensures)) refl
     c.after_message.ensures c.of_put.ensures

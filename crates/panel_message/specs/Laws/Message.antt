@@ -1,15 +1,14 @@
 -- Law. A message's questions in their order, and what an accepted one leaves.
-use Rattle.std.specs.Prelude.{◌≡◌, Bool, true, false, cond, ◌&&◌, List, [], ◌∷◌, ℕ, ◌≤◌, ◌<◌, leb, replicate}
+use Rattle.std.specs.Prelude.{◌≡◌, Bool, true, false, cond, ◌&&◌, List, [], ◌∷◌, ℕ, ◌≤◌, ◌<◌, leb, replicate, Option}
 use Rattle.std.proofs.Math.Path.{refl, sym, ap}
 use Rattle.std.proofs.Common.{◌∙◌, arith, leb-true, le-leb}
-use Rattle.std.proofs.Math.Option.{Option, none, some}
+use Rattle.std.proofs.Math.Option.{Option as LogicOption, none, some}
 use Rattle.std.proofs.Math.ListN.{length, get_or}
 use Rattle.std.proofs.lemmas.Bool.{lt-leb}
 use Rattle.basics.specs.Texts.{same}
 use Rattle.basics.specs.Laws.Booleans.{both_true}
 use Rattle.basics.specs.Laws.Texts.{same_true}
 use Rattle.formats.specs.Class.{token, in_class}
-use Rattle.formats_write.specs.declared.Put.{Put}
 use Rattle.realtime.specs.Tree.{Tree, tree}
 use Rattle.realtime.specs.Schema.{feed_message, feed}
 use Rattle.realtime.specs.Judge.{rules, asked, texts_fine, numbers_fine}
@@ -50,12 +49,12 @@ verdict_refused false y true k n e z = ap refused e
 verdict_refused false y false k n e z = ap refused e
 
 module _ (f : List ℕ) (k : Tree → Outcome) where
-  abbrev chain : Bool → Option Tree → Outcome
+  abbrev chain : Bool → LogicOption Tree → Outcome
   chain short o =
       need short 3 (need_some o 4 (λ t.
       need (feed_ok f && texts_fine rules feed_message t) 5 (need (numbers_fine rules feed_message t) 6 (k t))))
 
-  chain_refused : (short : Bool) (o : Option Tree) (n : ℕ)
+  chain_refused : (short : Bool) (o : LogicOption Tree) (n : ℕ)
       → n ≡ cond short (number_by (asked rules feed_message o) (feed_ok f)) 3 → (n ≡ 0 → ⊥) → refused n ≡ chain short o
   chain_refused false o n e z = ap refused e
   chain_refused true none n e z = ap refused e
@@ -87,7 +86,7 @@ pub record Passed (f m : List ℕ) : Type 0 where
 pub passed : (f m : List ℕ) → 0 ≡ message_number f m → Passed f m
 passed f m e = go (leb (length m) 1048576) refl (tree feed feed_message m) refl e
   where
-    go : (a : Bool) → leb (length m) 1048576 ≡ a → (o : Option Tree) → tree feed feed_message m ≡ o
+    go : (a : Bool) → leb (length m) 1048576 ≡ a → (o : LogicOption Tree) → tree feed feed_message m ≡ o
         → 0 ≡ cond a (number_by (asked rules feed_message o) (feed_ok f)) 3 → Passed f m
     go false i o j e = absurd (omega (arith, e))
     go true i none j e = absurd (omega (arith, e))
@@ -163,7 +162,7 @@ module _ {n : ℕ} {o f s : List ℕ} {new keys marks order : ℕ} {a : Bool}
           ∙ sym (asked_on n o f s new keys marks order A h ∙ rw O.is refl);
     }
 
-    pub message_ends : {l m : List ℕ} {end : ℕ} {w : Put} {r : Ending} → Open o end → Passed f s
+    pub message_ends : {l m : List ℕ} {end : ℕ} {w : Option ℕ} {r : Ending} → Open o end → Passed f s
         → new ≡ length l → Leads l m w f s o → r ≡ put_ending w
         → Ends (sized n) o (calls.message f s new (keys ∷ marks ∷ order ∷ [])) m r
     unfolding tree_asks

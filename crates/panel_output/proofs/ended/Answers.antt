@@ -3,8 +3,8 @@ use borrow.Author.Rules.{rules}
 use Rattle.panel_output.specs.Laws.Ending.{put_at, put_full}
 use Rattle.panel_output.proofs.ended.Goals as goal
 
-pub returns-in-At : goal.returns-in-At
-returns-in-At c = search put_at
+pub returns-in-Some : goal.returns-in-Some
+returns-in-Some c = search put_at
 
-pub returns-in-Full : goal.returns-in-Full
-returns-in-Full c = search put_full
+pub returns-in-None : goal.returns-in-None
+returns-in-None c = search put_full

@@ -1,10 +1,8 @@
 -- Law. What a writer from the start of an output makes of a call: accepted with the whole, or the no of the question
 -- that asks for room.
-use Rattle.std.specs.Prelude.{◌≡◌, refl, Bool, true, false, List, ◌++◌, ℕ, ◌+◌, ◌-◌, ◌≤◌, ◌<◌, leb, length, take, drop, replicate}
+use Rattle.std.specs.Prelude.{◌≡◌, refl, Bool, true, false, List, ◌++◌, ℕ, ◌+◌, ◌-◌, ◌≤◌, ◌<◌, leb, length, take, drop, replicate, Option, Some, None}
 use Rattle.std.proofs.Common.{sym, ap, ◌∙◌, append-nil, arith, length-drop, take_at, take_all, drop-drop, length-take-le, leb-true, leb-false}
 use Rattle.std.proofs.Math.Seq.{drop-length}
-use Rattle.formats_write.specs.declared.Put.{Put}
-use Rattle.formats_write.specs.declared.Put.TheVariants as put
 use Rattle.formats_write.specs.Promises.Adds.{Wrote}
 use Rattle.overlay.specs.Image.{filled}
 use Rattle.panel.specs.Outcome.{accepted, need, number_of}
@@ -12,7 +10,7 @@ use Rattle.panel_output.specs.Promises.Ending.{outcome_of, ending_of, put_ending
 use Rattle.panel_output.specs.declared.Ending.{Ending}
 use Rattle.panel_output.specs.declared.Ending.TheVariants.{Refused, Written}
 
-pub written_as : (k : ℕ) {l m : List ℕ} {q : Put} {x : List ℕ} → Wrote l m q x
+pub written_as : (k : ℕ) {l m : List ℕ} {q : Option ℕ} {x : List ℕ} → Wrote l m q x
     → outcome_of m (ending_of k q) ≡ need (leb (length x) (length l)) k (accepted x)
 written_as k {l} {m} {q} {x} w = go (leb (length x) (length l)) refl
   where
@@ -24,7 +22,7 @@ written_as k {l} {m} {q} {x} w = go (leb (length x) (length l)) refl
         ap (λ q. outcome_of m (ending_of k q)) (w.next h) ∙ ap accepted e
     go false t = ap (λ q. outcome_of m (ending_of k q)) (w.full (leb-false (length x) (length l) t))
 
-pub written_outcome : {l m : List ℕ} {q : Put} {x : List ℕ} → Wrote l m q x
+pub written_outcome : {l m : List ℕ} {q : Option ℕ} {x : List ℕ} → Wrote l m q x
     → outcome_of m (put_ending q) ≡ need (leb (length x) (length l)) 7 (accepted x)
 written_outcome = written_as 7
 
@@ -56,8 +54,8 @@ pub written_so : {l m : List ℕ} {e : Ending} {p : ℕ} → e ≡ Written p →
 written_so {l} i c = record { number = ap (λ e. number_of (outcome_of l e)) (sym i); bytes = rw i c.is }
 
 -- a writer's last place
-pub put_at : (k : ℕ) {w : Put} {p : ℕ} → w ≡ put.At p → Written p ≡ ending_of k w
+pub put_at : (k : ℕ) {w : Option ℕ} {p : ℕ} → w ≡ Some p → Written p ≡ ending_of k w
 put_at k e = ap (ending_of k) (sym e)
 
-pub put_full : (k : ℕ) {w : Put} → w ≡ put.Full → Refused k ≡ ending_of k w
+pub put_full : (k : ℕ) {w : Option ℕ} → w ≡ None → Refused k ≡ ending_of k w
 put_full k e = ap (ending_of k) (sym e)

@@ -1,7 +1,5 @@
 -- Promise. How a call ends, by its output: refused with a number, or accepted with what stands up to a place.
-use Rattle.std.specs.Prelude.{◌≡◌, List, ℕ, length, take}
-use Rattle.formats_write.specs.declared.Put.{Put}
-use Rattle.formats_write.specs.declared.Put.TheVariants as put
+use Rattle.std.specs.Prelude.{◌≡◌, List, ℕ, length, take, Option, Some, None}
 use Rattle.overlay.specs.Image.{filled}
 use Rattle.panel.specs.Outcome.{Outcome, refused, accepted, number_of, bytes_of}
 use Rattle.panel_output.specs.declared.Ending.{Ending}
@@ -12,11 +10,11 @@ outcome_of l (Refused n) = refused n
 outcome_of l (Written p) = accepted (take p l)
 
 -- what does not fit is question k's: of a state 7, of a card 8
-abbrev pub ending_of : ℕ → Put → Ending
-ending_of k (put.At p) = Written p
-ending_of k put.Full = Refused k
+abbrev pub ending_of : ℕ → Option ℕ → Ending
+ending_of k (Some p) = Written p
+ending_of k None = Refused k
 
-abbrev pub put_ending : Put → Ending
+abbrev pub put_ending : Option ℕ → Ending
 put_ending w = ending_of 7 w
 
 -- the output l with zeros from p on

@@ -19,17 +19,17 @@ returns-in_default c =
 pub returns-then-p-sheet : goal.returns-then-p-sheet
 returns-then-p-sheet c =
     let args = c.args in
-    alerts_cut args.feed.now args.sheet.now c.if-sheet-gt1048576.false c.judge_alerts.ensures c.in-At.is
+    alerts_cut args.feed.now args.sheet.now c.if-sheet-gt1048576.false c.judge_alerts.ensures c.in-Some.is
     c.if-p-sheet.true
 
 pub returns-then-feed_ok : goal.returns-then-feed_ok
 returns-then-feed_ok c =
     let args = c.args in
     alerts_judged args.feed.now args.sheet.now c.if-sheet-gt1048576.false c.judge_alerts.ensures
-    c.in-At.is c.if-p-sheet.false (sym c.feed_ok.ensures ∙ c.if-feed_ok.true)
+    c.in-Some.is c.if-p-sheet.false (sym c.feed_ok.ensures ∙ c.if-feed_ok.true)
 
 pub returns : goal.returns
 returns c =
     let args = c.args in
     alerts_nowhere args.feed.now args.sheet.now c.if-sheet-gt1048576.false c.judge_alerts.ensures
-    c.in-At.is c.if-p-sheet.false (sym c.feed_ok.ensures ∙ c.if-feed_ok.false)
+    c.in-Some.is c.if-p-sheet.false (sym c.feed_ok.ensures ∙ c.if-feed_ok.false)

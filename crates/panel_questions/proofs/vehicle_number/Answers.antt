@@ -20,24 +20,24 @@ pub returns-then-p-sheet : goal.returns-then-p-sheet
 returns-then-p-sheet c =
     let a = c.args in
     vehicles_cut a.feed.now a.sheet.now a.clock c.if-sheet-gt1048576.false c.judge_vehicles.ensures
-    c.in-At.is c.if-p-sheet.true
+    c.in-Some.is c.if-p-sheet.true
 
 pub returns-then-feed_ok : goal.returns-then-feed_ok
 returns-then-feed_ok c =
     let a = c.args in
     vehicles_judged a.feed.now a.sheet.now a.clock c.if-sheet-gt1048576.false c.judge_vehicles.ensures
-    c.in-At.is c.if-p-sheet.false c.keys_ascend.ensures c.if-keys_ascend.true
+    c.in-Some.is c.if-p-sheet.false c.keys_ascend.ensures c.if-keys_ascend.true
     (sym c.feed_ok.ensures ∙ c.if-feed_ok.true) c.timed.ensures
 
 pub returns-then-keys_ascend : goal.returns-then-keys_ascend
 returns-then-keys_ascend c =
     let a = c.args in
     vehicles_nowhere a.feed.now a.sheet.now a.clock c.if-sheet-gt1048576.false c.judge_vehicles.ensures
-    c.in-At.is c.if-p-sheet.false c.keys_ascend.ensures c.if-keys_ascend.true
+    c.in-Some.is c.if-p-sheet.false c.keys_ascend.ensures c.if-keys_ascend.true
     (sym c.feed_ok.ensures ∙ c.if-feed_ok.false)
 
 pub returns : goal.returns
 returns c =
     let a = c.args in
     vehicles_fall a.feed.now a.sheet.now a.clock c.if-sheet-gt1048576.false c.judge_vehicles.ensures
-    c.in-At.is c.if-p-sheet.false c.keys_ascend.ensures c.if-keys_ascend.false
+    c.in-Some.is c.if-p-sheet.false c.keys_ascend.ensures c.if-keys_ascend.false

@@ -1,5 +1,5 @@
 -- Law. A vehicle sheet's questions 3 to 6.
-use Rattle.std.specs.Prelude.{◌≡◌, refl, Bool, true, false, List, ℕ, ◌≤◌, ◌<◌, length}
+use Rattle.std.specs.Prelude.{◌≡◌, refl, Bool, true, false, List, ℕ, ◌≤◌, ◌<◌, length, Option, Some, None}
 use Rattle.std.proofs.Math.Path.{sym, ap}
 use Rattle.std.proofs.Common.{◌∙◌, eq-eqb, ne_eqb}
 use Rattle.std.proofs.Math.Bool.{cond}
@@ -8,8 +8,6 @@ use Rattle.maps.specs.Map.{ascending}
 use Rattle.maps.specs.Order.{texts}
 use Rattle.formats.specs.Format.{Value}
 use Rattle.formats_judge.specs.Judged.{verdict, judge_to}
-use Rattle.formats_judge.specs.declared.Judge.{Judge}
-use Rattle.formats_judge.specs.declared.Judge.TheVariants.{At, Broken}
 use Rattle.formats_read.specs.Laws.Here.{whole_here, halves}
 use Rattle.overlay.specs.State.{vehicle_sheet}
 use Rattle.overlay_ascends.specs.Promises.Ascends.{Ascends}
@@ -40,12 +38,12 @@ module _ (f s : List ℕ) (c : Bool) where
   unfolding vehicle_number
   vehicles_long h = too_long s (vehicles_in s) asked h
 
-  module _ (h : length s ≤ 1048576) {r : Judge} (j : r ≡ judge_to vehicle_sheet s 0) where
-    pub vehicles_broken : r ≡ Broken → 4 ≡ vehicle_number f s c
+  module _ (h : length s ≤ 1048576) {r : Option (ℕ × ℕ)} (j : r ≡ judge_to vehicle_sheet s 0) where
+    pub vehicles_broken : r ≡ None → 4 ≡ vehicle_number f s c
     unfolding vehicle_number
     vehicles_broken e = no_form s (vehicles_in s) asked h (ap keys_ascend (whole_broken vehicle_sheet s j e))
 
-    module _ {p n : ℕ} (e : r ≡ At p n) where
+    module _ {p n : ℕ} (e : r ≡ Some (p, n)) where
       pub vehicles_cut : p < length s → 4 ≡ vehicle_number f s c
       unfolding vehicle_number
       vehicles_cut l = no_form s (vehicles_in s) asked h (ap keys_ascend (whole_short vehicle_sheet s j e l))

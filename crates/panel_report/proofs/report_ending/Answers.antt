@@ -11,15 +11,15 @@ returns-then-not-same_lengths c =
 pub returns-then-feed_ok : goal.returns-then-feed_ok
 returns-then-feed_ok c =
     report_good c.same_lengths.ensures c.if-not-same_lengths.false c.«open».ensures
-    c.in-At.is c.feed_ok.ensures c.if-feed_ok.true refl
+    c.in-Some.is c.feed_ok.ensures c.if-feed_ok.true refl
     c.write_report-w.ensures c.of_put.ensures
 
-pub returns-in-No : goal.returns-in-No
-returns-in-No c =
+pub returns-in-None : goal.returns-in-None
+returns-in-None c =
     report_no c.same_lengths.ensures c.if-not-same_lengths.false c.«open».ensures
-    c.in-No.is
+    c.in-None.is
 
 pub returns-else-feed_ok : goal.returns-else-feed_ok
 returns-else-feed_ok c =
     report_bad c.same_lengths.ensures c.if-not-same_lengths.false c.«open».ensures
-    c.in-At.is c.feed_ok.ensures c.if-feed_ok.false
+    c.in-Some.is c.feed_ok.ensures c.if-feed_ok.false

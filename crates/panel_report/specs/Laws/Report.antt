@@ -1,5 +1,5 @@
 -- Law. How a fresh call and a report call end.
-use Rattle.std.specs.Prelude.{◌≡◌, Bool, true, false, ◌&&◌, List, [], ◌∷◌, ◌++◌, ℕ, ◌-◌, ◌/◌, ◌%◌, ◌^◌, ◌≤◌, ◌<◌, ℤ, pos, negsuc, eqb, leb, length, get_or}
+use Rattle.std.specs.Prelude.{◌≡◌, Bool, true, false, ◌&&◌, List, [], ◌∷◌, ◌++◌, ℕ, ◌-◌, ◌/◌, ◌%◌, ◌^◌, ◌≤◌, ◌<◌, ℤ, pos, negsuc, eqb, leb, length, get_or, Option, Some, None}
 use Rattle.std.proofs.Math.Path.{refl, sym, ap}
 use Rattle.std.proofs.Common.{◌∙◌, arith, eq-eqb, ne_eqb, le-leb, inl, inr}
 use Rattle.std.proofs.Math.Option
@@ -13,10 +13,6 @@ use Rattle.maps.specs.Order.{texts}
 use Rattle.formats.specs.Format.{Value, write, number, signed, optional}
 use Rattle.formats.specs.Number.{little_w, zig, zag}
 use Rattle.formats.specs.Laws.Number.{zag_zig}
-use Rattle.formats.specs.declared.OptionalSigned.{OptionalSigned}
-use Rattle.formats.specs.declared.OptionalSigned.TheVariants.{Absent, Present}
-use Rattle.formats_write.specs.declared.Put.{Put}
-use Rattle.formats_write.specs.declared.Put.TheVariants as put
 use Rattle.formats_write.specs.Laws.Adds.{then, wrote}
 use Rattle.formats_write.specs.Laws.Adds as adds
 use Rattle.formats_write.specs.Promises.Adds.{Adds}
@@ -35,8 +31,6 @@ use Rattle.overlay_feeds.specs.declared.FeedPlace.{FeedPlace}
 use Rattle.overlay_feeds.specs.declared.FeedPlace.TheVariants.{At, Missing}
 use Rattle.overlay_feeds.specs.Promises.Head.{ReadsHead}
 use Rattle.overlay_feeds.specs.Promises.Place.{FindsFeed, FeedAt}
-use Rattle.overlay_open.specs.declared.Opened.{Opened}
-use Rattle.overlay_open.specs.declared.Opened.TheVariants as opened
 use Rattle.overlay_open.specs.Laws.Held.{open_at, open_no, opened_here, opened_valid, feeds_up}
 use Rattle.overlay_open.specs.Promises.Opened.{ending}
 use Rattle.panel.specs.Outcome.{accepted, need, need_some}
@@ -61,8 +55,8 @@ module _ {n : ℕ} (l : List ℕ) {m : List ℕ} where
   unfolding fresh_asks room
   fresh_unsized h = record { is = rw h refl }
 
-  pub fresh_written : {q : Put} {r : Ending} → (eqb (length l) n && leb 3 (length l)) ≡ true
-      → Adds l (put.At 0) m q (write overlay no_state) → r ≡ put_ending q
+  pub fresh_written : {q : Option ℕ} {r : Ending} → (eqb (length l) n && leb 3 (length l)) ≡ true
+      → Adds l (Some 0) m q (write overlay no_state) → r ≡ put_ending q
       → Ends (sized n) [] (calls.fresh (length l)) m r
   unfolding fresh_asks room
   fresh_written h w i =
@@ -82,11 +76,11 @@ even_bits n h = rw (eq-eqb (n % 2) 0 h) refl
 pub odd_bits : (n : ℕ) → n < 2 ^ 64 → (n % 2 ≡ 0 → ⊥) → 18446744073709551615 - n / 2 ≡ bits64 (zag n)
 odd_bits n l h = rw (ne_eqb (n % 2) 0 h) (omega arith)
 
-pub stamp_absent : {l m n : List ℕ} {r k j : Put} {t : OptionalSigned} → t ≡ Absent → Adds l r m k (0 ∷ [])
+pub stamp_absent : {l m n : List ℕ} {r k j : Option ℕ} {t : Option ℤ} → t ≡ None → Adds l r m k (0 ∷ [])
     → Adds m k n j (little_w 8 0) → Adds l r n j (stamped (given_signed t))
 stamp_absent e a b = adds.same (then a b) (ap (λ t. stamped (given_signed t)) (sym e))
 
-pub stamp_present : {l m n : List ℕ} {r k j : Put} {t : OptionalSigned} {z : ℤ} {code bits : ℕ} → t ≡ Present z
+pub stamp_present : {l m n : List ℕ} {r k j : Option ℕ} {t : Option ℤ} {z : ℤ} {code bits : ℕ} → t ≡ Some z
     → Adds l r m k (1 ∷ []) → code ≡ zig z → bits ≡ bits64 (zag code) → Adds m k n j (little_w 8 bits)
     → Adds l r n j (stamped (given_signed t))
 stamp_present {z} e a c d b =
@@ -114,13 +108,13 @@ module _ {o f : List ℕ} {r : FeedPlace} (P : FindsFeed o f r) {s : State} (e :
   no_feed_holds {i} {p} h = sym (ap (λ g. Option.get_or g no_feed) ((P.to whole up).lost i p h).got)
 
 module _ {o f : List ℕ} {r : FeedPlace} (P : FindsFeed o f r) where
-  pub reads_none : {i p : ℕ} → r ≡ Missing i p → Reads o f 0 Absent
+  pub reads_none : {i p : ℕ} → r ≡ Missing i p → Reads o f 0 None
   reads_none h = record {
     count_is = λ e. ap count_of (no_feed_holds P e h);
     timestamp_is = λ e. ap timestamp_of (no_feed_holds P e h);
   }
 
-  pub reads_at : {i p b c n e : ℕ} {t : OptionalSigned} → r ≡ At i p b
+  pub reads_at : {i p b c n e : ℕ} {t : Option ℤ} → r ≡ At i p b
       → ((lo hi : ℤ) (v : Value (optional (signed lo hi))) (q : ℕ) → Here (optional (signed lo hi)) o b q v
       → given_signed t ≡ v)
       → Passes (optional (number 0 0)) o b c → ReadsNumber o c n e → Reads o f n t
@@ -138,9 +132,9 @@ module _ {o f : List ℕ} {r : FeedPlace} (P : FindsFeed o f r) where
 
 -- ---- a report
 
-pub report_written : {l m n k : List ℕ} {a b c : Put} {o f : List ℕ} {version counted feeds first count : ℕ}
-    {t : OptionalSigned} → ReadsHead o version counted feeds first → Reads o f count t
-    → Adds l (put.At 0) m a (little_w 8 version) → Adds m a n b (little_w 8 count)
+pub report_written : {l m n k : List ℕ} {a b c : Option ℕ} {o f : List ℕ} {version counted feeds first count : ℕ}
+    {t : Option ℤ} → ReadsHead o version counted feeds first → Reads o f count t
+    → Adds l (Some 0) m a (little_w 8 version) → Adds m a n b (little_w 8 count)
     → Adds n b k c (stamped (given_signed t)) → Written l k c o f
 unfolding report.report
 report_written {o} H R x y z = record {
@@ -176,17 +170,17 @@ module _ {n : ℕ} {o f m : List ℕ} {out : ℕ} {a : Bool} (A : a ≡ report_s
   report_unsized h = record { is = rw (sym A ∙ h) refl }
 
   module _ (h : a ≡ true) where
-    pub report_no : {w : Opened} → w ≡ ending (state_of o) → w ≡ opened.No
+    pub report_no : {w : Option ℕ} → w ≡ ending (state_of o) → w ≡ None
         → Ends (sized n) o (calls.report f out) m (Refused 2)
     report_no O i = record { is = sym (asked n o f out A h ∙ rw (open_no o O i) refl) }
 
-    module _ {w : Opened} {p : ℕ} {b : Bool} (O : w ≡ ending (state_of o)) (i : w ≡ opened.At p)
+    module _ {w : Option ℕ} {p : ℕ} {b : Bool} (O : w ≡ ending (state_of o)) (i : w ≡ Some p)
         (d : b ≡ feed_ok f) where
       pub report_bad : b ≡ false → Ends (sized n) o (calls.report f out) m (Refused 5)
       report_bad j = record { is = sym (asked n o f out A h ∙ rw ((open_at O i).is, sym d ∙ j) refl) }
 
       -- 25 bytes have room in 25
-      pub report_good : {l : List ℕ} {q : Put} {r : Ending} → b ≡ true → out ≡ length l → Written l m q o f
+      pub report_good : {l : List ℕ} {q : Option ℕ} {r : Ending} → b ≡ true → out ≡ length l → Written l m q o f
           → r ≡ put_ending q → Ends (sized n) o (calls.report f out) m r
       report_good {l} j k W e =
           let S = open_at O i in

@@ -28,7 +28,7 @@ returns-in_default c =
 pub returns-then-number-ne0 : goal.returns-then-number-ne0
 returns-then-number-ne0 c =
     let a = c.args in
-    let O = open_at c.«open».ensures c.in-At.is in
+    let O = open_at c.«open».ensures c.in-Some.is in
     record {
       is = alerts_refused (sized a.n) a.old.now a.feed.now a.sheet.now (length a.new.now) []
           (sym c.same_lengths.ensures ∙ c.if-not-same_lengths.false) c.alert_number-number.ensures O.is
@@ -38,7 +38,7 @@ returns-then-number-ne0 c =
 pub returns : goal.returns
 returns c =
     let a = c.args in
-    let O = open_at c.«open».ensures c.in-At.is in
+    let O = open_at c.«open».ensures c.in-Some.is in
     record {
       is = alerts_accepted (sized a.n) a.old.now a.feed.now a.sheet.now (length a.new.now) []
           (sym c.same_lengths.ensures ∙ c.if-not-same_lengths.false) c.alert_number-number.ensures O.is

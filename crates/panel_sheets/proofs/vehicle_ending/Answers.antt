@@ -32,7 +32,7 @@ pub returns-then-number-ne0 : goal.returns-then-number-ne0
 returns-then-number-ne0 c =
     λ t T.
     let a = c.args in
-    let O = open_at c.«open».ensures c.in-At.is in
+    let O = open_at c.«open».ensures c.in-Some.is in
     record {
       is = vehicles_refused (sized a.n) a.old.now a.feed.now a.sheet.now t (length a.new.now) []
           (sym c.same_lengths.ensures ∙ c.if-not-same_lengths.false) T c.vehicle_number-number.ensures O.is
@@ -43,7 +43,7 @@ pub returns : goal.returns
 returns c =
     λ t T.
     let a = c.args in
-    let O = open_at c.«open».ensures c.in-At.is in
+    let O = open_at c.«open».ensures c.in-Some.is in
     record {
       is = vehicles_accepted (sized a.n) a.old.now a.feed.now a.sheet.now t (length a.new.now) []
           (sym c.same_lengths.ensures ∙ c.if-not-same_lengths.false) T c.vehicle_number-number.ensures O.is

@@ -1,12 +1,11 @@
 -- Law. An alert sheet's questions in their order.
-use Rattle.std.specs.Prelude.{◌≡◌, Bool, ◌&&◌, List, ℕ, leb, length}
+use Rattle.std.specs.Prelude.{◌≡◌, Bool, ◌&&◌, List, ℕ, leb, length, Option}
 use Rattle.std.proofs.Math.Path.{refl, sym, ap}
 use Rattle.std.proofs.Common.{◌∙◌, arith}
 use Rattle.std.proofs.Math.Bool.{true, false, cond}
-use Rattle.std.proofs.Math.Option.{Option, none, some}
+use Rattle.std.proofs.Math.Option.{Option as LogicOption, none, some}
 use Rattle.formats.specs.Format.{list, Value}
 use Rattle.formats_judge.specs.Judged.{ok, first_failing, verdict}
-use Rattle.formats_write.specs.declared.Put.{Put}
 use Rattle.formats_read.specs.Laws.Here.{whole_here, halves}
 use Rattle.alerts.specs.Alert.{Alert, alert, alert_sheet}
 use Rattle.overlay.specs.State.{State}
@@ -79,7 +78,7 @@ module _ (L : Lengths) (old f sheet : List ℕ) (new : ℕ) (work : List ℕ)
     unfolding alert_number alerts_ask
     alerts_refused z = sym (alerts_open i ∙ go (leb (length sheet) 1048576) (whole alert_sheet sheet) N)
       where
-        go : (b : Bool) (o : Option (Value alert_sheet))
+        go : (b : Bool) (o : LogicOption (Value alert_sheet))
             → n ≡ cond b (formed o (λ v. cond (feed_ok f) (verdict alert_sheet v) 5)) 3
             → need b 3 (need_some o 4 (alerts_outcome L old f s)) ≡ refused n
         go false o e = ap refused (sym e)
@@ -101,7 +100,7 @@ module _ (L : Lengths) (old f sheet : List ℕ) (new : ℕ) (work : List ℕ)
     alerts_asked z =
         go (leb (length sheet) 1048576) (whole alert_sheet sheet) refl (sym z ∙ N) (alerts_open i)
       where
-        go : (b : Bool) (o : Option (Value alert_sheet)) → whole alert_sheet sheet ≡ o
+        go : (b : Bool) (o : LogicOption (Value alert_sheet)) → whole alert_sheet sheet ≡ o
             → 0 ≡ cond b (formed o (λ v. cond (feed_ok f) (verdict alert_sheet v) 5)) 3
             → alert_sheet_of L old f sheet new work ≡ need b 3 (need_some o 4 (alerts_outcome L old f s)) → Sheet
         go false o w e k = absurd (omega (arith, e))
@@ -116,7 +115,7 @@ module _ (L : Lengths) (old f sheet : List ℕ) (new : ℕ) (work : List ℕ)
             }
 
     -- accepted, or without room
-    pub alerts_accepted : {l m : List ℕ} {q : Put} {r : Ending} → n ≡ 0 → new ≡ length l
+    pub alerts_accepted : {l m : List ℕ} {q : Option ℕ} {r : Ending} → n ≡ 0 → new ≡ length l
         → ((vs : List Alert) → AlertsIn sheet vs → ok 7 (list 256 alert) vs ≡ true
         → Changes l m q (after_alerts f vs s))
         → r ≡ put_ending q → outcome_of m r ≡ alert_sheet_of L old f sheet new work

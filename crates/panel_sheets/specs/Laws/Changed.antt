@@ -3,8 +3,8 @@ use Rattle.std.specs.Prelude.{◌≡◌, refl, Bool, true, false, ◌&&◌, List
 use Rattle.std.proofs.Common.{sym, ap, ◌∙◌}
 use Rattle.basics.specs.Lists.{all}
 use Rattle.basics.specs.Laws.Booleans.{both_true, false_true}
-use Rattle.slices.specs.declared.Order.{Order}
-use Rattle.slices.specs.declared.Order.TheVariants.{Less, Same, More}
+use Rattle.std.specs.declared.cmp.Ordering.{Ordering}
+use Rattle.std.specs.declared.cmp.Ordering.TheVariants.{Less, Equal, Greater}
 use Rattle.maps.specs.Map.{Ordered, by_order, put}
 use Rattle.maps.specs.Order.{texts}
 use Rattle.formats.specs.Format.{list, optional, write}
@@ -27,11 +27,11 @@ module _ {K : Type 0} (O : Ordered K) {A : Type 0} (p : K × A → Bool) (k : K)
   put_one [] h = (both_true (p (k, v)) true h).0
   put_one (e ∷ m) h = go (O.compare k e.0) (put_one m) h
     where
-      go : (o : Order) → (all p (put O k v m) ≡ true → p (k, v) ≡ true)
+      go : (o : Ordering) → (all p (put O k v m) ≡ true → p (k, v) ≡ true)
           → all p (by_order o ((k, v) ∷ e ∷ m) ((k, v) ∷ m) (e ∷ put O k v m)) ≡ true → p (k, v) ≡ true
       go Less i h = (both_true (p (k, v)) (all p (e ∷ m)) h).0
-      go Same i h = (both_true (p (k, v)) (all p m) h).0
-      go More i h = i (both_true (p e) (all p (put O k v m)) h).1
+      go Equal i h = (both_true (p (k, v)) (all p m) h).0
+      go Greater i h = i (both_true (p e) (all p (put O k v m)) h).1
 
 feed_seven : (f : List ℕ) (G : Feed) (n : ℕ) (s : State) → ok 7 overlay (put_feed f G n s) ≡ true → ok 7 feed G ≡ true
 unfolding put_feed

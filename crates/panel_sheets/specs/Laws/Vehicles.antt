@@ -1,16 +1,15 @@
 -- Law. A vehicle sheet's questions in their order.
-use Rattle.std.specs.Prelude.{◌≡◌, Bool, ◌&&◌, List, ℕ, ℤ, pos, ◌-ℤ◌, leb, length}
+use Rattle.std.specs.Prelude.{◌≡◌, Bool, ◌&&◌, List, ℕ, ℤ, pos, ◌-ℤ◌, leb, length, Option}
 use Rattle.std.proofs.Math.Path.{refl, sym, ap}
 use Rattle.std.proofs.Common.{◌∙◌, arith}
 use Rattle.std.proofs.Math.Bool.{true, false, cond}
-use Rattle.std.proofs.Math.Option.{Option, none, some}
+use Rattle.std.proofs.Math.Option.{Option as LogicOption, none, some}
 use Rattle.basics.specs.Laws.Options.{none_some}
 use Rattle.maps.specs.Map.{ascending}
 use Rattle.maps.specs.Order.{texts}
 use Rattle.formats.specs.Number.{zag}
 use Rattle.formats.specs.Format.{Value}
 use Rattle.formats_judge.specs.Judged.{ok, first_failing, verdict}
-use Rattle.formats_write.specs.declared.Put.{Put}
 use Rattle.formats_read.specs.Laws.Here.{whole_here, halves}
 use Rattle.decode.specs.Trip.{instant}
 use Rattle.overlay.specs.State.{State, Vehicles, vehicle_sheet}
@@ -46,7 +45,7 @@ module _ (sheet : List ℕ) (v : Value vehicle_sheet) where
           let i = some_is h in alone (k ∙ ap some i) (ap (λ u. ascending texts u.1) (sym i) ∙ t)
       pick u false k t h = none_some h
 
-      go : (o : Option (Value vehicle_sheet)) → whole vehicle_sheet sheet ≡ o → keys_ascend o ≡ some v
+      go : (o : LogicOption (Value vehicle_sheet)) → whole vehicle_sheet sheet ≡ o → keys_ascend o ≡ some v
           → VehiclesAlone sheet v.1
       go none k h = none_some h
       go (some u) k h = pick u (ascending texts u.1) k refl h
@@ -109,7 +108,7 @@ module _ (L : Lengths) (old f sheet : List ℕ) (clock : ℤ) (new : ℕ) (work 
     unfolding vehicle_number vehicles_ask
     vehicles_refused z = sym (vehicles_open i ∙ go (leb (length sheet) 1048576) (vehicles_in sheet) numbered)
       where
-        go : (b : Bool) (o : Option (Value vehicle_sheet))
+        go : (b : Bool) (o : LogicOption (Value vehicle_sheet))
             → n ≡ cond b
             (formed o (λ v. cond (feed_ok f) (timed (verdict vehicle_sheet v) (ok 6 instant clock)) 5)) 3
             → need b 3 (need_some o 4 (vehicles_outcome L old f clock s)) ≡ refused n
@@ -131,7 +130,7 @@ module _ (L : Lengths) (old f sheet : List ℕ) (clock : ℤ) (new : ℕ) (work 
     vehicles_asked z =
         go (leb (length sheet) 1048576) (vehicles_in sheet) refl (sym z ∙ numbered) (vehicles_open i)
       where
-        go : (b : Bool) (o : Option (Value vehicle_sheet)) → vehicles_in sheet ≡ o
+        go : (b : Bool) (o : LogicOption (Value vehicle_sheet)) → vehicles_in sheet ≡ o
             → 0 ≡ cond b
             (formed o (λ v. cond (feed_ok f) (timed (verdict vehicle_sheet v) (ok 6 instant clock)) 5)) 3
             → vehicle_sheet_of L old f sheet clock new work
@@ -150,7 +149,7 @@ module _ (L : Lengths) (old f sheet : List ℕ) (clock : ℤ) (new : ℕ) (work 
             }
 
     -- accepted, or without room
-    pub vehicles_accepted : {l m : List ℕ} {q : Put} {r : Ending} → n ≡ 0 → new ≡ length l
+    pub vehicles_accepted : {l m : List ℕ} {q : Option ℕ} {r : Ending} → n ≡ 0 → new ≡ length l
         → ((xs : Vehicles) → zag limit ≡ clock -ℤ pos 900 → VehiclesAlone sheet xs
         → Changes l m q (after_vehicles f xs clock s))
         → r ≡ put_ending q → outcome_of m r ≡ vehicle_sheet_of L old f sheet clock new work

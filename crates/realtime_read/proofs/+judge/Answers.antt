@@ -11,92 +11,92 @@ use Rattle.realtime_read.proofs.+judge.Goals as goal
 pub loop-at-init : goal.loop-at-init
 loop-at-init t c = record { whole = refl }
 
-pub returns-in-Broken : goal.returns-in-Broken
-returns-in-Broken t c =
-    breaks c.loop-at.invariant (key_bad refl c.loop-at-test.true (key_broken _ c.loop-at.at c.in-Broken.ensures))
+pub returns-in-None : goal.returns-in-None
+returns-in-None t c =
+    breaks c.loop-at.invariant (key_bad refl c.loop-at-test.true (key_broken _ c.loop-at.at c.in-None.ensures))
 
-pub returns-in-Broken-past : goal.returns-in-Broken-past
-returns-in-Broken-past t c =
-    breaks c.loop-at.invariant (value_bad (key_here c.loop-at-test.true c.in-Read.ensures)
-    (skipped_broken c.args.s.now c.in-Read.next.at _ _ 16 c.in-Broken-past.ensures))
+pub returns-in-None-past : goal.returns-in-None-past
+returns-in-None-past t c =
+    breaks c.loop-at.invariant (value_bad (key_here c.loop-at-test.true c.in-Some.ensures)
+    (skipped_broken c.args.s.now c.in-Some.next.at _ _ 16 c.in-None-past.ensures))
 
-pub loop-at-smaller-in-Past : goal.loop-at-smaller-in-Past
-loop-at-smaller-in-Past t c =
-    less (key_here {σ = feed} {t = c.args.message} c.loop-at-test.true c.in-Read.ensures) _ _
-    (skipped_read c.args.s.now c.in-Read.next.at _ _ 16 _ c.in-Past.ensures).1
+pub loop-at-smaller-in-Some-past : goal.loop-at-smaller-in-Some-past
+loop-at-smaller-in-Some-past t c =
+    less (key_here {σ = feed} {t = c.args.message} c.loop-at-test.true c.in-Some.ensures) _ _
+    (skipped_read c.args.s.now c.in-Some.next.at _ _ 16 _ c.in-Some-past.ensures).1
 
-pub loop-at-preserved-in-Past : goal.loop-at-preserved-in-Past
-loop-at-preserved-in-Past t c =
-    passes c.loop-at.invariant (pass (key_here c.loop-at-test.true c.in-Read.ensures) _ _
-    (skipped_read c.args.s.now c.in-Read.next.at _ _ 16 _ c.in-Past.ensures).1
+pub loop-at-preserved-in-Some-past : goal.loop-at-preserved-in-Some-past
+loop-at-preserved-in-Some-past t c =
+    passes c.loop-at.invariant (pass (key_here c.loop-at-test.true c.in-Some.ensures) _ _
+    (skipped_read c.args.s.now c.in-Some.next.at _ _ 16 _ c.in-Some-past.ensures).1
     (is_unlisted _ c.in-Unlisted.ensures)).0
 
-pub returns-in-Broken-number_behind : goal.returns-in-Broken-number_behind
-returns-in-Broken-number_behind t c =
+pub returns-in-None-number_behind : goal.returns-in-None-number_behind
+returns-in-None-number_behind t c =
     breaks c.loop-at.invariant
-    (no_number (key_here c.loop-at-test.true c.in-Read.ensures) (is_number _ c.in-Number.ensures)
-    c.in-Broken-number_behind.ensures)
+    (no_number (key_here c.loop-at-test.true c.in-Some.ensures) (is_number _ c.in-Number.ensures)
+    c.in-None-number_behind.ensures)
 
-pub returns-in-Broken-text_behind : goal.returns-in-Broken-text_behind
-returns-in-Broken-text_behind t c =
+pub returns-in-None-text_behind : goal.returns-in-None-text_behind
+returns-in-None-text_behind t c =
     breaks c.loop-at.invariant
-    (no_text (key_here c.loop-at-test.true c.in-Read.ensures) (is_text _ c.in-Text.ensures)
-    c.in-Broken-text_behind.ensures)
+    (no_text (key_here c.loop-at-test.true c.in-Some.ensures) (is_text _ c.in-Text.ensures)
+    c.in-None-text_behind.ensures)
 
-pub returns-in-Broken-text_behind-2 : goal.returns-in-Broken-text_behind-2
-returns-in-Broken-text_behind-2 t c =
+pub returns-in-None-text_behind-2 : goal.returns-in-None-text_behind-2
+returns-in-None-text_behind-2 t c =
     breaks c.loop-at.invariant
-    (no_message (key_here c.loop-at-test.true c.in-Read.ensures) (is_message _ _ c.in-Message.ensures)
-    c.in-Broken-text_behind-2.ensures)
+    (no_message (key_here c.loop-at-test.true c.in-Some.ensures) (is_message _ _ c.in-Message.ensures)
+    c.in-None-text_behind-2.ensures)
 
-pub loop-at-smaller-in-Read-number_behind : goal.loop-at-smaller-in-Read-number_behind
-loop-at-smaller-in-Read-number_behind t c =
+pub loop-at-smaller-in-Some-number_behind : goal.loop-at-smaller-in-Some-number_behind
+loop-at-smaller-in-Some-number_behind t c =
     omega (
       arith,
-      (some_number (key_here {σ = feed} {t = c.args.message} c.loop-at-test.true c.in-Read.ensures)
+      (some_number (key_here {σ = feed} {t = c.args.message} c.loop-at-test.true c.in-Some.ensures)
           (is_number _ c.in-Number.ensures)
-          c.in-Read-number_behind.ensures).forward,
+          c.in-Some-number_behind.ensures).forward,
     )
 
-pub loop-at-preserved-in-Read-number_behind : goal.loop-at-preserved-in-Read-number_behind
-loop-at-preserved-in-Read-number_behind t c =
+pub loop-at-preserved-in-Some-number_behind : goal.loop-at-preserved-in-Some-number_behind
+loop-at-preserved-in-Some-number_behind t c =
     more_number c.loop-at.invariant
-    (some_number (key_here c.loop-at-test.true c.in-Read.ensures) (is_number _ c.in-Number.ensures)
-    c.in-Read-number_behind.ensures)
+    (some_number (key_here c.loop-at-test.true c.in-Some.ensures) (is_number _ c.in-Number.ensures)
+    c.in-Some-number_behind.ensures)
     c.judge_number.ensures c.worse-worst.ensures
 
 pub part-requires : goal.part-requires
 part-requires t c =
     omega (
       arith,
-      (some_text (key_here {σ = feed} {t = c.args.message} c.loop-at-test.true c.in-Read.ensures)
+      (some_text (key_here {σ = feed} {t = c.args.message} c.loop-at-test.true c.in-Some.ensures)
           (is_text _ c.in-Text.ensures)
-          c.in-Read-text_behind.ensures).forward,
+          c.in-Some-text_behind.ensures).forward,
     )
 
-pub loop-at-smaller-in-Read-text_behind : goal.loop-at-smaller-in-Read-text_behind
-loop-at-smaller-in-Read-text_behind t c =
+pub loop-at-smaller-in-Some-text_behind : goal.loop-at-smaller-in-Some-text_behind
+loop-at-smaller-in-Some-text_behind t c =
     omega (
       arith,
-      (some_text (key_here {σ = feed} {t = c.args.message} c.loop-at-test.true c.in-Read.ensures)
+      (some_text (key_here {σ = feed} {t = c.args.message} c.loop-at-test.true c.in-Some.ensures)
           (is_text _ c.in-Text.ensures)
-          c.in-Read-text_behind.ensures).forward,
+          c.in-Some-text_behind.ensures).forward,
     )
 
-pub loop-at-preserved-in-Read-text_behind : goal.loop-at-preserved-in-Read-text_behind
-loop-at-preserved-in-Read-text_behind t c =
+pub loop-at-preserved-in-Some-text_behind : goal.loop-at-preserved-in-Some-text_behind
+loop-at-preserved-in-Some-text_behind t c =
     more_text c.loop-at.invariant
-    (some_text (key_here c.loop-at-test.true c.in-Read.ensures) (is_text _ c.in-Text.ensures)
-    c.in-Read-text_behind.ensures)
-    c.part.ensures c.judge_text.ensures c.worse-worst-in-Read-text_behind.ensures
+    (some_text (key_here c.loop-at-test.true c.in-Some.ensures) (is_text _ c.in-Text.ensures)
+    c.in-Some-text_behind.ensures)
+    c.part.ensures c.judge_text.ensures c.worse-worst-in-Some-text_behind.ensures
 
-pub part-requires-in-Read-text_behind-2 : goal.part-requires-in-Read-text_behind-2
-part-requires-in-Read-text_behind-2 t c =
+pub part-requires-in-Some-text_behind-2 : goal.part-requires-in-Some-text_behind-2
+part-requires-in-Some-text_behind-2 t c =
     omega (
       arith,
-      (some_message (key_here {σ = feed} {t = c.args.message} c.loop-at-test.true c.in-Read.ensures)
+      (some_message (key_here {σ = feed} {t = c.args.message} c.loop-at-test.true c.in-Some.ensures)
           (is_message _ _ c.in-Message.ensures)
-          c.in-Read-text_behind-2.ensures).forward,
+          c.in-Some-text_behind-2.ensures).forward,
     )
 
 pub judge-requires : goal.judge-requires
@@ -104,10 +104,10 @@ judge-requires t c = (
   omega (
     arith,
     c.decreases,
-    part_less _ c.part-in-Read-text_behind-2.ensures
-        (some_message (key_here {σ = feed} {t = c.args.message} c.loop-at-test.true c.in-Read.ensures)
+    part_less _ c.part-in-Some-text_behind-2.ensures
+        (some_message (key_here {σ = feed} {t = c.args.message} c.loop-at-test.true c.in-Some.ensures)
         (is_message _ _ c.in-Message.ensures)
-        c.in-Read-text_behind-2.ensures).forward,
+        c.in-Some-text_behind-2.ensures).forward,
   ),
   tt,
 )
@@ -116,17 +116,17 @@ pub loop-at-smaller : goal.loop-at-smaller
 loop-at-smaller t c =
     omega (
       arith,
-      (some_message (key_here {σ = feed} {t = c.args.message} c.loop-at-test.true c.in-Read.ensures)
+      (some_message (key_here {σ = feed} {t = c.args.message} c.loop-at-test.true c.in-Some.ensures)
           (is_message _ _ c.in-Message.ensures)
-          c.in-Read-text_behind-2.ensures).forward,
+          c.in-Some-text_behind-2.ensures).forward,
     )
 
 pub loop-at-preserved : goal.loop-at-preserved
 loop-at-preserved t c =
     more_message c.loop-at.invariant
-    (some_message (key_here c.loop-at-test.true c.in-Read.ensures) (is_message _ _ c.in-Message.ensures)
-    c.in-Read-text_behind-2.ensures)
-    c.part-in-Read-text_behind-2.ensures c.judge.ensures c.worse-worst-in-Read-text_behind-2.ensures
+    (some_message (key_here c.loop-at-test.true c.in-Some.ensures) (is_message _ _ c.in-Message.ensures)
+    c.in-Some-text_behind-2.ensures)
+    c.part-in-Some-text_behind-2.ensures c.judge.ensures c.worse-worst-in-Some-text_behind-2.ensures
 
 pub returns : goal.returns
 returns t c = ends c.loop-at.invariant (at_end refl c.loop-at-test.false)

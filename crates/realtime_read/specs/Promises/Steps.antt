@@ -1,22 +1,21 @@
 -- Promise. What a step over a message says of its tree.
-use Rattle.std.specs.Prelude.{cond, ℕ, ◌+◌, ◌≤◌, ◌<◌, ◌≡◌, List, eqb, length, take, drop}
-use Rattle.std.proofs.Math.Option.{Option, none, some, map}
+use Rattle.std.specs.Prelude.{cond, ℕ, ◌+◌, ◌≤◌, ◌<◌, ◌≡◌, List, eqb, length, take, drop, Option, None}
+use Rattle.std.proofs.Math.Option.{Option as LogicOption, none, some, map}
 use Rattle.wire.specs.Promises.Places.{number_at, text_at}
-use Rattle.wire.specs.declared.GotNumber.{GotNumber}
-use Rattle.wire.specs.declared.GotText.{GotText}
 use Rattle.realtime.specs.Tree.{a_number, a_text, a_message, Schema, Tree, end, num, txt, msg, tree}
 use Rattle.basics.specs.Options.{bind_o}
 use Rattle.realtime_read.specs.declared.Step.{Step}
+use Rattle.wire.specs.declared.Cursor.{Cursor}
 
 -- what stands behind a key, where its wire type w is a number's, and where it is a text's
-abbrev pub number_behind : List ℕ → ℕ → ℕ → GotNumber
-number_behind s at w = cond (eqb w 0) (number_at s at) GotNumber.Broken
+abbrev pub number_behind : List ℕ → ℕ → ℕ → Option (ℕ × Cursor)
+number_behind s at w = cond (eqb w 0) (number_at s at) None
 
-abbrev pub text_behind : List ℕ → ℕ → ℕ → GotText
-text_behind s at w = cond (eqb w 2) (text_at s at) GotText.Broken
+abbrev pub text_behind : List ℕ → ℕ → ℕ → Option (ℕ × ℕ × Cursor)
+text_behind s at w = cond (eqb w 2) (text_at s at) None
 
 -- the tree that a step and what stands behind it make
-abbrev pub seen : Schema → ℕ → List ℕ → Step → Option Tree
+abbrev pub seen : Schema → ℕ → List ℕ → Step → LogicOption Tree
 seen σ t s (Step.Number f v n) = map (num f v) (tree σ t (drop n s))
 seen σ t s (Step.Text f i l n) = map (txt f (take l (drop i s))) (tree σ t (drop n s))
 seen σ t s (Step.Message f u i l n) =

@@ -11,25 +11,25 @@ loop-start-init c = leads c.args.walk c.requires
 pub part-requires : goal.part-requires
 part-requires c = omega (arith, c.loop-start.invariant.sound)
 
-pub returns-in-Sought : goal.returns-in-Sought
-returns-in-Sought c =
+pub returns-in-Some : goal.returns-in-Some
+returns-in-Some c =
     yields c.loop-start.invariant c.part.ensures
-    (seek_is c.seek.ensures c.in-Sought.is)
+    (seek_is c.seek.ensures c.in-Some.is)
 
 pub returns-in_default : goal.returns-in_default
 returns-in_default c =
     all_done c.loop-start.invariant c.part.ensures
-    (seek_is c.seek.ensures c.in-End.is)
-    (seek_is c.seek-in-End.ensures c.in_default.is)
+    (seek_is c.seek.ensures c.in-None.is)
+    (seek_is c.seek-in-None.ensures c.in_default.is)
 
 pub loop-start-smaller : goal.loop-start-smaller
 loop-start-smaller c =
     opens_less c.loop-start.invariant c.part.ensures
-    (seek_is c.seek.ensures c.in-End.is)
-    (seek_is c.seek-in-End.ensures c.in-Sought-seek.is)
+    (seek_is c.seek.ensures c.in-None.is)
+    (seek_is c.seek-in-None.ensures c.in-Some-seek.is)
 
 pub loop-start-preserved : goal.loop-start-preserved
 loop-start-preserved c =
     opens c.loop-start.invariant c.part.ensures
-    (seek_is c.seek.ensures c.in-End.is)
-    (seek_is c.seek-in-End.ensures c.in-Sought-seek.is)
+    (seek_is c.seek.ensures c.in-None.is)
+    (seek_is c.seek-in-None.ensures c.in-Some-seek.is)

@@ -20,19 +20,19 @@ returns-in_default c =
 
 pub part-requires : goal.part-requires
 part-requires c =
-    let S = seek_is c.seek.ensures c.in-Sought.is in
+    let S = seek_is c.seek.ensures c.in-Some.is in
     omega (arith, S.lying)
 
 pub over_scalar-d-requires : goal.over_scalar-d-requires
 over_scalar-d-requires c =
-    sought_ready scalar c.part.result.now (seek_is c.seek.ensures c.in-Sought.is)
+    sought_ready scalar c.part.result.now (seek_is c.seek.ensures c.in-Some.is)
     c.part.ensures c.loop-start.invariant.within
 
 pub loop-start-smaller : goal.loop-start-smaller
-loop-start-smaller c = found_less (seek_is c.seek.ensures c.in-Sought.is)
+loop-start-smaller c = found_less (seek_is c.seek.ensures c.in-Some.is)
 
 pub loop-start-preserved : goal.loop-start-preserved
 loop-start-preserved c =
     let O = c.over_scalar-d.ensures in
     found_next c.loop-start.invariant c.part.result.now
-    (seek_is c.seek.ensures c.in-Sought.is) c.part.ensures O.of O.within
+    (seek_is c.seek.ensures c.in-Some.is) c.part.ensures O.of O.within

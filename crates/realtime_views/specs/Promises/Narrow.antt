@@ -1,11 +1,8 @@
 -- Promise. The code's typed answers of a scalar, by its constructors.
-use Rattle.std.specs.Prelude.{ℕ, Bool, false, eqb}
+use Rattle.std.specs.Prelude.{ℕ, Bool, false, eqb, Option, Some, None, ℤ}
 use Rattle.realtime.specs.Typed.{uint32, int32, enum}
 use Rattle.realtime_views.specs.declared.Scalar.{Scalar}
 use Rattle.realtime_views.specs.declared.TextPart.{TextPart}
-use Rattle.realtime_views.specs.declared.Timestamp.{Timestamp}
-use Rattle.realtime_views.specs.declared.Direction.{Direction}
-use Rattle.realtime_views.specs.declared.Delay.{Delay}
 use Rattle.realtime_views.specs.declared.Scalars.{Scalars}
 use Rattle.realtime_views.specs.declared.Header.{Header}
 use Rattle.realtime_views.specs.declared.Trip.{Trip}
@@ -15,20 +12,20 @@ to_span (Scalar.Number n) = record { start = 0; len = 0 }
 to_span (Scalar.Text i l) = record { start = i; len = l }
 to_span Scalar.Nothing = record { start = 0; len = 0 }
 
-abbrev pub to_timestamp : Scalar → Timestamp
-to_timestamp (Scalar.Number n) = Timestamp.Given n
-to_timestamp (Scalar.Text i l) = Timestamp.Absent
-to_timestamp Scalar.Nothing = Timestamp.Absent
+abbrev pub to_timestamp : Scalar → Option ℕ
+to_timestamp (Scalar.Number n) = Some n
+to_timestamp (Scalar.Text i l) = None
+to_timestamp Scalar.Nothing = None
 
-abbrev pub to_direction : Scalar → Direction
-to_direction (Scalar.Number n) = Direction.Given (uint32 n)
-to_direction (Scalar.Text i l) = Direction.Absent
-to_direction Scalar.Nothing = Direction.Absent
+abbrev pub to_direction : Scalar → Option ℕ
+to_direction (Scalar.Number n) = Some (uint32 n)
+to_direction (Scalar.Text i l) = None
+to_direction Scalar.Nothing = None
 
-abbrev pub to_delay : Scalar → Delay
-to_delay (Scalar.Number n) = Delay.Given (int32 n)
-to_delay (Scalar.Text i l) = Delay.Absent
-to_delay Scalar.Nothing = Delay.Absent
+abbrev pub to_delay : Scalar → Option ℤ
+to_delay (Scalar.Number n) = Some (int32 n)
+to_delay (Scalar.Text i l) = None
+to_delay Scalar.Nothing = None
 
 -- the enum's value is v
 abbrev pub is_value : ℕ → Scalar → Bool

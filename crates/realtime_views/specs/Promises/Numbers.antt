@@ -1,6 +1,6 @@
 -- Promise. What is last in a stop_time_update, field by field, as the code keeps it: in plain words.
-use Rattle.std.specs.Prelude.{ℕ, ◌+◌, ◌≤◌, ◌≡◌, refl, List, [], Bool, cond, ◌||◌, eqb, take, drop}
-use Rattle.std.proofs.Math.Option.{Option, none, some}
+use Rattle.std.specs.Prelude.{ℕ, ◌+◌, ◌≤◌, ◌≡◌, refl, List, [], Bool, cond, ◌||◌, eqb, take, drop, Option, Some, None, ℤ}
+use Rattle.std.proofs.Math.Option.{Option as LogicOption, none, some}
 use Rattle.std.proofs.Common.{arith}
 use Rattle.realtime.specs.Tree.{a_number}
 use Rattle.realtime.specs.Schema.{feed, stop_time_update, stop_time_event}
@@ -10,8 +10,6 @@ use Rattle.realtime_views.specs.Laws.Reading.{front_part}
 use Rattle.realtime_views.specs.Promises.Reading.{Lens, Reads}
 use Rattle.realtime.specs.Typed.{uint32, int32, int64, enum}
 use Rattle.realtime_views.specs.declared.TextPart.{TextPart}
-use Rattle.realtime_views.specs.declared.Delay.{Delay}
-use Rattle.realtime_views.specs.declared.Time.{Time}
 use Rattle.realtime_views.specs.declared.Event.{Event}
 use Rattle.realtime_views.specs.declared.StopUpdate.{StopUpdate}
 use Rattle.realtime_views.specs.declared.Number.{Number}
@@ -39,7 +37,7 @@ or_zero_at k = record { field = k; number = λ n. n; text = λ x. 0 }
 abbrev pub single_text : ℕ → Single (List ℕ)
 single_text k = record { field = k; number = λ n. []; text = λ x. x }
 
-abbrev pub single_number : ℕ → Single (Option ℕ)
+abbrev pub single_number : ℕ → Single (LogicOption ℕ)
 single_number k = record { field = k; number = some; text = λ x. none }
 
 -- stop_sequence 1, stop_id 4, schedule_relationship 5; of an event: delay 1, time 2
@@ -52,14 +50,14 @@ stop = single_text 4
 abbrev pub relationship : Single ℕ
 relationship = or_zero_at 5
 
-abbrev pub delay : Single (Option ℕ)
+abbrev pub delay : Single (LogicOption ℕ)
 delay = single_number 1
 
-abbrev pub time : Single (Option ℕ)
+abbrev pub time : Single (LogicOption ℕ)
 time = single_number 2
 
 -- a number that may be absent
-abbrev pub value_of : Number → Option ℕ
+abbrev pub value_of : Number → LogicOption ℕ
 value_of n = cond (eqb n.given 1) (some n.value) none
 
 abbrev pub no_number : Number
@@ -72,11 +70,11 @@ abbrev pub no_span : TextPart
 no_span = record { start = 0; len = 0 }
 
 -- the typed answers
-abbrev pub from_delay : Number → Delay
-from_delay n = cond (eqb n.given 1) (Delay.Given (int32 n.value)) Delay.Absent
+abbrev pub from_delay : Number → Option ℤ
+from_delay n = cond (eqb n.given 1) (Some (int32 n.value)) None
 
-abbrev pub from_time : Number → Time
-from_time n = cond (eqb n.given 1) (Time.Given (int64 n.value)) Time.Absent
+abbrev pub from_time : Number → Option ℤ
+from_time n = cond (eqb n.given 1) (Some (int64 n.value)) None
 
 abbrev pub from_event : EventNumbers → Event
 from_event e = record { delay = from_delay e.delay; time = from_time e.time }

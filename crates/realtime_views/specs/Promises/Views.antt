@@ -1,13 +1,9 @@
 -- Promise. What the code's answers on a header, a trip and a stop time update say of the bytes.
-use Rattle.std.specs.Prelude.{ℕ, ◌+◌, ◌≤◌, ◌≡◌, List, Bool, ℤ, length, take, drop}
-use Rattle.std.proofs.Math.Option.{Option, none, some}
+use Rattle.std.specs.Prelude.{ℕ, ◌+◌, ◌≤◌, ◌≡◌, List, Bool, ℤ, length, take, drop, Option, Some, None}
+use Rattle.std.proofs.Math.Option.{Option as LogicOption, none, some}
 use Rattle.realtime.specs.Tree.{Schema, Tree, tree}
 use Rattle.realtime.specs.Schema.{feed_message, feed_entity, stop_time_update}
 use Rattle.realtime_views.specs.declared.TextPart.{TextPart}
-use Rattle.realtime_views.specs.declared.Timestamp.{Timestamp}
-use Rattle.realtime_views.specs.declared.Direction.{Direction}
-use Rattle.realtime_views.specs.declared.Delay.{Delay}
-use Rattle.realtime_views.specs.declared.Time.{Time}
 use Rattle.realtime_views.specs.declared.Header.{Header}
 use Rattle.realtime_views.specs.declared.Trip.{Trip}
 use Rattle.realtime_views.specs.declared.Event.{Event}
@@ -19,21 +15,21 @@ use Rattle.realtime.specs.Views.{stop_update}
 abbrev pub part_in : List ℕ → TextPart → List ℕ
 part_in s p = take p.len (drop p.start s)
 
-abbrev pub view_timestamp : Timestamp → Option ℕ
-view_timestamp (Timestamp.Given n) = some n
-view_timestamp Timestamp.Absent = none
+abbrev pub view_timestamp : Option ℕ → LogicOption ℕ
+view_timestamp (Some n) = some n
+view_timestamp None = none
 
-abbrev pub view_direction : Direction → Option ℕ
-view_direction (Direction.Given n) = some n
-view_direction Direction.Absent = none
+abbrev pub view_direction : Option ℕ → LogicOption ℕ
+view_direction (Some n) = some n
+view_direction None = none
 
-abbrev pub view_delay : Delay → Option ℤ
-view_delay (Delay.Given z) = some z
-view_delay Delay.Absent = none
+abbrev pub view_delay : Option ℤ → LogicOption ℤ
+view_delay (Some z) = some z
+view_delay None = none
 
-abbrev pub view_time : Time → Option ℤ
-view_time (Time.Given z) = some z
-view_time Time.Absent = none
+abbrev pub view_time : Option ℤ → LogicOption ℤ
+view_time (Some z) = some z
+view_time None = none
 
 abbrev pub view_header : Header → HeaderView
 view_header h = record { differential = h.differential; timestamp = view_timestamp h.timestamp }

@@ -24,5 +24,5 @@ take_turns-w-requires-clause-a_value c = c.begin.ensures
 
 pub returns : goal.returns
 returns c =
-    turns_taken c.calls.ensures c.in-Many.is
+    turns_taken c.calls.ensures c.in-Some.is
     c.take_turns-w.ensures c.ended.ensures

@@ -31,7 +31,7 @@ pub loop-left-preserved : goal.loop-left-preserved
 loop-left-preserved c =
     let inv = c.loop-left.invariant in (
       one_turn inv.0 c.loop-left-test.true (lent_as inv.3 inv.4 inv.5 inv.6)
-          c.take_turn-r.ensures c.in-At.is,
+          c.take_turn-r.ensures c.in-Some.is,
       search rules,
       search rules,
       search rules,

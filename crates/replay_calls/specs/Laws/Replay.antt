@@ -1,8 +1,6 @@
 -- Law. The turns of a script by code: how they end, and what a replay then promises.
-use Rattle.std.specs.Prelude.{◌≡◌, refl, List, [], ◌++◌, ℕ, ◌-◌, ◌≤◌, ◌<◌, length, take, drop}
+use Rattle.std.specs.Prelude.{◌≡◌, refl, List, [], ◌++◌, ℕ, ◌-◌, ◌≤◌, ◌<◌, length, take, drop, Option, Some, None}
 use Rattle.std.proofs.Common.{ap, subst, ◌∙◌, take_at, length-take-le}
-use Rattle.formats_write.specs.declared.Put.{Put}
-use Rattle.formats_write.specs.declared.Put.TheVariants.{At, Full}
 use Rattle.formats_read.specs.Laws.Walk as walk
 use Rattle.panel.specs.Questions.{Lengths}
 use Rattle.panel.specs.Calls.{fresh, Gave, fresh_overlay}
@@ -15,8 +13,6 @@ use Rattle.replay_script.specs.Script.{call_form, Lent}
 use Rattle.replay_script.specs.Tells.{Replays}
 use Rattle.replay_script.proofs.Laws.Told.{replay_told, replay_gained}
 use Rattle.replay_script.specs.Promises.Asked.{Counted}
-use Rattle.replay_script.specs.declared.Standing.{Standing}
-use Rattle.replay_script.specs.declared.Standing.TheVariants as standing
 use Rattle.replay_turn.specs.Lent.{lent_to}
 use Rattle.replay_turn.specs.Promises.Turns.{Turned}
 use Rattle.replay_calls.specs.Replay.{ReplayHolds}
@@ -50,24 +46,24 @@ pub lent_as : {lent o k m j o' k' m' j' : ℕ} → o ≡ o' → k ≡ k' → m �
     → lent_to lent o k m j ≡ lent_to lent o' k' m' j'
 lent_as a b c d = rw (a, b, c, d) refl
 
-module _ {L : Lengths} {R Q : Lent} {s out next left next' left' : List ℕ} {a n at rest p e : ℕ} {place : Put}
+module _ {L : Lengths} {R Q : Lent} {s out next left next' left' : List ℕ} {a n at rest p e : ℕ} {place : Option ℕ}
     (W : Taken L R s a n at rest out next p left) (z : 0 < rest) (same : Q ≡ R)
     (T : Turned L Q s at left next p left' next' place e) where
-  turned : {w : Put} → place ≡ w → Turned L R s at left next p left' next' w e
+  turned : {w : Option ℕ} → place ≡ w → Turned L R s at left next p left' next' w e
   turned {w} d =
       subst (λ w. Turned L R s at left next p left' next' w e) d
       (subst (λ R. Turned L R s at left next p left' next' place e) same T)
 
-  pub one_turn : {p' : ℕ} → place ≡ At p' → Taken L R s a n e (rest - 1) out next' p' left'
+  pub one_turn : {p' : ℕ} → place ≡ Some p' → Taken L R s a n e (rest - 1) out next' p' left'
   one_turn d = turn_more W z (turned d)
 
-  pub turns_full : L.overlay ≤ R.overlay → R.output ≡ length out → length next' ≡ R.output → place ≡ Full
-      → TurnsEnd L R s n a next' Full
+  pub turns_full : L.overlay ≤ R.overlay → R.output ≡ length out → length next' ≡ R.output → place ≡ None
+      → TurnsEnd L R s n a next' None
   turns_full room o l d = record { of = λ st F. none_told (turn_full room o st W z (turned d)) l F }
 
 pub turns_done : {L : Lengths} {R : Lent} {s out next left : List ℕ} {a n at rest p : ℕ}
     → Taken L R s a n at rest out next p left → rest ≤ 0 → L.overlay ≤ R.overlay → R.output ≡ length out
-    → TurnsEnd L R s n a next (At p)
+    → TurnsEnd L R s n a next (Some p)
 turns_done {s = s} W z room o = record {
   of = λ st F. all_told room o st (walk.ended W z st.value (length s) st.count st.many) F;
 }
@@ -78,12 +74,12 @@ pub short_overlay : {L : Lengths} {R : Lent} {s l : List ℕ} → R.overlay < L.
     → ScriptEnds L R s l (Refused 1)
 short_overlay h z = record { of = λ F. none_told (no_overlay h) z F }
 
-pub broken_script : {L : Lengths} {R : Lent} {s l : List ℕ} {r : Standing} → Counted s r → r ≡ standing.Broken
+pub broken_script : {L : Lengths} {R : Lent} {s l : List ℕ} {r : Option (ℕ × ℕ)} → Counted s r → r ≡ None
     → length l ≡ R.output → ScriptEnds L R s l (Refused 1)
 broken_script {s = s} C e z = record { of = λ F. none_told (no_form (subst (Counted s) e C)) z F }
 
-pub turns_taken : {L : Lengths} {R : Lent} {s l : List ℕ} {n p : ℕ} {r : Standing} {place : Put} {e : Ending}
-    → Counted s r → r ≡ standing.Many n p → TurnsEnd L R s n p l place → e ≡ ending_of 1 place → ScriptEnds L R s l e
+pub turns_taken : {L : Lengths} {R : Lent} {s l : List ℕ} {n p : ℕ} {r : Option (ℕ × ℕ)} {place : Option ℕ} {e : Ending}
+    → Counted s r → r ≡ Some (n, p) → TurnsEnd L R s n p l place → e ≡ ending_of 1 place → ScriptEnds L R s l e
 turns_taken {L} {R} {s} {l} C d T f = record {
   of = λ {m} {r} F. T.of (subst (Counted s) d C).so (subst (λ e. Finished l e m r) f F);
 }

@@ -1,5 +1,5 @@
 -- Law. A script's calls, run one after the other, tell what a replay tells; or the script is none for what is lent.
-use Rattle.std.specs.Prelude.{◌≡◌, refl, Bool, true, false, ◌&&◌, List, [], ◌∷◌, ◌++◌, ℕ, suc, ◌+◌, ◌-◌, ◌≤◌, ◌<◌, leb, length, take}
+use Rattle.std.specs.Prelude.{◌≡◌, refl, Bool, true, false, ◌&&◌, List, [], ◌∷◌, ◌++◌, ℕ, suc, ◌+◌, ◌-◌, ◌≤◌, ◌<◌, leb, length, take, Some, None}
 use Rattle.std.proofs.Common.{sym, ap₂, ◌∙◌, append_assoc, append-nil, take_at, le-leb, leb-true, leb-false}
 use Rattle.std.proofs.Math.Path.{ap}
 use Rattle.std.proofs.Math.Bool.{cond}
@@ -9,7 +9,6 @@ use Rattle.std.proofs.lemmas.Bool.{lt-leb}
 use Rattle.basics.specs.Lists.{all}
 use Rattle.basics.specs.Options.{bind_o}
 use Rattle.formats.specs.Format.{Value}
-use Rattle.formats_write.specs.declared.Put.TheVariants.{At, Full}
 use Rattle.formats_write.specs.Promises.Adds.{Adds}
 use Rattle.formats_write.specs.Laws.Adds as adds
 use Rattle.formats_read.specs.Promises.Lists.{Many}
@@ -25,7 +24,6 @@ use Rattle.replay_script.specs.Script.{calls_in}
 use Rattle.replay_script.specs.Tells.{telling, tell_all, tells, replay_of, Replays}
 use Rattle.replay_script.proofs.Laws.Told.{stands_long, tells_long}
 use Rattle.replay_script.specs.Promises.Asked.{Stand, Counted}
-use Rattle.replay_script.specs.declared.Standing.TheVariants as standing
 use Rattle.replay_turn.specs.Promises.Turns.{Stepped, Turned}
 use Rattle.replay_calls.specs.Promises.Turns.{Done, NoScript}
 
@@ -69,16 +67,16 @@ pub nothing_yet : {L : Lengths} {R : Lent} {out left : List ℕ} → left ≡ fr
 unfolding calls_of tells tell_all run overlay_left
 nothing_yet e = record { lent = refl; told = adds.none; after = e }
 
-at_full : {C : Type 0} {p : ℕ} → At p ≡ Full → C
+at_full : {C : Type 0} {p : ℕ} → Some p ≡ None → C
 at_full e = absurd (let z : ◌≡◌ {A = ℕ} 0 1 = cc in omega arith)
 
-is_lent : (b : Bool) {p : ℕ} → (b ≡ false → At p ≡ Full) → b ≡ true
+is_lent : (b : Bool) {p : ℕ} → (b ≡ false → Some p ≡ None) → b ≡ true
 is_lent true f = refl
 is_lent false f = at_full (f refl)
 
 module _ {L : Lengths} {R : Lent} {out next left : List ℕ} {p : ℕ} (us : Value script) (v : Value call_form)
     (D : Done L R us out next p left) {next' left' : List ℕ} {p' : ℕ}
-    (S : Stepped L R (call_of L v) left next p left' next' (At p')) where
+    (S : Stepped L R (call_of L v) left next p left' next' (Some p')) where
   abbrev cs : List Call
   cs = calls_of L us
 
@@ -108,7 +106,7 @@ module _ {L : Lengths} {R : Lent} {out next left : List ℕ} {p : ℕ} (us : Val
 -- a turn of the loop
 pub turn_more : {L : Lengths} {R : Lent} {s out next left next' left' : List ℕ} {a n at rest p p' e : ℕ}
     → walk.Walk call_form s a n at rest (λ us. Done L R us out next p left) → 0 < rest
-    → Turned L R s at left next p left' next' (At p') e
+    → Turned L R s at left next p left' next' (Some p') e
     → walk.Walk call_form s a n e (rest - 1) (λ us. Done L R us out next' p' left')
 turn_more {e = e} W z T = walk.onward W e z T.ends (λ us v D h. one_more us v D (T.stepped v e h))
 
@@ -189,7 +187,7 @@ none_told {L} {R} {s} d z F =
     record { says = F.number ∙ ap number_of (sym e); writes = F.bytes ∙ ap₂ bytes_of z (sym e) }
 
 -- which it is not: it has no form,
-pub no_form : {L : Lengths} {R : Lent} {s : List ℕ} → Counted s standing.Broken → NoScript L R s
+pub no_form : {L : Lengths} {R : Lent} {s : List ℕ} → Counted s None → NoScript L R s
 unfolding calls_in
 no_form {L} {R} e = record {
   is = ap (λ o. bind_o o (λ v. cond (leb L.overlay R.overlay) (lent_all R (calls_of L v)) none)) e.so;
@@ -210,7 +208,7 @@ module _ (s : List ℕ) {L : Lengths} {R : Lent} {out next left next' left' : Li
     (room : L.overlay ≤ R.overlay) (o : R.output ≡ length out) (vs us ws : Value script)
     (v : Value call_form) (is : whole script s ≡ some vs)
     (j : us ++ (v ∷ ws) ≡ vs) (D : Done L R us out next p left)
-    (S : Stepped L R (call_of L v) left next p left' next' Full) where
+    (S : Stepped L R (call_of L v) left next p left' next' None) where
   abbrev call : Call
   call = call_of L v
 
@@ -224,7 +222,7 @@ module _ (s : List ℕ) {L : Lengths} {R : Lent} {out next left next' left' : Li
       (ap (all (lends R)) apart ∙ all_more (lends R) (calls_of L us) (call ∷ calls_of L ws)
       ∙ ap₂ (λ a b. a && (b && all (lends R) (calls_of L ws))) D.lent e)
 
-  no_room : Adds next (At p) next' Full (telling call (gives L left call)) → length next < p + suc (standing call)
+  no_room : Adds next (Some p) next' None (telling call (gives L left call)) → length next < p + suc (standing call)
   no_room a = go (leb (p + length x) (length next)) refl
     where
       x : List ℕ
@@ -258,7 +256,7 @@ module _ (s : List ℕ) {L : Lengths} {R : Lent} {out next left next' left' : Li
 pub turn_full : {L : Lengths} {R : Lent} {s out next left next' left' : List ℕ} {a n at rest p e : ℕ}
     → L.overlay ≤ R.overlay → R.output ≡ length out → (st : Stand s n a)
     → walk.Walk call_form s a n at rest (λ us. Done L R us out next p left) → 0 < rest
-    → Turned L R s at left next p left' next' Full e → NoScript L R s
+    → Turned L R s at left next p left' next' None e → NoScript L R s
 turn_full {L} {R} {s} {out} {next} {left} {next'} {left'} {at = at} {rest = rest} {p = p} {e = e} room o st W z T =
     let A = W.at st.value (length s) st.count st.many in
     record { is = go A.behind A.ahead A.joined A.count A.stand A.so }

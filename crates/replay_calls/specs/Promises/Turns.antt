@@ -1,10 +1,8 @@
 -- Promise. A script's calls, run one after the other: what the turns so far have done, and how they end.
-use Rattle.std.specs.Prelude.{◌≡◌, true, List, ℕ, ◌≤◌, length}
+use Rattle.std.specs.Prelude.{◌≡◌, true, List, ℕ, ◌≤◌, length, Option, Some}
 use Rattle.std.proofs.Math.Option.{none}
 use Rattle.basics.specs.Lists.{all}
 use Rattle.formats.specs.Format.{Value}
-use Rattle.formats_write.specs.declared.Put.{Put}
-use Rattle.formats_write.specs.declared.Put.TheVariants.{At}
 use Rattle.formats_write.specs.Promises.Adds.{Adds}
 use Rattle.decode.specs.Sizes.{most_old}
 use Rattle.panel.specs.Questions.{Lengths}
@@ -19,7 +17,7 @@ use Rattle.replay_script.specs.Promises.Asked.{Stand}
 -- the calls us were run from a fresh overlay on, into the output `out`, of which `next` came
 pub record Done (L : Lengths) (R : Lent) (us : Value script) (out next : List ℕ) (p : ℕ) (left : List ℕ) : Type 0 where
   pub lent : all (lends R) (calls_of L us) ≡ true
-  pub told : Adds out (At 0) next (At p) (tells L (fresh_overlay L) (calls_of L us))
+  pub told : Adds out (Some 0) next (Some p) (tells L (fresh_overlay L) (calls_of L us))
   pub after : left ≡ overlay_left L (fresh_overlay L) (calls_of L us)
 
 -- s is no script for what is lent
@@ -34,7 +32,7 @@ pub record Overlays (n lent : ℕ) (a b : List ℕ) : Type 0 where
   pub most : n ≤ most_old
 
 -- the turns of n calls, of which the first stands at p, with l in the output then
-pub record TurnsEnd (L : Lengths) (R : Lent) (s : List ℕ) (n p : ℕ) (l : List ℕ) (place : Put) : Type 0 where
+pub record TurnsEnd (L : Lengths) (R : Lent) (s : List ℕ) (n p : ℕ) (l : List ℕ) (place : Option ℕ) : Type 0 where
   pub of : Stand s n p → {m : List ℕ} {r : ℕ} → Finished l (ending_of 1 place) m r → Replays L R s r m
 
 -- a script's run, with l in the output then

@@ -1,11 +1,9 @@
 -- Law. A card of a script: the lengths that it asks for, and what it told.
-use Rattle.std.specs.Prelude.{◌≡◌, refl, Bool, true, false, ◌&&◌, List, [], ◌∷◌, ◌++◌, ℕ, suc, ◌+◌, ◌-◌, ◌≤◌, ◌<◌, leb, length, take, drop, set}
+use Rattle.std.specs.Prelude.{◌≡◌, refl, Bool, true, false, ◌&&◌, List, [], ◌∷◌, ◌++◌, ℕ, suc, ◌+◌, ◌-◌, ◌≤◌, ◌<◌, leb, length, take, drop, set, Option, Some, None}
 use Rattle.std.proofs.Common.{sym, ap, subst, ◌∙◌, length-take-le, leb-true}
 use Rattle.std.proofs.lemmas.Bool.{false≢true}
 use Rattle.std.proofs.Math.Seq.{slice}
 use Rattle.basics.specs.Laws.Booleans.{both_true}
-use Rattle.formats_write.specs.declared.Put.{Put}
-use Rattle.formats_write.specs.declared.Put.TheVariants.{At, Full}
 use Rattle.formats_write.specs.Laws.Slices.{slice_is}
 use Rattle.panel.specs.Questions.{Lengths}
 use Rattle.panel.specs.Calls.{Call, card}
@@ -76,7 +74,7 @@ abbrev asked : List ℕ → Asked → List ℕ → Call
 asked s q work = card (slice q.input.from q.input.to s) q.out work
 
 module _ {L : Lengths} {s : List ℕ} {q : Asked} {work old out : List ℕ} {p : ℕ} where
-  pub no_card : length out < p + suc q.out → ToldCardOf L s q work old out p out Full
+  pub no_card : length out < p + suc q.out → ToldCardOf L s q work old out p out None
   no_card h = record { told = no_call L old (asked s q work) refl refl out p h }
 
   pub card_told : Spans s q → (h : p < length out) (room : q.out ≤ length out - (p + 1)) {k o : ℕ} {x : List ℕ}
@@ -84,7 +82,7 @@ module _ {L : Lengths} {s : List ℕ} {q : Asked} {work old out : List ℕ} {p :
       (length (take (p + 1 + q.out - (p + 1)) (drop (p + 1) out))) work) k x
       → (k < 256 → o ≡ k)
       → ToldCardOf L s q work old out p
-      (set (take (p + 1) out ++ (x ++ drop (p + 1 + q.out - (p + 1)) (drop (p + 1) out))) p o) (At (p + 1 + q.out))
+      (set (take (p + 1) out ++ (x ++ drop (p + 1 + q.out - (p + 1)) (drop (p + 1) out))) p o) (Some (p + 1 + q.out))
   card_told S h room {k} {o} {x} g b =
       let G : Answers L old (asked s q work) k x =
       rw (
@@ -94,7 +92,7 @@ module _ {L : Lengths} {s : List ℕ} {q : Asked} {work old out : List ℕ} {p :
       record { told = call_told L old (asked s q work) refl refl out p h room G b }
 
 -- over what is lent, or not
-module _ {L : Lengths} {s : List ℕ} {q : Asked} {w : CardWork} {old out next : List ℕ} {p : ℕ} {place : Put}
+module _ {L : Lengths} {s : List ℕ} {q : Asked} {w : CardWork} {old out next : List ℕ} {p : ℕ} {place : Option ℕ}
     (W : ReadsCardWork s q.work w) where
   pub lent_card : within (lengths_of w) card_work ≡ true → ToldCardOf L s q (lengths_of w) old out p next place
       → ToldCard L s q old out p next place
@@ -103,7 +101,7 @@ module _ {L : Lengths} {s : List ℕ} {q : Asked} {w : CardWork} {old out next :
     of = λ h d. subst (λ l. ToldCardOf L s q l old out p next place) (W.of h) T;
   }
 
-  pub unlent_card : within (lengths_of w) card_work ≡ false → place ≡ Full → ToldCard L s q old out p next place
+  pub unlent_card : within (lengths_of w) card_work ≡ false → place ≡ None → ToldCard L s q old out p next place
   unlent_card e f = record {
     unlent = λ h d. f;
     of = λ h d. absurd (false≢true (sym e ∙ ap (λ l. within l card_work) (W.of h) ∙ d));

@@ -1,11 +1,9 @@
 -- Law. A call that writes no overlay, run on a part of what a replay writes: its number before its output.
-use Rattle.std.specs.Prelude.{◌≡◌, refl, false, cond, List, [], ◌∷◌, ◌++◌, ℕ, suc, ◌+◌, ◌-◌, ◌≤◌, ◌<◌, length, get_or, take, drop, set}
+use Rattle.std.specs.Prelude.{◌≡◌, refl, false, cond, List, [], ◌∷◌, ◌++◌, ℕ, suc, ◌+◌, ◌-◌, ◌≤◌, ◌<◌, length, get_or, take, drop, set, Option, Some, None}
 use Rattle.std.proofs.Common.{sym, ap, ap₂, ◌∙◌, append_assoc, arith, length-append, length-drop, length-take-le, drop-drop, take-suc}
 use Rattle.std.proofs.Math.Seq.{slice}
 use Rattle.std.proofs.lemmas.List.{set_at}
 use Rattle.slices.specs.Lists.{pasted}
-use Rattle.formats_write.specs.declared.Put.{Put}
-use Rattle.formats_write.specs.declared.Put.TheVariants.{At, Full}
 use Rattle.formats_write.specs.Promises.Adds.{Adds}
 use Rattle.formats_write.specs.Laws.Adds as adds
 use Rattle.formats_write.specs.Laws.Slices.{slice_is}
@@ -22,10 +20,10 @@ use Rattle.replay_reading.specs.Promises.Told.{ToldReport, Answers}
 
 -- ---- bytes at a place
 
-put_at : {p q : ℕ} → At p ≡ At q → p ≡ q
+put_at : {p q : ℕ} → Some p ≡ Some q → p ≡ q
 put_at e = cc
 
-put_full : {C : Type 0} {p : ℕ} → At p ≡ Full → C
+put_full : {C : Type 0} {p : ℕ} → Some p ≡ None → C
 put_full e = absurd (let z : ◌≡◌ {A = ℕ} 0 1 = cc in omega arith)
 
 pasted_long : (l : List ℕ) (p : ℕ) (x : List ℕ) → p + length x ≤ length l → length (pasted l p x) ≡ length l
@@ -39,17 +37,17 @@ pasted_long l p x h =
     )
 
 -- bytes that are pasted at p
-whole_added : {m : List ℕ} {w : Put} (out : List ℕ) (p : ℕ) (x : List ℕ) → p + length x ≤ length out
-    → m ≡ pasted out p x → w ≡ At (p + length x) → Adds out (At p) m w x
+whole_added : {m : List ℕ} {w : Option ℕ} (out : List ℕ) (p : ℕ) (x : List ℕ) → p + length x ≤ length out
+    → m ≡ pasted out p x → w ≡ Some (p + length x) → Adds out (Some p) m w x
 whole_added {m = m} out p x h e f = record {
   size = ap length e ∙ pasted_long out p x h;
   full = λ d. put_full d;
-  next = λ i d k. f ∙ ap (λ i. At (i + length x)) (put_at d);
+  next = λ i d k. f ∙ ap (λ i. Some (i + length x)) (put_at d);
   holds = λ i d k. e ∙ ap (λ i. pasted out i x) (put_at d);
   over = λ i d k j. absurd (omega (arith, put_at d));
 }
 
-no_room : (l x : List ℕ) (p : ℕ) → length l < p + length x → Adds l (At p) l Full x
+no_room : (l x : List ℕ) (p : ℕ) → length l < p + length x → Adds l (Some p) l None x
 no_room l x p h = record {
   size = refl;
   full = λ e. refl;
@@ -81,7 +79,7 @@ module _ (L : Lengths) (old : List ℕ) (c : Call) (w : writes c ≡ false) {n :
   told_long : length (telling c (gives L old c)) ≡ suc n
   told_long = ap suc (stands_long L old c ∙ ap (λ b. cond b 0 (out_of c)) w ∙ d)
 
-  pub no_call : length out < p + suc n → Adds out (At p) out Full (telling c (gives L old c))
+  pub no_call : length out < p + suc n → Adds out (Some p) out None (telling c (gives L old c))
   no_call h = no_room out (telling c (gives L old c)) p (omega (arith, told_long))
 
   module _ (h : p < length out) (room : n ≤ length out - (p + 1)) where
@@ -94,8 +92,8 @@ module _ (L : Lengths) (old : List ℕ) (c : Call) (w : writes c ≡ false) {n :
         ∙ length-take-le n (drop (p + 1) out) (omega (arith, length-drop (p + 1) out))
 
     pub call_told : {k o : ℕ} {x : List ℕ} → Answers L old c k x → (k < 256 → o ≡ k)
-        → Adds out (At p) (set (take (p + 1) out ++ (x ++ drop (p + 1 + n - (p + 1)) (drop (p + 1) out))) p o)
-        (At (p + 1 + n)) (telling c (gives L old c))
+        → Adds out (Some p) (set (take (p + 1) out ++ (x ++ drop (p + 1 + n - (p + 1)) (drop (p + 1) out))) p o)
+        (Some (p + 1 + n)) (telling c (gives L old c))
     call_told {k} {o} {x} A b =
         let l : length x ≡ n = ap length A.out ∙ out_long L old c ∙ d in
         let i : o ≡ k = b (omega (arith, few L old c, A.number)) in
@@ -104,7 +102,7 @@ module _ (L : Lengths) (old : List ℕ) (c : Call) (w : writes c ≡ false) {n :
         ap (λ n. set (take (p + 1) out ++ (x ++ drop n (drop (p + 1) out))) p o) (span ∙ sym l)
         ∙ both_told out x p o (omega arith) in
         let e : p + 1 + n ≡ p + suc (length x) = omega arith in
-        adds.same (whole_added out p (o ∷ x) (omega arith) z (ap At e))
+        adds.same (whole_added out p (o ∷ x) (omega arith) z (ap Some e))
         (ap₂ ◌∷◌ (i ∙ A.number) A.out ∙ ap (λ b. (gives L old c).number ∷ cond b [] (gives L old c).out) (sym w))
 
 pub answers : {L : Lengths} {old : List ℕ} {c : Call} {k : ℕ} {x : List ℕ} {work : List (List ℕ)}
@@ -120,7 +118,7 @@ abbrev reported : List ℕ → Asked → Call
 reported s q = report (slice q.feed.from q.feed.to s) q.out
 
 module _ {L : Lengths} {s : List ℕ} {q : Asked} {old out : List ℕ} {p : ℕ} where
-  pub no_report : length out < p + suc q.out → ToldReport L s q old out p out Full
+  pub no_report : length out < p + suc q.out → ToldReport L s q old out p out None
   no_report h = record { told = no_call L old (reported s q) refl refl out p h }
 
   pub report_told : Spans s q → (h : p < length out) (room : q.out ≤ length out - (p + 1)) {k o : ℕ} {x : List ℕ}
@@ -129,7 +127,7 @@ module _ {L : Lengths} {s : List ℕ} {q : Asked} {old out : List ℕ} {p : ℕ}
       (length (take (p + 1 + q.out - (p + 1)) (drop (p + 1) out)))) k x work
       → (k < 256 → o ≡ k)
       → ToldReport L s q old out p
-      (set (take (p + 1) out ++ (x ++ drop (p + 1 + q.out - (p + 1)) (drop (p + 1) out))) p o) (At (p + 1 + q.out))
+      (set (take (p + 1) out ++ (x ++ drop (p + 1 + q.out - (p + 1)) (drop (p + 1) out))) p o) (Some (p + 1 + q.out))
   report_told S h room {k} {o} {x} {work} g b =
       let G : Given L old (reported s q) k x work =
       rw (

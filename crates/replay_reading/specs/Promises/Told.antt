@@ -1,8 +1,6 @@
 -- Promise. What a call of a script that writes no overlay told: its number, and its output behind it.
-use Rattle.std.specs.Prelude.{◌≡◌, true, false, List, [], ◌∷◌, ℕ, ◌≤◌}
+use Rattle.std.specs.Prelude.{◌≡◌, true, false, List, [], ◌∷◌, ℕ, ◌≤◌, Option, Some, None}
 use Rattle.std.proofs.Math.Seq.{slice}
-use Rattle.formats_write.specs.declared.Put.{Put}
-use Rattle.formats_write.specs.declared.Put.TheVariants.{At, Full}
 use Rattle.formats_write.specs.Promises.Adds.{Adds}
 use Rattle.formats_read.specs.Promises.Here.{Here}
 use Rattle.panel.specs.Questions.{Lengths}
@@ -14,9 +12,9 @@ use Rattle.replay_script.specs.declared.Asked.{Asked}
 use Rattle.replay_reading.specs.declared.CardWork.{CardWork}
 
 -- a report
-pub record ToldReport (L : Lengths) (s : List ℕ) (q : Asked) (old out : List ℕ) (p : ℕ) (next : List ℕ) (place : Put) :
+pub record ToldReport (L : Lengths) (s : List ℕ) (q : Asked) (old out : List ℕ) (p : ℕ) (next : List ℕ) (place : Option ℕ) :
     Type 0 where
-  pub told : Adds out (At p) next place
+  pub told : Adds out (Some p) next place
       (telling (report (slice q.feed.from q.feed.to s) q.out)
       (gives L old (report (slice q.feed.from q.feed.to s) q.out)))
 
@@ -41,16 +39,16 @@ pub record Answers (L : Lengths) (old : List ℕ) (c : Call) (k : ℕ) (x : List
 
 -- a card that asks for working buffers of the lengths `work`
 pub record ToldCardOf (L : Lengths) (s : List ℕ) (q : Asked) (work old out : List ℕ) (p : ℕ) (next : List ℕ)
-    (place : Put) :
+    (place : Option ℕ) :
     Type 0 where
-  pub told : Adds out (At p) next place
+  pub told : Adds out (Some p) next place
       (telling (card (slice q.input.from q.input.to s) q.out work)
       (gives L old (card (slice q.input.from q.input.to s) q.out work)))
 
 -- a card of a script, over working buffers of the published lengths
-pub record ToldCard (L : Lengths) (s : List ℕ) (q : Asked) (old out : List ℕ) (p : ℕ) (next : List ℕ) (place : Put) :
+pub record ToldCard (L : Lengths) (s : List ℕ) (q : Asked) (old out : List ℕ) (p : ℕ) (next : List ℕ) (place : Option ℕ) :
     Type 0 where
   pub unlent : {w : List ℕ} {e : ℕ} → Here lengths_form s q.work e w
-      → within (as_many card_work w) card_work ≡ false → place ≡ Full
+      → within (as_many card_work w) card_work ≡ false → place ≡ None
   pub of : {w : List ℕ} {e : ℕ} → Here lengths_form s q.work e w → within (as_many card_work w) card_work ≡ true
       → ToldCardOf L s q (as_many card_work w) old out p next place

@@ -1,14 +1,12 @@
 -- Law. What the readers of a script find, put together.
-use Rattle.std.specs.Prelude.{◌≡◌, ℕ, zero, suc, ◌+◌, ◌≤◌, ◌<◌, length, get_or}
+use Rattle.std.specs.Prelude.{◌≡◌, ℕ, zero, suc, ◌+◌, ◌≤◌, ◌<◌, length, get_or, Option, Some, None}
 use Rattle.std.proofs.Math.Path.{refl, sym, ap}
 use Rattle.std.proofs.Common.{◌∙◌, arith, length-append}
 use mathlib.Core.List.{List, [], ◌∷◌, ◌++◌}
-use Rattle.std.proofs.Math.Option.{Option, none, some}
+use Rattle.std.proofs.Math.Option.{Option as LogicOption, none, some}
 use Rattle.formats.specs.Format.{Format, Value, read, write}
 use Rattle.formats.specs.Laws.Format.{law}
 use Rattle.formats.specs.Promises.Outcome.{skipped, skip_to}
-use Rattle.formats.specs.declared.Skip.{Skip}
-use Rattle.formats.specs.declared.Skip.TheVariants.{At, Broken}
 use Rattle.formats.specs.declared.Span.{Span}
 use Rattle.formats_read.specs.Promises.Fields.{Has}
 use Rattle.formats_read.specs.Promises.Here.{Here, Field}
@@ -18,7 +16,6 @@ use Rattle.formats_read.specs.Laws.Here.{halves, number_here, small_here, whole_
 use Rattle.formats_read.specs.Laws.Lists.{listed}
 use Rattle.panel.specs.Questions.{ended_only, whole}
 use Rattle.replay_script.specs.Script.{call_form, length_form, lengths_form, script}
-use Rattle.replay_script.specs.declared.Standing.TheVariants as standing
 use Rattle.replay_script.specs.Promises.Asked.{ReadsCall, ReadsLength, Stand, Counted}
 
 -- ---- a call
@@ -101,35 +98,35 @@ module _ {s : List ℕ} {p n e i : ℕ} (N : ReadsNumber s p n e) where
 rest_within : (g : Format) (s : List ℕ) (v : Value g) (t : List ℕ) → read g s ≡ some (v, t) → length t ≤ length s
 rest_within g s v t e = let b = ((law g).back s v t e).0 in omega (arith, ap length b, length-append (write g v) t)
 
-at_at : {p q : ℕ} → At p ≡ At q → p ≡ q
+at_at : {p q : ℕ} → Some p ≡ Some q → p ≡ q
 at_at e = cc
 
-at_broken : {C : Type 0} {p : ℕ} → At p ≡ Broken → C
+at_broken : {C : Type 0} {p : ℕ} → Some p ≡ None → C
 at_broken e = absurd (let z : ◌≡◌ {A = ℕ} 0 1 = cc in omega arith)
 
-module _ (s : List ℕ) {r : Skip} (j : r ≡ skip_to script s 0) where
-  pub script_broken : r ≡ Broken → Counted s standing.Broken
+module _ (s : List ℕ) {r : Option ℕ} (j : r ≡ skip_to script s 0) where
+  pub script_broken : r ≡ None → Counted s None
   unfolding whole
   script_broken e = record { so = go (read script s) (sym j ∙ e) }
     where
-      go : (o : Option (Value script × List ℕ)) → skipped s o ≡ Broken → ended_only o ≡ none
+      go : (o : LogicOption (Value script × List ℕ)) → skipped s o ≡ None → ended_only o ≡ none
       go none h = refl
       go (some x) h = at_broken h
 
-  pub script_short : {p : ℕ} → r ≡ At p → p < length s → Counted s standing.Broken
+  pub script_short : {p : ℕ} → r ≡ Some p → p < length s → Counted s None
   unfolding whole
   script_short {p} e l = record { so = go (read script s) (sym j ∙ e) }
     where
-      go : (o : Option (Value script × List ℕ)) → skipped s o ≡ At p → ended_only o ≡ none
+      go : (o : LogicOption (Value script × List ℕ)) → skipped s o ≡ Some p → ended_only o ≡ none
       go none h = refl
       go (some (v, [])) h = absurd (omega (arith, at_at h))
       go (some (v, b ∷ t)) h = refl
 
-  pub script_at : {p n e : ℕ} → r ≡ At p → length s ≤ p → ReadsNumber s 0 n e → Counted s (standing.Many n e)
+  pub script_at : {p n e : ℕ} → r ≡ Some p → length s ≤ p → ReadsNumber s 0 n e → Counted s (Some (n, e))
   unfolding whole
   script_at {p} {n} {e} d l N = record { so = go (read script s) refl (sym j ∙ d) }
     where
-      go : (o : Option (Value script × List ℕ)) → read script s ≡ o → skipped s o ≡ At p → Stand s n e
+      go : (o : LogicOption (Value script × List ℕ)) → read script s ≡ o → skipped s o ≡ Some p → Stand s n e
       go none k h = at_broken (sym h)
       go (some (v, [])) k h =
           let x = (listed (whole_here script s v k)).1 in

@@ -7,9 +7,9 @@ pub returns-in_default : goal.returns-in_default
 returns-in_default c = script_broken c.args.s.now c.past.ensures c.in_default.is
 
 pub returns-then-end-s : goal.returns-then-end-s
-returns-then-end-s c = script_short c.args.s.now c.past.ensures c.in-At.is c.if-end-s.true
+returns-then-end-s c = script_short c.args.s.now c.past.ensures c.in-Some.is c.if-end-s.true
 
 pub returns : goal.returns
 returns c =
-    script_at c.args.s.now c.past.ensures c.in-At.is c.if-end-s.false
+    script_at c.args.s.now c.past.ensures c.in-Some.is c.if-end-s.false
     c.number-n.ensures

@@ -1,5 +1,5 @@
 -- Promise. What is read of a call that stands in a script, and of the script.
-use Rattle.std.specs.Prelude.{◌≡◌, List, ℕ, ◌≤◌, length, get_or}
+use Rattle.std.specs.Prelude.{◌≡◌, List, ℕ, ◌≤◌, length, get_or, Option, Some, None}
 use Rattle.std.proofs.Math.Option.{none, some}
 use Rattle.std.proofs.Math.Seq.{slice}
 use Rattle.formats.specs.Format.{Value}
@@ -8,8 +8,6 @@ use Rattle.formats_read.specs.Promises.Lists.{Many}
 use Rattle.panel.specs.Questions.{whole}
 use Rattle.replay_script.specs.Script.{clock_form, call_form, lengths_form, script}
 use Rattle.replay_script.specs.declared.Asked.{Asked}
-use Rattle.replay_script.specs.declared.Standing.{Standing}
-use Rattle.replay_script.specs.declared.Standing.TheVariants as standing
 
 -- r is what the call v, which ends at q, asks for
 pub record Reads (s : List ℕ) (r : Asked) (v : Value call_form) (q : ℕ) : Type 0 where
@@ -38,9 +36,9 @@ pub record Stand (s : List ℕ) (n p : ℕ) : Type 0 where
   pub count : length value ≡ n
   pub many : Many call_form s p (length s) value
 
-abbrev pub CallsAre : List ℕ → Standing → Type 0
-CallsAre s (standing.Many n p) = Stand s n p
-CallsAre s standing.Broken = whole script s ≡ none
+abbrev pub CallsAre : List ℕ → Option (ℕ × ℕ) → Type 0
+CallsAre s (Some (n, p)) = Stand s n p
+CallsAre s None = whole script s ≡ none
 
-pub record Counted (s : List ℕ) (r : Standing) : Type 0 where
+pub record Counted (s : List ℕ) (r : Option (ℕ × ℕ)) : Type 0 where
   pub so : CallsAre s r

@@ -4,8 +4,8 @@ use mathlib.Core.Path.{sym, ap}
 use borrow.Author.Rules.{rules}
 use Rattle.replay_turn.proofs.is_accepted.Goals as goal
 
-pub returns-in-Unlent : goal.returns-in-Unlent
-returns-in-Unlent c = ap accepted_of (sym c.in-Unlent.is)
+pub returns-in-None : goal.returns-in-None
+returns-in-None c = ap accepted_of (sym c.in-None.is)
 
-pub returns-in-Number : goal.returns-in-Number
-returns-in-Number c = ap accepted_of (sym c.in-Number.is)
+pub returns-in-Some : goal.returns-in-Some
+returns-in-Some c = ap accepted_of (sym c.in-Some.is)

@@ -3,8 +3,8 @@ use Rattle.replay_turn.specs.Laws.Steps.{tells_none, tells_number}
 use borrow.Author.Rules.{rules}
 use Rattle.replay_turn.proofs.tell.Goals as goal
 
-pub returns-in-Unlent : goal.returns-in-Unlent
-returns-in-Unlent c = tells_none c.in-Unlent.is
+pub returns-in-None : goal.returns-in-None
+returns-in-None c = tells_none c.in-None.is
 
-pub returns-in-Number : goal.returns-in-Number
-returns-in-Number c = tells_number c.in-Number.is c.octet.ensures c.byte.ensures
+pub returns-in-Some : goal.returns-in-Some
+returns-in-Some c = tells_number c.in-Some.is c.octet.ensures c.byte.ensures

@@ -1,10 +1,8 @@
 -- Law. One call of a script: what it told, and the overlay to go on with.
-use Rattle.std.specs.Prelude.{◌≡◌, refl, Bool, true, false, cond, not, List, [], ◌∷◌, ℕ, ◌≤◌, ◌<◌, eqb, ℤ, take}
+use Rattle.std.specs.Prelude.{◌≡◌, refl, Bool, true, false, cond, not, List, [], ◌∷◌, ℕ, ◌≤◌, ◌<◌, eqb, ℤ, take, Option, Some, None}
 use Rattle.std.proofs.Common.{sym, ap, subst, ◌∙◌, arith, eqb-true, ne_eqb}
 use Rattle.std.proofs.lemmas.Bool.{false≢true, eqb-false}
 use Rattle.std.proofs.Math.Seq.{slice}
-use Rattle.formats_write.specs.declared.Put.{Put}
-use Rattle.formats_write.specs.declared.Put.TheVariants.{At, Full}
 use Rattle.formats_write.specs.Promises.Adds.{Adds}
 use Rattle.formats_write.specs.Laws.Adds as adds
 use Rattle.panel.specs.Questions.{Lengths}
@@ -13,8 +11,6 @@ use Rattle.panel.specs.Lengths.{sized}
 use Rattle.replay_script.specs.Script.{call_by, call_of, Lent, lends}
 use Rattle.replay_script.specs.declared.Asked.{Asked}
 use Rattle.replay_script.specs.Promises.Asked.{ReadsCall}
-use Rattle.replay_writing.specs.declared.Ran.{Ran}
-use Rattle.replay_writing.specs.declared.Ran.TheVariants.{Unlent, Number}
 use Rattle.replay_writing.specs.Promises.Ran.{ran_of, RanAs, WritesAs}
 use Rattle.replay_writing.specs.Laws.Ran.{few}
 use Rattle.replay_writing.specs.Laws.Kinds.{call_is, of_kind}
@@ -25,14 +21,14 @@ use Rattle.replay_turn.specs.Promises.Turns.{ToldWriting}
 
 -- ---- the number of a writing call
 
-unlent_number : {C : Type 0} {k : ℕ} → Unlent ≡ Number k → C
+unlent_number : {C : Type 0} {k : ℕ} → None ≡ Some k → C
 unlent_number e = absurd (let z : ◌≡◌ {A = ℕ} 0 1 = cc in omega arith)
 
-pub tells_none : {out : List ℕ} {p : ℕ} {r : Ran} → r ≡ Unlent → TellsNumber out p out r Full
+pub tells_none : {out : List ℕ} {p : ℕ} {r : Option ℕ} → r ≡ None → TellsNumber out p out r None
 tells_none e = record { unlent = λ d. refl; told = λ d h. unlent_number (sym e ∙ d) }
 
-pub tells_number : {out next : List ℕ} {p k o : ℕ} {r : Ran} {w : Put} → r ≡ Number k → (k < 256 → o ≡ k)
-    → Adds out (At p) next w (o ∷ []) → TellsNumber out p next r w
+pub tells_number : {out next : List ℕ} {p k o : ℕ} {r : Option ℕ} {w : Option ℕ} → r ≡ Some k → (k < 256 → o ≡ k)
+    → Adds out (Some p) next w (o ∷ []) → TellsNumber out p next r w
 tells_number {out} {next} {p} {k} {o} {r} {w} e b a = record {
   unlent = λ d. unlent_number (sym d ∙ e);
   told = λ {k = j} d h.
@@ -40,12 +36,12 @@ tells_number {out} {next} {p} {k} {o} {r} {w} e b a = record {
       adds.same a (ap (λ n. n ∷ []) (b (omega arith) ∙ z));
 }
   where
-    number_is : {i j : ℕ} → Number i ≡ Number j → i ≡ j
+    number_is : {i j : ℕ} → Some i ≡ Some j → i ≡ j
     number_is e = cc
 
 -- ---- a writing call
 
-module _ (L : Lengths) (R : Lent) {old new out next : List ℕ} {p : ℕ} {r : Ran} {place : Put} {moved : Bool} (c : Call)
+module _ (L : Lengths) (R : Lent) {old new out next : List ℕ} {p : ℕ} {r : Option ℕ} {place : Option ℕ} {moved : Bool} (c : Call)
     (w : writes c ≡ true) (A : RanAs (lends R c) L old c new r) (T : TellsNumber out p next r place)
     (m : moved ≡ accepted_of r) where
   ended_so : (b : Bool) → lends R c ≡ b → r ≡ ran_of b (gives L old c).number
@@ -70,8 +66,8 @@ module _ (L : Lengths) (R : Lent) {old new out next : List ℕ} {p : ℕ} {r : R
     after = goes_on;
   }
 
-pub writing_told : {L : Lengths} {lent : ℕ} {work s : List ℕ} {q : Asked} {old new out next : List ℕ} {p : ℕ} {r : Ran}
-    {place : Put} {moved : Bool} → WritesAs L lent work s q old new r → TellsNumber out p next r place
+pub writing_told : {L : Lengths} {lent : ℕ} {work s : List ℕ} {q : Asked} {old new out next : List ℕ} {p : ℕ} {r : Option ℕ}
+    {place : Option ℕ} {moved : Bool} → WritesAs L lent work s q old new r → TellsNumber out p next r place
     → moved ≡ accepted_of r → ToldWriting L lent work s q old new out p next place moved q.next
 writing_told {L} W T m = record {
   ends = refl;
@@ -94,7 +90,7 @@ writes_below L k f b t o w h = go (eqb k 0) (eqb k 1) (eqb k 2) (eqb k 3) refl r
         absurd (omega (arith, eqb-false k 0 a, eqb-false k 1 c, eqb-false k 2 d, eqb-false k 3 e))
 
 -- a writing call
-pub turned_writing : {n lent o k m j : ℕ} {s old new out next : List ℕ} {at p : ℕ} {q : Asked} {place : Put}
+pub turned_writing : {n lent o k m j : ℕ} {s old new out next : List ℕ} {at p : ℕ} {q : Asked} {place : Option ℕ}
     {moved : Bool} {e : ℕ} → ReadsCall s at q → q.kind < 4
     → ToldWriting (sized n) lent (k ∷ m ∷ j ∷ []) s q old new out p next place moved e
     → Turned (sized n) (lent_to lent o k m j) s at old out p (cond moved (take n new) old) next place e
@@ -110,7 +106,7 @@ turned_writing {n} {lent} {o} {k} {m} {j} {s} {q = q} Q h T = record {
 
 -- a card
 pub turned_card : {n lent o k m j : ℕ} {s old : List ℕ} (new : List ℕ) {out next : List ℕ} {at p : ℕ} {q : Asked}
-    {place : Put} → ReadsCall s at q → q.kind ≡ 4 → ToldCard (sized n) s q old out p next place
+    {place : Option ℕ} → ReadsCall s at q → q.kind ≡ 4 → ToldCard (sized n) s q old out p next place
     → Turned (sized n) (lent_to lent o k m j) s at old out p (cond false (take n new) old) next place q.next
 turned_card {n} {lent} {o} {k} {m} {j} {old = old} new {out = out} {next = next} {p = p} {place = place} Q h T =
     record {
@@ -139,7 +135,7 @@ report_is L k f b t o w h e =
     ) refl
 
 pub turned_report : {n : ℕ} {R : Lent} {s old : List ℕ} (new : List ℕ) {out next : List ℕ} {at p : ℕ}
-    {q : Asked} {place : Put}
+    {q : Asked} {place : Option ℕ}
     → ReadsCall s at q → 4 ≤ q.kind → (q.kind ≡ 4 → ⊥) → ToldReport (sized n) s q old out p next place
     → Turned (sized n) R s at old out p (cond false (take n new) old) next place q.next
 turned_report {n} {R} {s} {old} new {out = out} {next = next} {p = p} {q = q} {place = place} Q h e T = record {
@@ -165,7 +161,7 @@ moved_back n false a b = refl
 
 -- the first was current, and b came of the second
 pub turn_on : {L : Lengths} {R : Lent} {s : List ℕ} {at : ℕ} (n : ℕ) (a b b₀ : List ℕ) {out next : List ℕ} {p : ℕ}
-    (moved : Bool) {first : Bool} {place : Put} {e : ℕ} → first ≡ true
+    (moved : Bool) {first : Bool} {place : Option ℕ} {e : ℕ} → first ≡ true
     → Turned L R s at (take n a) out p (cond moved (take n b) (take n a)) next place e
     → Turned L R s at (current n first a b₀) out p (current n (not moved) a b) next place e
 turn_on {L} {R} {s} {at} n a b b₀ {out} {next} {p} moved {first} {place} {e} f T =
@@ -174,7 +170,7 @@ turn_on {L} {R} {s} {at} n a b b₀ {out} {next} {p} moved {first} {place} {e} f
 
 -- the second was current, and a came of the first
 pub turn_back : {L : Lengths} {R : Lent} {s : List ℕ} {at : ℕ} (n : ℕ) (a b a₀ : List ℕ) {out next : List ℕ} {p : ℕ}
-    (moved : Bool) {first : Bool} {place : Put} {e : ℕ} → first ≡ false
+    (moved : Bool) {first : Bool} {place : Option ℕ} {e : ℕ} → first ≡ false
     → Turned L R s at (take n b) out p (cond moved (take n a) (take n b)) next place e
     → Turned L R s at (current n first a₀ b) out p (current n moved a b) next place e
 turn_back {L} {R} {s} {at} n a b a₀ {out} {next} {p} moved {first} {place} {e} f T =

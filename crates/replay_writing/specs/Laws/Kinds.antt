@@ -1,5 +1,5 @@
 -- Law. A call of a script by its kind.
-use Rattle.std.specs.Prelude.{◌≡◌, refl, Bool, true, false, cond, ◌&&◌, List, [], ◌∷◌, ℕ, eqb, leb, ℤ}
+use Rattle.std.specs.Prelude.{◌≡◌, refl, Bool, true, false, cond, ◌&&◌, List, [], ◌∷◌, ℕ, eqb, leb, ℤ, Option}
 use Rattle.std.proofs.Common.{sym, ap, subst, ◌∙◌, ne_eqb}
 use Rattle.std.proofs.lemmas.Bool.{false≢true}
 use Rattle.std.proofs.Math.Seq.{slice}
@@ -12,7 +12,6 @@ use Rattle.replay_script.specs.declared.Asked.{Asked}
 use Rattle.replay_script.specs.Promises.Asked.{Reads}
 use Rattle.panel.specs.Lengths.{sized}
 use Rattle.replay_writing.specs.Promises.Ran.{RanAs, MessageRan, WritesAs}
-use Rattle.replay_writing.specs.declared.Ran.{Ran}
 
 -- a call of kind k, with what was read of it
 pub call_is : (L : Lengths) {s : List ℕ} {q : Asked} {v : Value call_form} {e : ℕ} → Reads s q v e
@@ -30,7 +29,7 @@ of_kind L k {s} {q} {v} h R =
     v.1.1.1.0 q.out v.1.1.1.1.1) h
 
 -- a call that is another, where b is whether it is lent
-ran_is : {L : Lengths} (R : Lent) {old new : List ℕ} {r : Ran} {b : Bool} (c d : Call) → c ≡ d → b ≡ lends R d
+ran_is : {L : Lengths} (R : Lent) {old new : List ℕ} {r : Option ℕ} {b : Bool} (c d : Call) → c ≡ d → b ≡ lends R d
     → RanAs b L old d new r → RanAs (lends R c) L old c new r
 ran_is {L} R {old} {new} {r} c d e f A =
     subst (λ c. RanAs (lends R c) L old c new r) (sym e) (subst (λ b. RanAs b L old d new r) f A)
@@ -44,7 +43,7 @@ no_writing L k f b t o w a c d e = rw (ne_eqb k 0 a, ne_eqb k 1 c, ne_eqb k 2 d,
     go true = refl
     go false = refl
 
-module _ {n lent : ℕ} {work s : List ℕ} {q : Asked} {old new : List ℕ} {r : Ran} where
+module _ {n lent : ℕ} {work s : List ℕ} {q : Asked} {old new : List ℕ} {r : Option ℕ} where
   pub fresh_writes : q.kind ≡ 0 → RanAs (leb q.out lent) (sized n) [] (fresh q.out) new r
       → WritesAs (sized n) lent work s q old new r
   fresh_writes h A = record {

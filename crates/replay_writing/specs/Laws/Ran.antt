@@ -1,5 +1,5 @@
 -- Law. What a call of a script left, by what the call gave.
-use Rattle.std.specs.Prelude.{◌≡◌, refl, Bool, true, false, cond, ◌&&◌, List, [], ◌∷◌, ◌++◌, ℕ, ◌+◌, ◌-◌, ◌≤◌, ◌<◌, leb, ℤ, length, take, drop}
+use Rattle.std.specs.Prelude.{◌≡◌, refl, Bool, true, false, cond, ◌&&◌, List, [], ◌∷◌, ◌++◌, ℕ, ◌+◌, ◌-◌, ◌≤◌, ◌<◌, leb, ℤ, length, take, drop, Option, Some, None}
 use Rattle.std.proofs.Common.{sym, ap, subst, ◌∙◌, arith, take_at, length-take-le, le-leb, leb-true}
 use Rattle.std.proofs.lemmas.Bool.{false≢true, lt-leb}
 use Rattle.std.proofs.Math.Seq.{slice}
@@ -17,8 +17,6 @@ use Rattle.replay_script.specs.declared.Asked.{Asked}
 use Rattle.panel.specs.Given.{Given}
 use Rattle.replay_writing.specs.Promises.Ran.{ran_of, RanAs, Spans, Sound, ReadsWork, within3, Fits, MessageRan}
 use Rattle.replay_script.specs.Promises.Asked.{ReadsLength}
-use Rattle.replay_writing.specs.declared.Ran.{Ran}
-use Rattle.replay_writing.specs.declared.Ran.TheVariants.{Unlent, Number}
 
 -- ---- numbers
 
@@ -39,7 +37,7 @@ few L old c = omega (arith, first_no_holds L old c, no_more order (answer (quest
 -- ---- what a call left
 
 pub unlent : {out lent : ℕ} {L : Lengths} {old : List ℕ} {c : Call} {new : List ℕ} → lent < out
-    → RanAs (leb out lent) L old c new Unlent
+    → RanAs (leb out lent) L old c new None
 unlent {out} {lent} {L} {old} {c} h =
     let e = lt-leb out lent h in
     record {
@@ -49,12 +47,12 @@ unlent {out} {lent} {L} {old} {c} h =
 
 -- run on the first bytes of `new`, of which x came
 ran : (L : Lengths) (old : List ℕ) {c : Call} {k : ℕ} {x : List ℕ} {work : List (List ℕ)} (rest : List ℕ) {b : Bool}
-    → b ≡ true → writes c ≡ true → Given L old c k x work → RanAs b L old c (x ++ rest) (Number k)
+    → b ≡ true → writes c ≡ true → Given L old c k x work → RanAs b L old c (x ++ rest) (Some k)
 ran L old {c} {k} {x} rest t w g =
     let n : k ≡ (gives L old c).number = ap (λ (g : Gave). g.number) g.is in
     let o : x ≡ (gives L old c).out = ap (λ (g : Gave). g.out) g.is in
     record {
-      number = ap Number n ∙ ap (λ b. ran_of b (gives L old c).number) (sym t);
+      number = ap Some n ∙ ap (λ b. ran_of b (gives L old c).number) (sym t);
       next = λ h z.
           let l : length x ≡ L.overlay = ap length o ∙ out_long L old c ∙ (writes_overlay L old c w z).long in
           take_at x rest L.overlay l ∙ o;
@@ -65,7 +63,7 @@ module _ (L : Lengths) (old new : List ℕ) {lent out : ℕ} (h : out ≤ lent) 
   part_long = length-take-le out new (omega arith)
 
   pub fresh_ran : {k : ℕ} {x : List ℕ} {work : List (List ℕ)} → Given L old (fresh (length (take out new))) k x work
-      → RanAs (leb out lent) L old (fresh out) (x ++ drop out new) (Number k)
+      → RanAs (leb out lent) L old (fresh out) (x ++ drop out new) (Some k)
   fresh_ran g = ran L old (drop out new) (le-leb out lent h) refl (rw part_long at g)
 
 -- the bytes of a script from a up to e, as they are lent
@@ -92,13 +90,13 @@ module _ (L : Lengths) (old s new : List ℕ) (q : Asked) {lent : ℕ} (S : Span
   module _ {k : ℕ} {x : List ℕ} {work : List (List ℕ)} where
     pub alerts_ran : Given L old (alert_sheet (lent_part s q.feed.from q.feed.to)
         (lent_part s q.input.from q.input.to) (length (take q.out new)) []) k x work
-        → RanAs (leb q.out lent) L old (alert_sheet feed input q.out []) (x ++ drop q.out new) (Number k)
+        → RanAs (leb q.out lent) L old (alert_sheet feed input q.out []) (x ++ drop q.out new) (Some k)
     alerts_ran g =
         ran L old (drop q.out new) (le-leb q.out lent h) refl (rw (feed_is, input_is, out_is) at g)
 
     pub vehicles_ran : {t : ℤ} (z : ℤ) → t ≡ z → Given L old (vehicle_sheet (lent_part s q.feed.from q.feed.to)
         (lent_part s q.input.from q.input.to) t (length (take q.out new)) []) k x work
-        → RanAs (leb q.out lent) L old (vehicle_sheet feed input z q.out []) (x ++ drop q.out new) (Number k)
+        → RanAs (leb q.out lent) L old (vehicle_sheet feed input z q.out []) (x ++ drop q.out new) (Some k)
     vehicles_ran z e g =
         ran L old (drop q.out new) (le-leb q.out lent h) refl (rw (e, feed_is, input_is, out_is) at g)
 
@@ -117,7 +115,7 @@ module _ (n : ℕ) (L : Lengths) (old s new : List ℕ) (q : Asked) (S : Sound n
       (lent_part s q.input.from q.input.to) (length (take q.out new))
       (length (take a ks) ∷ length (take b ms) ∷ length (take c os) ∷ [])) k x work
       → RanAs true L old (message (slice q.feed.from q.feed.to s) (slice q.input.from q.input.to s)
-      q.out (a ∷ b ∷ c ∷ [])) (x ++ drop q.out new) (Number k)
+      q.out (a ∷ b ∷ c ∷ [])) (x ++ drop q.out new) (Some k)
   message_run g =
       ran L old (drop q.out new) refl refl
       (rw (
@@ -138,7 +136,7 @@ tested false b c lent = refl
 
 module _ {L : Lengths} {lent : ℕ} {s old new : List ℕ} {q : Asked} {a b c k m o : ℕ}
     (W : ReadsWork s q.work (a ∷ b ∷ c ∷ [])) where
-  asks : (r : Ran) → RanAs (within3 a b c k m o && leb q.out lent) L old
+  asks : (r : Option ℕ) → RanAs (within3 a b c k m o && leb q.out lent) L old
       (message (slice q.feed.from q.feed.to s) (slice q.input.from q.input.to s) q.out
       (a ∷ b ∷ c ∷ [])) new r
       → MessageRan L lent (k ∷ m ∷ o ∷ []) s q old new r
@@ -154,13 +152,13 @@ module _ {L : Lengths} {lent : ℕ} {s old new : List ℕ} {q : Asked} {a b c k 
 
   pub message_ran : {r : ℕ} → (within3 a b c k m o && leb q.out lent) ≡ true
       → RanAs true L old (message (slice q.feed.from q.feed.to s) (slice q.input.from q.input.to s)
-      q.out (a ∷ b ∷ c ∷ [])) new (Number r)
-      → MessageRan L lent (k ∷ m ∷ o ∷ []) s q old new (Number r)
-  message_ran {r} e A = asks (Number r) (rw e A)
+      q.out (a ∷ b ∷ c ∷ [])) new (Some r)
+      → MessageRan L lent (k ∷ m ∷ o ∷ []) s q old new (Some r)
+  message_ran {r} e A = asks (Some r) (rw e A)
 
   pub message_unlent : (within3 a b c k m o && leb q.out lent) ≡ false
-      → MessageRan L lent (k ∷ m ∷ o ∷ []) s q old new Unlent
-  message_unlent e = asks Unlent (record {
+      → MessageRan L lent (k ∷ m ∷ o ∷ []) s q old new None
+  message_unlent e = asks None (record {
     number = ap (λ t. ran_of t (gives L old (message (slice q.feed.from q.feed.to s)
         (slice q.input.from q.input.to s) q.out (a ∷ b ∷ c ∷ []))).number) (sym e);
     next = λ t z. absurd (false≢true (sym e ∙ t));

@@ -1,5 +1,5 @@
 -- Promise. How a call of a script ended, and what it left.
-use Rattle.std.specs.Prelude.{◌≡◌, Bool, true, false, ◌&&◌, List, [], ◌∷◌, ℕ, ◌≤◌, leb, length, get_or, take}
+use Rattle.std.specs.Prelude.{◌≡◌, Bool, true, false, ◌&&◌, List, [], ◌∷◌, ℕ, ◌≤◌, leb, length, get_or, take, Option, Some, None}
 use Rattle.std.proofs.Math.Seq.{slice}
 use Rattle.decode.specs.Sizes.{most_old}
 use Rattle.formats.specs.Format.{Value}
@@ -9,15 +9,13 @@ use Rattle.panel.specs.Calls.{Call, message, gives, writes}
 use Rattle.replay_script.specs.Script.{call_form, lengths_form, as_many, call_of, Lent, within, lends}
 use Rattle.replay_script.specs.declared.Asked.{Asked}
 use Rattle.replay_script.specs.Promises.Asked.{Reads}
-use Rattle.replay_writing.specs.declared.Ran.{Ran}
-use Rattle.replay_writing.specs.declared.Ran.TheVariants.{Unlent, Number}
 
-abbrev pub ran_of : Bool → ℕ → Ran
-ran_of true n = Number n
-ran_of false n = Unlent
+abbrev pub ran_of : Bool → ℕ → Option ℕ
+ran_of true n = Some n
+ran_of false n = None
 
 -- the writing call c over `old`, whose buffers are lent or not; it left `new`
-pub record RanAs (lent : Bool) (L : Lengths) (old : List ℕ) (c : Call) (new : List ℕ) (r : Ran) : Type 0 where
+pub record RanAs (lent : Bool) (L : Lengths) (old : List ℕ) (c : Call) (new : List ℕ) (r : Option ℕ) : Type 0 where
   pub number : r ≡ ran_of lent (gives L old c).number
   pub next : lent ≡ true → (gives L old c).number ≡ 0 → take L.overlay new ≡ (gives L old c).out
 
@@ -49,13 +47,13 @@ pub record Fits (a b c k m o out room : ℕ) : Type 0 where
   pub overlay : out ≤ room
 
 -- a message whose working buffers' lengths stand in the script
-pub record MessageRan (L : Lengths) (lent : ℕ) (work s : List ℕ) (q : Asked) (old new : List ℕ) (r : Ran) : Type 0 where
+pub record MessageRan (L : Lengths) (lent : ℕ) (work s : List ℕ) (q : Asked) (old new : List ℕ) (r : Option ℕ) : Type 0 where
   pub of : {w : List ℕ} {e : ℕ} → Here lengths_form s q.work e w
       → RanAs (within (as_many (0 ∷ 0 ∷ 0 ∷ []) w) work && leb q.out lent) L old
       (message (slice q.feed.from q.feed.to s) (slice q.input.from q.input.to s) q.out
       (as_many (0 ∷ 0 ∷ 0 ∷ []) w)) new r
 
 -- a writing call of a script, over what is lent
-pub record WritesAs (L : Lengths) (lent : ℕ) (work s : List ℕ) (q : Asked) (old new : List ℕ) (r : Ran) : Type 0 where
+pub record WritesAs (L : Lengths) (lent : ℕ) (work s : List ℕ) (q : Asked) (old new : List ℕ) (r : Option ℕ) : Type 0 where
   pub of : {v : Value call_form} {e : ℕ} → Reads s q v e → writes (call_of L v) ≡ true → (R : Lent)
       → R.overlay ≡ lent → R.message_work ≡ work → RanAs (lends R (call_of L v)) L old (call_of L v) new r

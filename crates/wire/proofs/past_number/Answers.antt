@@ -4,5 +4,5 @@ use Rattle.wire.specs.Promises.Places.{past_number}
 use borrow.Author.Rules.{rules}
 use Rattle.wire.proofs.past_number.Goals as goal
 
-pub returns-in-Read : goal.returns-in-Read
-returns-in-Read c = ap past_number (sym c.in-Read.is)
+pub returns-in-Some : goal.returns-in-Some
+returns-in-Some c = ap past_number (sym c.in-Some.is)

@@ -1,6 +1,7 @@
 -- Law. What an answer says of the bytes: where the code answers a value and a cursor, the wire format reads that
 -- value, and what is left stands at the cursor. For callers of this crate.
-use Rattle.std.specs.Prelude.{ℕ, ◌+◌, ◌-◌, ◌≤◌, ◌<◌, ◌≡◌, refl, List, ◌++◌, length, take, drop, leb, Bool, true, false, cond}
+use Rattle.std.proofs.lemmas.Option.{some_pair_parts}
+use Rattle.std.specs.Prelude.{ℕ, ◌+◌, ◌-◌, ◌≤◌, ◌<◌, ◌≡◌, refl, List, ◌++◌, length, take, drop, leb, Bool, true, false, cond, Some, None}
 use Rattle.std.proofs.Common.{sym, ap, subst, ◌∙◌, append_assoc, arith, length-append, length-drop, take-append-drop, drop_at, take_at}
 use Rattle.wire.specs.Wire.{Read, broken, read, and_then, varint, Key, key, bytes, length_delimited, Value, value}
 use Rattle.wire.specs.Wire.{field, LEN}
@@ -10,10 +11,6 @@ use Rattle.wire.specs.Laws.Wire.{reader_value}
 use Rattle.wire.specs.Promises.Places.{cursor_at, got_number, number_at, got_key, key_at, got_text, text_at, got_skipped}
 use Rattle.wire.specs.Promises.Places.{skipped_at}
 use Rattle.wire.specs.declared.Cursor.{Cursor}
-use Rattle.wire.specs.declared.GotNumber.{GotNumber}
-use Rattle.wire.specs.declared.GotKey.{GotKey}
-use Rattle.wire.specs.declared.GotText.{GotText}
-use Rattle.wire.specs.declared.Skipped.{Skipped}
 
 pub place : (s : List ℕ) (p : ℕ) → p ≤ length s → length s - length (drop p s) ≡ p
 place s p h = omega (arith, length-drop p s)
@@ -40,65 +37,67 @@ module _ {A : Type 0} (p : List ℕ → Read A) (P : ReaderLaw p) (s : List ℕ)
       }
 
 module _ (s : List ℕ) (at : ℕ) where
-  pub number_read : (n : ℕ) (c : Cursor) → GotNumber.Read n c ≡ number_at s at → ReadAt varint s at n c.at
+  pub number_read : (n : ℕ) (c : Cursor) → Some (n, c) ≡ number_at s at → ReadAt varint s at n c.at
   number_read n c e = go (varint (drop at s)) refl e
     where
-      go : (o : Read ℕ) → varint (drop at s) ≡ o → GotNumber.Read n c ≡ got_number s o → ReadAt varint s at n c.at
+      go : (o : Read ℕ) → varint (drop at s) ≡ o → Some (n, c) ≡ got_number s o → ReadAt varint s at n c.at
       go broken e₁ e₂ = let z : ◌≡◌ {A = ℕ} 0 1 = cc in absurd (omega arith)
       go (read m r) e₁ e₂ =
-          let a : m ≡ n = cc in
-          let b : cursor_at s r ≡ c = cc in
+          let f = some_pair_parts _ _ _ _ e₂ in
+          let a : m ≡ n = sym f.0 in
+          let b : cursor_at s r ≡ c = sym f.1 in
           subst (λ k. ReadAt varint s at n k.at) b
           (subst (λ k. ReadAt varint s at k (cursor_at s r).at) a (read_at varint reader_varint s at m r e₁))
 
-  pub number_broken : GotNumber.Broken ≡ number_at s at → varint (drop at s) ≡ broken
+  pub number_broken : None ≡ number_at s at → varint (drop at s) ≡ broken
   number_broken e = go (varint (drop at s)) e
     where
-      go : (o : Read ℕ) → GotNumber.Broken ≡ got_number s o → o ≡ broken
+      go : (o : Read ℕ) → None ≡ got_number s o → o ≡ broken
       go broken e₂ = refl
       go (read m r) e₂ = let z : ◌≡◌ {A = ℕ} 0 1 = cc in absurd (omega arith)
 
   pub key_read : (n w : ℕ) (c : Cursor)
-      → GotKey.Read n w c ≡ key_at s at → ReadAt key s at (record { number = n; wire = w }) c.at
+      → Some (n, w, c) ≡ key_at s at → ReadAt key s at (record { number = n; wire = w }) c.at
   key_read n w c e = go (key (drop at s)) refl e
     where
-      go : (o : Read Key) → key (drop at s) ≡ o → GotKey.Read n w c ≡ got_key s o
+      go : (o : Read Key) → key (drop at s) ≡ o → Some (n, w, c) ≡ got_key s o
           → ReadAt key s at (record { number = n; wire = w }) c.at
       go broken e₁ e₂ = let z : ◌≡◌ {A = ℕ} 0 1 = cc in absurd (omega arith)
       go (read k r) e₁ e₂ =
-          let p : k.number ≡ n = cc in
-          let q : k.wire ≡ w = cc in
-          let b : cursor_at s r ≡ c = cc in
+          let f : ◌≡◌ {A = ℕ × ℕ × Cursor} (k.number, k.wire, cursor_at s r) (n, w, c) = cc in
+          let p : k.number ≡ n = ap (λ t. t.0) f in
+          let q : k.wire ≡ w = ap (λ t. t.1) f in
+          let b : cursor_at s r ≡ c = ap (λ t. t.2) f in
           let h : k ≡ record { number = n; wire = w } = λ i. record { number = p i; wire = q i } in
           subst (λ j. ReadAt key s at (record { number = n; wire = w }) j.at) b
           (subst (λ j. ReadAt key s at j (cursor_at s r).at) h (read_at key reader_key s at k r e₁))
 
-  pub key_broken : GotKey.Broken ≡ key_at s at → key (drop at s) ≡ broken
+  pub key_broken : None ≡ key_at s at → key (drop at s) ≡ broken
   key_broken e = go (key (drop at s)) e
     where
-      go : (o : Read Key) → GotKey.Broken ≡ got_key s o → o ≡ broken
+      go : (o : Read Key) → None ≡ got_key s o → o ≡ broken
       go broken e₂ = refl
       go (read m r) e₂ = let z : ◌≡◌ {A = ℕ} 0 1 = cc in absurd (omega arith)
 
-  pub skipped_read : (n w d : ℕ) (c : Cursor) → Skipped.Past c ≡ skipped_at s at n w d
+  pub skipped_read : (n w d : ℕ) (c : Cursor) → Some c ≡ skipped_at s at n w d
       → (v : Value) × ReadAt (value d (record { number = n; wire = w })) s at v c.at
   skipped_read n w d c e = go (value d k (drop at s)) refl e
     where
       k : Key
       k = record { number = n; wire = w }
 
-      go : (o : Read Value) → value d k (drop at s) ≡ o → Skipped.Past c ≡ got_skipped s o
+      go : (o : Read Value) → value d k (drop at s) ≡ o → Some c ≡ got_skipped s o
           → (v : Value) × ReadAt (value d k) s at v c.at
       go broken e₁ e₂ = let z : ◌≡◌ {A = ℕ} 0 1 = cc in absurd (omega arith)
       go (read v r) e₁ e₂ =
           let b : cursor_at s r ≡ c = cc in
           (v, subst (λ j. ReadAt (value d k) s at v j.at) b (read_at (value d k) (reader_value d k) s at v r e₁))
 
-  pub skipped_broken : (n w d : ℕ) → Skipped.Broken ≡ skipped_at s at n w d
+  pub skipped_broken : (n w d : ℕ) → None ≡ skipped_at s at n w d
       → value d (record { number = n; wire = w }) (drop at s) ≡ broken
   skipped_broken n w d e = go (value d (record { number = n; wire = w }) (drop at s)) e
     where
-      go : (o : Read Value) → Skipped.Broken ≡ got_skipped s o → o ≡ broken
+      go : (o : Read Value) → None ≡ got_skipped s o → o ≡ broken
       go broken e₂ = refl
       go (read m r) e₂ = let z : ◌≡◌ {A = ℕ} 0 1 = cc in absurd (omega arith)
 
@@ -134,16 +133,17 @@ pub record TextAt (s : List ℕ) (at i n next : ℕ) : Type 0 where
   pub ends : i + n ≡ next
   pub inside : next ≤ length s
 
-pub text_read : (s : List ℕ) (at i n : ℕ) (c : Cursor) → GotText.Read i n c ≡ text_at s at → TextAt s at i n c.at
+pub text_read : (s : List ℕ) (at i n : ℕ) (c : Cursor) → Some (i, n, c) ≡ text_at s at → TextAt s at i n c.at
 text_read s at i n c e = go (length_delimited (drop at s)) refl e
   where
-    go : (o : Read (List ℕ)) → length_delimited (drop at s) ≡ o → GotText.Read i n c ≡ got_text s o
+    go : (o : Read (List ℕ)) → length_delimited (drop at s) ≡ o → Some (i, n, c) ≡ got_text s o
         → TextAt s at i n c.at
     go broken e₁ e₂ = let z : ◌≡◌ {A = ℕ} 0 1 = cc in absurd (omega arith)
     go (read x r) e₁ e₂ =
-        let p : length s - length r - length x ≡ i = cc in
-        let q : length x ≡ n = cc in
-        let b : cursor_at s r ≡ c = cc in
+        let f : ◌≡◌ {A = ℕ × ℕ × Cursor} (length s - length r - length x, length x, cursor_at s r) (i, n, c) = cc in
+        let p : length s - length r - length x ≡ i = ap (λ t. t.0) f in
+        let q : length x ≡ n = ap (λ t. t.1) f in
+        let b : cursor_at s r ≡ c = ap (λ t. t.2) f in
         let b' : length s - length r ≡ c.at = ap (λ k. k.at) b in
         let R = read_at length_delimited reader_text s at x r e₁ in
         let T = text_split (drop at s) x r e₁ in
@@ -156,10 +156,10 @@ text_read s at i n c e = go (length_delimited (drop at s)) refl e
           inside = omega arith;
         }
 
-pub text_broken : (s : List ℕ) (at : ℕ) → GotText.Broken ≡ text_at s at → length_delimited (drop at s) ≡ broken
+pub text_broken : (s : List ℕ) (at : ℕ) → None ≡ text_at s at → length_delimited (drop at s) ≡ broken
 text_broken s at e = go (length_delimited (drop at s)) e
   where
-    go : (o : Read (List ℕ)) → GotText.Broken ≡ got_text s o → o ≡ broken
+    go : (o : Read (List ℕ)) → None ≡ got_text s o → o ≡ broken
     go broken e₂ = refl
     go (read m r) e₂ = let z : ◌≡◌ {A = ℕ} 0 1 = cc in absurd (omega arith)
 

@@ -7,8 +7,8 @@ use Rattle.wire_probes.proofs.probes_compare.Goals as goal
 pub returns-in-Less : goal.returns-in-Less
 returns-in-Less c = ap order_number (sym c.in-Less.is ∙ c.compare.ensures)
 
-pub returns-in-Same : goal.returns-in-Same
-returns-in-Same c = ap order_number (sym c.in-Same.is ∙ c.compare.ensures)
+pub returns-in-Equal : goal.returns-in-Equal
+returns-in-Equal c = ap order_number (sym c.in-Equal.is ∙ c.compare.ensures)
 
-pub returns-in-More : goal.returns-in-More
-returns-in-More c = ap order_number (sym c.in-More.is ∙ c.compare.ensures)
+pub returns-in-Greater : goal.returns-in-Greater
+returns-in-Greater c = ap order_number (sym c.in-Greater.is ∙ c.compare.ensures)

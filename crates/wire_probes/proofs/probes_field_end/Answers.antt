@@ -4,23 +4,23 @@ use borrow.Author.Rules.{rules}
 use mathlib.Core.Path.{sym, ◌∙◌}
 use Rattle.wire_probes.proofs.probes_field_end.Goals as goal
 
-pub returns-in-Broken : goal.returns-in-Broken
-returns-in-Broken c =
+pub returns-in-None : goal.returns-in-None
+returns-in-None c =
     end_no_key c.args.s.now c.args.at
-    (sym c.in-Broken.is ∙ c.key.ensures)
+    (sym c.in-None.is ∙ c.key.ensures)
 
-pub returns-in-Broken-skip : goal.returns-in-Broken-skip
-returns-in-Broken-skip c =
+pub returns-in-None-skip : goal.returns-in-None-skip
+returns-in-None-skip c =
     end_no_value c.args.s.now
     c.args.at _ _ _
-    (sym c.in-Read.is
+    (sym c.in-Some.is
     ∙ c.key.ensures)
-    (sym c.in-Broken-skip.is ∙ c.skip.ensures)
+    (sym c.in-None-skip.is ∙ c.skip.ensures)
 
-pub returns-in-Past : goal.returns-in-Past
-returns-in-Past c =
+pub returns-in-Some-skip : goal.returns-in-Some-skip
+returns-in-Some-skip c =
     end_past c.args.s.now
     c.args.at _ _ _
-    (sym c.in-Read.is
+    (sym c.in-Some.is
     ∙ c.key.ensures) _
-    (sym c.in-Past.is ∙ c.skip.ensures)
+    (sym c.in-Some-skip.is ∙ c.skip.ensures)

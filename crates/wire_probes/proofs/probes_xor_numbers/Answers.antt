@@ -6,26 +6,26 @@ use lib.ListN.{length}
 use mathlib.Core.Path.{refl, sym, ◌∙◌}
 use Rattle.wire_probes.proofs.probes_xor_numbers.Goals as goal
 
-pub returns-in-Broken : goal.returns-in-Broken
-returns-in-Broken c =
+pub returns-in-None : goal.returns-in-None
+returns-in-None c =
     xor_breaks c.args.s.now
     c.loop-at.acc c.loop-at.at
     c.loop-at.invariant c.loop-at-test.true
-    (sym c.in-Broken.is ∙ c.number.ensures)
+    (sym c.in-None.is ∙ c.number.ensures)
 
 pub loop-at-smaller : goal.loop-at-smaller
 loop-at-smaller c =
     xor_less c.args.s.now
     c.loop-at.acc c.loop-at.at
     c.loop-at.invariant _ _
-    (sym c.in-Read.is ∙ c.number.ensures)
+    (sym c.in-Some.is ∙ c.number.ensures)
 
 pub loop-at-preserved : goal.loop-at-preserved
 loop-at-preserved c =
     xor_more c.args.s.now
     c.loop-at.acc c.loop-at.at
     c.loop-at.invariant _ _
-    (sym c.in-Read.is ∙ c.number.ensures)
+    (sym c.in-Some.is ∙ c.number.ensures)
 
 pub returns : goal.returns
 returns c =

@@ -5,8 +5,8 @@ use Rattle.alerts_text.proofs.lines.near_marker.Goals as goal
 pub marked_near-requires : goal.marked_near-requires
 marked_near-requires c = search (found_room)
 
-pub returns-in-At : goal.returns-in-At
-returns-in-At c = search (near_found)
+pub returns-in-Some : goal.returns-in-Some
+returns-in-Some c = search (near_found)
 
-pub returns-in-Nowhere : goal.returns-in-Nowhere
-returns-in-Nowhere c = search (near_nowhere)
+pub returns-in-None : goal.returns-in-None
+returns-in-None c = search (near_nowhere)

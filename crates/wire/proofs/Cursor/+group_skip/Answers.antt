@@ -14,22 +14,22 @@ use Rattle.wire.proofs.Skip.{skip_0, skip_1, skip_2, skip_5, skip_else, skip_dee
 use Rattle.wire.proofs.Skip.{group_ends, group_other, group_inner, group_more}
 use Rattle.wire.proofs.Cursor.+group_skip.Goals as goal
 
-pub group-returns-in-Broken : goal.group-returns-in-Broken
-group-returns-in-Broken t c =
+pub group-returns-in-None : goal.group-returns-in-None
+group-returns-in-None t c =
     let a = c.args in
     let l = c.loop-n in
     let s = a.s.now in
     group_broken s a.self.at l.at a.number a.depth l.invariant
-    (key_broken s l.at (sym c.in-Broken.is ∙ c.key.ensures))
+    (key_broken s l.at (sym c.in-None.is ∙ c.key.ensures))
 
 pub group-returns-then-n-number : goal.group-returns-then-n-number
 group-returns-then-n-number t c =
     let a = c.args in
     let l = c.loop-n in
     let s = a.s.now in
-    let K = key_read s l.at c.in-Read.n c.in-Read.wire c.in-Read.next
-    (sym c.in-Read.is ∙ c.key.ensures) in
-    group_ends s a.self.at l.at a.number a.depth l.invariant c.in-Read.n c.in-Read.wire c.in-Read.next.at K
+    let K = key_read s l.at c.in-Some.n c.in-Some.wire c.in-Some.next
+    (sym c.in-Some.is ∙ c.key.ensures) in
+    group_ends s a.self.at l.at a.number a.depth l.invariant c.in-Some.n c.in-Some.wire c.in-Some.next.at K
     c.if-wire-eq-EGROUP.true c.if-n-number.true
 
 pub group-returns-then-wire-eq-EGROUP : goal.group-returns-then-wire-eq-EGROUP
@@ -37,48 +37,48 @@ group-returns-then-wire-eq-EGROUP t c =
     let a = c.args in
     let l = c.loop-n in
     let s = a.s.now in
-    let K = key_read s l.at c.in-Read.n c.in-Read.wire c.in-Read.next
-    (sym c.in-Read.is ∙ c.key.ensures) in
-    group_other s a.self.at l.at a.number a.depth l.invariant c.in-Read.n c.in-Read.wire c.in-Read.next.at K
+    let K = key_read s l.at c.in-Some.n c.in-Some.wire c.in-Some.next
+    (sym c.in-Some.is ∙ c.key.ensures) in
+    group_other s a.self.at l.at a.number a.depth l.invariant c.in-Some.n c.in-Some.wire c.in-Some.next.at K
     c.if-wire-eq-EGROUP.true c.if-n-number.false
 
 pub group-skip-requires : goal.group-skip-requires
 group-skip-requires t c = (omega arith, tt)
 
-pub group-returns-in-Broken-skip : goal.group-returns-in-Broken-skip
-group-returns-in-Broken-skip t c =
+pub group-returns-in-None-skip : goal.group-returns-in-None-skip
+group-returns-in-None-skip t c =
     let a = c.args in
     let l = c.loop-n in
     let s = a.s.now in
-    let K = key_read s l.at c.in-Read.n c.in-Read.wire c.in-Read.next
-    (sym c.in-Read.is ∙ c.key.ensures) in
-    group_inner s a.self.at l.at a.number a.depth l.invariant c.in-Read.n c.in-Read.wire c.in-Read.next.at K
+    let K = key_read s l.at c.in-Some.n c.in-Some.wire c.in-Some.next
+    (sym c.in-Some.is ∙ c.key.ensures) in
+    group_inner s a.self.at l.at a.number a.depth l.invariant c.in-Some.n c.in-Some.wire c.in-Some.next.at K
     c.if-wire-eq-EGROUP.false
-    (skipped_broken s c.in-Read.next.at c.in-Read.n c.in-Read.wire a.depth
-    (sym c.in-Broken-skip.is ∙ c.skip.ensures))
+    (skipped_broken s c.in-Some.next.at c.in-Some.n c.in-Some.wire a.depth
+    (sym c.in-None-skip.is ∙ c.skip.ensures))
 
 pub group-loop-n-smaller : goal.group-loop-n-smaller
 group-loop-n-smaller t c =
     let a = c.args in
     let l = c.loop-n in
     let s = a.s.now in
-    let K = key_read s l.at c.in-Read.n c.in-Read.wire c.in-Read.next
-    (sym c.in-Read.is ∙ c.key.ensures) in
-    let Q = skipped_read s c.in-Read.next.at c.in-Read.n c.in-Read.wire a.depth c.in-Past.after
-    (sym c.in-Past.is ∙ c.skip.ensures) in
-    field_less s l.at a.depth _ c.in-Read.next.at Q.0 c.in-Past.after.at K Q.1
+    let K = key_read s l.at c.in-Some.n c.in-Some.wire c.in-Some.next
+    (sym c.in-Some.is ∙ c.key.ensures) in
+    let Q = skipped_read s c.in-Some.next.at c.in-Some.n c.in-Some.wire a.depth c.in-Some-skip.after
+    (sym c.in-Some-skip.is ∙ c.skip.ensures) in
+    field_less s l.at a.depth _ c.in-Some.next.at Q.0 c.in-Some-skip.after.at K Q.1
 
 pub group-loop-n-preserved : goal.group-loop-n-preserved
 group-loop-n-preserved t c =
     let a = c.args in
     let l = c.loop-n in
     let s = a.s.now in
-    let K = key_read s l.at c.in-Read.n c.in-Read.wire c.in-Read.next
-    (sym c.in-Read.is ∙ c.key.ensures) in
-    let Q = skipped_read s c.in-Read.next.at c.in-Read.n c.in-Read.wire a.depth c.in-Past.after
-    (sym c.in-Past.is ∙ c.skip.ensures) in
-    group_more s a.self.at l.at a.number a.depth l.invariant c.in-Read.n c.in-Read.wire c.in-Read.next.at K
-    c.if-wire-eq-EGROUP.false Q.0 c.in-Past.after.at Q.1
+    let K = key_read s l.at c.in-Some.n c.in-Some.wire c.in-Some.next
+    (sym c.in-Some.is ∙ c.key.ensures) in
+    let Q = skipped_read s c.in-Some.next.at c.in-Some.n c.in-Some.wire a.depth c.in-Some-skip.after
+    (sym c.in-Some-skip.is ∙ c.skip.ensures) in
+    group_more s a.self.at l.at a.number a.depth l.invariant c.in-Some.n c.in-Some.wire c.in-Some.next.at K
+    c.if-wire-eq-EGROUP.false Q.0 c.in-Some-skip.after.at Q.1
 
 pub skip-returns-then-depth-eq0 : goal.skip-returns-then-depth-eq0
 skip-returns-then-depth-eq0 t c =

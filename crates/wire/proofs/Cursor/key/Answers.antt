@@ -12,7 +12,7 @@ unfolding key
 returns-then-value-lt8 c =
     let a = c.args in
     let R = number_read a.s.now a.self.at _ _
-    (sym c.in-Read.is ∙ c.number.ensures) in
+    (sym c.in-Some.is ∙ c.number.ensures) in
     rw (R.same, lt-leb 8 _ c.if-value-lt8.true)
 
 pub returns-then-value-ge4294967296 : goal.returns-then-value-ge4294967296
@@ -20,22 +20,22 @@ unfolding key
 returns-then-value-ge4294967296 c =
     let a = c.args in
     let R = number_read a.s.now a.self.at _ _
-    (sym c.in-Read.is
+    (sym c.in-Some.is
     ∙ c.number.ensures) in
     rw (R.same, le-leb 8 _ c.if-value-lt8.false, le-ltb _ (2 ^ 32) c.if-value-ge4294967296.true)
 
-pub returns-in-Broken : goal.returns-in-Broken
+pub returns-in-None : goal.returns-in-None
 unfolding key
-returns-in-Broken c =
+returns-in-None c =
     let a = c.args in
-    rw (number_broken a.s.now a.self.at (sym c.in-Broken.is ∙ c.number.ensures))
+    rw (number_broken a.s.now a.self.at (sym c.in-None.is ∙ c.number.ensures))
 
 pub returns-else-value-ge4294967296 : goal.returns-else-value-ge4294967296
 unfolding key
 returns-else-value-ge4294967296 c =
     let a = c.args in
     let R = number_read a.s.now a.self.at _ _
-    (sym c.in-Read.is
+    (sym c.in-Some.is
     ∙ c.number.ensures) in
     rw (
       R.same,

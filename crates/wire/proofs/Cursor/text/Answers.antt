@@ -5,16 +5,16 @@ use Rattle.wire.specs.Laws.At.{number_read, number_broken}
 use borrow.Author.Rules.{rules}
 use Rattle.wire.proofs.Cursor.text.Goals as goal
 
-pub returns-in-Broken : goal.returns-in-Broken
+pub returns-in-None : goal.returns-in-None
 unfolding length_delimited
-returns-in-Broken c =
+returns-in-None c =
     let a = c.args in
-    rw (number_broken a.s.now a.self.at (sym c.in-Broken.is ∙ c.number.ensures))
+    rw (number_broken a.s.now a.self.at (sym c.in-None.is ∙ c.number.ensures))
 
-pub returns-in-Read : goal.returns-in-Read
+pub returns-in-Some : goal.returns-in-Some
 unfolding length_delimited
-returns-in-Read c =
+returns-in-Some c =
     let a = c.args in
     let R = number_read a.s.now a.self.at _ _
-    (sym c.in-Read.is ∙ c.number.ensures) in
+    (sym c.in-Some.is ∙ c.number.ensures) in
     rw R.same c.bytes.ensures
