@@ -20,5 +20,5 @@ pub fn unmark(met: &mut [u16])
     requires { length met.old ≡ most_marks }
     ensures { Unmarked met.new }
 {
-    slices::fill16(met, 0);
+    slices::fill(met, 0);
 }

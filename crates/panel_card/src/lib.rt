@@ -141,7 +141,7 @@ fn card_ending(
         return Ending::Refused(number);
     }
     // Whatever a caller left there.
-    slices::fill32(known, NOTHING);
+    slices::fill(known, NOTHING);
     let w = finish(old, noted, card, out, candidates, met, known);
     panel_output::ended(w, 8)
 }
@@ -151,10 +151,10 @@ fn clear_work(candidates: &mut [u16], met: &mut [u16], noted: &mut [u32], known:
         (candidates.old ∷ met.old ∷ noted.old ∷ known.old ∷ [])
         (candidates.new ∷ met.new ∷ noted.new ∷ known.new ∷ []) }
 {
-    slices::fill16(candidates, 0);
-    slices::fill16(met, 0);
-    slices::fill32(noted, 0);
-    slices::fill32(known, 0);
+    slices::fill(candidates, 0);
+    slices::fill(met, 0);
+    slices::fill(noted, 0);
+    slices::fill(known, 0);
 }
 
 // A CARD over an overlay of n bytes.

@@ -89,8 +89,8 @@ fn clear_work(keys: &mut [u8], marks: &mut [u32], order: &mut [u32])
         (keys.new ∷ marks.new ∷ order.new ∷ []) }
 {
     slices::clear(keys);
-    slices::fill32(marks, 0);
-    slices::fill32(order, 0);
+    slices::fill(marks, 0);
+    slices::fill(order, 0);
 }
 
 // A MESSAGE onto an overlay of n bytes.

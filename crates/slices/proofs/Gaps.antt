@@ -1,58 +1,29 @@
--- A value goes into a list, and what stands behind it moves one place on: step by step from the end. Assumes nothing.
+-- A value goes into a list, and what stands behind it moves one place on. Assumes nothing.
 use Prim.Native.Nat.{ℕ, suc, ◌+◌, ◌-◌, ◌≤◌, ◌<◌}
 use mathlib.Core.Path.{◌≡◌, sym, ap, ◌∙◌}
 use mathlib.Core.List.{List, [], ◌∷◌, ◌++◌, append_assoc}
-use native.Mathlib.Numerals.{add-one}
 use native.Mathlib.Omega.{arith}
-use lib.ListN.{length, get_or, take, drop, set, get_or-append, length-append, length-drop}
-use lib.Seq.{take-suc, drop-cons, split_at, set_at, get_or-take, length-take-le, take-take, take-add, take_at, drop_at}
-use lib.Seq.{drop-drop}
+use borrow.Rule.Slice.PartMut.{put_mid}
+use lib.ListN.{length, get_or, take, drop, set, length-append, length-drop, drop_of_length-le}
+use lib.Seq.{drop-cons, length-take-le, take-take, take-add, take_at, drop_at, drop-drop}
 use Rattle.slices.specs.Promises.Inserted.{inserted}
 
--- nothing has moved
-pub gap_none : (a : List ℕ) (end : ℕ) → end < length a → inserted a end end (get_or a end 0) ≡ a
-gap_none a end h =
-    let z : end - end ≡ 0 = omega arith in
-    rw (z, add-one) (sym (split_at a end 0 h))
-
--- the value at the gap
-pub gap_set : (a : List ℕ) (i end x v : ℕ) → i ≤ length a → set (inserted a i end x) i v ≡ inserted a i end v
-gap_set a i end x v h = set_at (take i a) x (take (end - i) (drop i a) ++ drop (end + 1) a) v i (length-take-le i a h)
-
--- one more has moved
-pub gap_more : (a : List ℕ) (i end x : ℕ) → i < end → end < length a
-    → set (inserted a (suc i) end x) (suc i) (get_or (inserted a (suc i) end x) i 0) ≡ inserted a i end (get_or a i 0)
-gap_more a i end x h g =
-    let read : get_or (inserted a (suc i) end x) i 0 ≡ get_or a i 0 =
-    get_or-append (take (suc i) a) (x ∷ (take (end - suc i) (drop (suc i) a) ++ drop (end + 1) a)) 0 i
-    (omega (arith, length-take-le (suc i) a (omega arith)))
-    ∙ get_or-take (suc i) a i 0 (omega arith) in
-    let n : end - i ≡ suc (end - suc i) = omega arith in
-    rw (
-      read,
-      gap_set a (suc i) end x (get_or a i 0) (omega arith),
-      take-suc a i 0 (omega arith),
-      append_assoc,
-      n,
-      drop-cons a i 0 (omega arith),
-    )
-
--- a turn of the loop, and its end
-module _ (a₀ a : List ℕ) (end : ℕ) (h : end < length a₀) where
-  pub gap_turn : (i : ℕ) → 0 < i → i ≤ end → a ≡ inserted a₀ i end (get_or a₀ i 0)
-      → set a i (get_or a (i - 1) 0) ≡ inserted a₀ (i - 1) end (get_or a₀ (i - 1) 0)
-  gap_turn i p q e = go (i - 1) (omega arith) e
-    where
-      go : (j : ℕ) → i ≡ suc j → a ≡ inserted a₀ i end (get_or a₀ i 0)
-          → set a i (get_or a j 0) ≡ inserted a₀ j end (get_or a₀ j 0)
-      go j s e = rw (e, s) (gap_more a₀ j end (get_or a₀ (suc j) 0) (omega arith) h)
-
-  pub gap_filled : (at i v : ℕ) → at ≤ i → i ≤ at → i ≤ end → a ≡ inserted a₀ i end (get_or a₀ i 0)
-      → set a at v ≡ inserted a₀ at end v
-  gap_filled at i v p q r e =
-      let s : i ≡ at = omega arith in
-      ap (λ x. set x at v) (e ∙ ap (λ j. inserted a₀ j end (get_or a₀ j 0)) s)
-      ∙ gap_set a₀ at end (get_or a₀ at 0) v (omega arith)
+-- what goes round by one place, the last to the front, and is overwritten there
+pub gap_turned : (a m r : List ℕ) (at end v : ℕ) → at ≤ end → end < length a → m ≡ take (end + 1 - at) (drop at a)
+    → r ≡ drop (length m - 1) m ++ take (length m - 1) m
+    → put_mid at (end + 1 - at) a (set r 0 v) ≡ inserted a at end v
+gap_turned a m r at end v h g e f =
+    let n : length m ≡ end + 1 - at =
+    ap length e ∙ length-take-le (end + 1 - at) (drop at a) (omega (arith, length-drop at a)) in
+    let k : length m - 1 ≡ end - at = omega arith in
+    let all : length m ≤ suc (end - at) = omega arith in
+    let last : drop (end - at) m ≡ get_or m (end - at) 0 ∷ [] =
+    drop-cons m (end - at) 0 (omega arith) ∙ ap (λ l. get_or m (end - at) 0 ∷ l) (drop_of_length-le m all) in
+    let front : take (end - at) m ≡ take (end - at) (drop at a) =
+    ap (take (end - at)) e ∙ take-take (end - at) (end + 1 - at) (drop at a) (omega arith) in
+    let turned : set r 0 v ≡ v ∷ take (end - at) (drop at a) = rw (f, k, last, front) in
+    let to : at + (end + 1 - at) ≡ end + 1 = omega arith in
+    rw (turned, drop-drop (end + 1 - at) at a, to)
 
 -- the first places, one more than before
 pub gap_front : (a : List ℕ) (r n v : ℕ) → r ≤ n → n < length a

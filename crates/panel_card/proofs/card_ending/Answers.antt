@@ -35,7 +35,7 @@ pub finish-w-requires-clause-card_nonzero : goal.finish-w-requires-clause-card_n
 finish-w-requires-clause-card_nonzero c =
     let a = c.args in (
       card_begins a.old.now a.card.now c.asked-number.ensures.value c.if-number-ne0.false,
-      nothing_known a.known.now c.fill32.ensures,
+      nothing_known a.known.now c.fill.ensures,
     )
 
 pub returns : goal.returns

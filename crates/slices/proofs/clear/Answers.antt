@@ -1,22 +1,18 @@
--- `slices::clear` meets its contract: block after block, by the law of every fill. Assumes nothing.
-use Prim.Native.Nat.{◌-◌, ◌+◌}
-use Rattle.slices.proofs.Filled.{Filled, filled_none, filled_block, filled_all}
-use borrow.Author.Rules.{rules}
+-- `slices::clear` meets its contract: block after block. Assumes nothing.
+use Prim.Native.Nat.{◌+◌, ◌*◌, ◌/◌}
+use mathlib.Core.Path.{◌≡◌}
+use native.Mathlib.Omega.{arith}
 use lib.ListN.{length}
+use Rattle.slices.proofs.Filled.{filled_block, filled_all}
 use Rattle.slices.proofs.clear.Goals as goal
 
-pub loop-s-init : goal.loop-s-init
-loop-s-init c = filled_none _ 0
-
-pub loop-s-preserved : goal.loop-s-preserved
-loop-s-preserved c =
-    filled_block c.loop-s.invariant
-    (c.loop-s.at + 256) _ (search rules) (search rules)
-    c.clear_block.ensures
+pub loop-k-preserved : goal.loop-k-preserved
+loop-k-preserved c =
+    let e : 256 * (c.loop-k.k + 1) ≡ 256 * c.loop-k.k + 256 = omega arith in
+    rw e (filled_block c.loop-k.invariant (256 * c.loop-k.k + 256) _ (omega arith) (omega arith) c.clear_block.ensures)
 
 pub returns : goal.returns
 returns c =
-    filled_all
-    (filled_block c.loop-s.invariant
-    (length c.loop-s.s) _ (search rules) (search rules)
-    c.clear_block-2.ensures) (search rules)
+    let e : c.loop-k.k ≡ length c.args.s.now / 256 = omega arith in
+    let F = rw e at c.loop-k.invariant in
+    filled_all (filled_block F (length c.loop-k.s) _ (omega arith) (omega arith) c.clear_block-2.ensures) (omega arith)

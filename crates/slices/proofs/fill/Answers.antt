@@ -1,15 +1,7 @@
--- `slices::fill` meets its contract, by the law of every fill. Assumes nothing.
-use Prim.Native.Nat.{◌-◌}
-use Rattle.slices.proofs.Filled.{Filled, filled_none, filled_more, filled_all}
+-- `slices::fill` meets its contract: the first elements have become x. Assumes nothing.
 use borrow.Author.Rules.{rules}
-use lib.ListN.{length}
+use Rattle.slices.proofs.Filled.{filled_more}
 use Rattle.slices.proofs.fill.Goals as goal
 
-pub loop-i-init : goal.loop-i-init
-loop-i-init c = filled_none _ _
-
-pub loop-i-preserved : goal.loop-i-preserved
-loop-i-preserved c = filled_more c.loop-i.invariant (search rules)
-
-pub returns : goal.returns
-returns c = filled_all c.loop-i.invariant (search rules)
+pub loop-y-preserved : goal.loop-y-preserved
+loop-y-preserved g c = filled_more c.loop-y.invariant (search rules)

@@ -1,12 +1,6 @@
--- `slices::fill` meets its contract, by the law of every fill. Assumes nothing.
-use Prim.Native.Nat.{◌-◌}
-use Rattle.slices.proofs.Filled.{Filled, filled_none, filled_more, filled_all}
-use borrow.Author.Rules.{rules}
-use lib.ListN.{length}
+-- `slices::fill` meets its contract: the first elements have become x. Assumes nothing.
+use Rattle.slices.proofs.Filled.{Filled}
 use Rattle.slices.proofs.fill.Given as goal
 
-abbrev pub invariant-loop-i : goal.invariant-loop-i
-invariant-loop-i l = Filled l.initial.s l.x l.i l.s
-
-abbrev pub decreases-loop-i : goal.decreases-loop-i
-decreases-loop-i l = length l.initial.s - l.i
+abbrev pub invariant-loop-y : goal.invariant-loop-y
+invariant-loop-y g l = Filled l.initial.y-items l.x l.y-index l.y-items

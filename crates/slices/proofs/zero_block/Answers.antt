@@ -1,22 +1,16 @@
--- `slices::zero_block` meets its contract: the OR of the bytes passed and the bytes left decide. Assumes nothing.
-use Prim.Native.Nat.{◌-◌, ◌≤◌}
-use Rattle.slices.proofs.Zero.{or_more, or_end}
-use Rattle.slices.specs.Lists.{zeros}
-use borrow.Author.Rules.{rules}
+-- `slices::zero_block` meets its contract: the OR of all is 0 where all are. Assumes nothing.
+use mathlib.Core.Path.{ap, ◌∙◌}
+use lib.Bits.{bit_or}
 use lib.Dec.{eqb}
-use lib.ListN.{length, drop}
-use mathlib.Core.Bool.{◌&&◌}
-use mathlib.Core.Path.{◌≡◌, refl}
+use Rattle.std.proofs.Common.{rules}
+use borrow.Author.Tests.{tests}
+use Rattle.std.proofs.lemmas.Iterator.{YieldsList-from_slice}
+use Rattle.std.proofs.lemmas.Iterator.Consumers.{fold_from_yields_List}
+use Rattle.slices.proofs.Zero.{or_all}
 use Rattle.slices.proofs.zero_block.Goals as goal
-
-pub loop-i-preserved : goal.loop-i-preserved
-loop-i-preserved c = (
-  search rules,
-  or_more c.args.s.now c.loop-i.acc c.loop-i.i
-      (search rules) c.loop-i.invariant.1,
-)
 
 pub returns : goal.returns
 returns c =
-    or_end c.args.s.now c.loop-i.acc c.loop-i.i (search rules)
-    c.loop-i.invariant.1
+    ap (λ n. eqb n 0) (fold_from_yields_List _ bit_or 0 c.fold.result c.fold.ensures.ran
+    (YieldsList-from_slice c.args.s.now cc) (λ a x b q k. search (rules, tests)))
+    ∙ or_all 0 c.args.s.now
