@@ -16,68 +16,47 @@ struct Due {
 }
 
 impl Due {
-    // Bytes that only go on.
-    fn trail(more: u64) -> Self
-        ensures { result ≡ record { more = more; low = 0x80; high = 0xBF } }
+    fn new(more: u64, low: u8, high: u8) -> Self
+        ensures { result ≡ record { more = more; low = low; high = high } }
     {
-        Due {
-            more,
-            low: 0x80,
-            high: 0xBF,
-        }
+        Due { more, low, high }
     }
 }
 
 // What is due after a first byte: the rest of its row in the table.
-// Kept: a `match` on the ranges becomes look-ups, and takes a quarter longer.
+// Kept: a `match` on the ranges becomes look-ups, and takes a quarter longer on short texts.
 fn lead(b: u8) -> Option<Due>
     ensures { due_of result ≡ due utf8_rows b }
 {
     if b < 0x80 {
-        return Some(Due::trail(0));
+        return Some(Due::new(0, 0x80, 0xBF));
     }
     if b < 0xC2 {
         return None;
     }
     if b < 0xE0 {
-        return Some(Due::trail(1));
+        return Some(Due::new(1, 0x80, 0xBF));
     }
     if b == 0xE0 {
-        return Some(Due {
-            more: 2,
-            low: 0xA0,
-            high: 0xBF,
-        });
+        return Some(Due::new(2, 0xA0, 0xBF));
     }
     if b < 0xED {
-        return Some(Due::trail(2));
+        return Some(Due::new(2, 0x80, 0xBF));
     }
     if b == 0xED {
-        return Some(Due {
-            more: 2,
-            low: 0x80,
-            high: 0x9F,
-        });
+        return Some(Due::new(2, 0x80, 0x9F));
     }
     if b < 0xF0 {
-        return Some(Due::trail(2));
+        return Some(Due::new(2, 0x80, 0xBF));
     }
     if b == 0xF0 {
-        return Some(Due {
-            more: 3,
-            low: 0x90,
-            high: 0xBF,
-        });
+        return Some(Due::new(3, 0x90, 0xBF));
     }
     if b < 0xF4 {
-        return Some(Due::trail(3));
+        return Some(Due::new(3, 0x80, 0xBF));
     }
     if b == 0xF4 {
-        return Some(Due {
-            more: 3,
-            low: 0x80,
-            high: 0x8F,
-        });
+        return Some(Due::new(3, 0x80, 0x8F));
     }
     None
 }
@@ -92,7 +71,7 @@ fn step(due: Due, b: u8) -> Option<Due>
     if b < due.low || due.high < b {
         return None;
     }
-    Some(Due::trail(due.more - 1))
+    Some(Due::new(due.more - 1, 0x80, 0xBF))
 }
 
 // Whether each byte is from `low` to `high`. With no early end, so that the compiler makes one comparison of a block.
@@ -111,7 +90,7 @@ fn all_within(v: &[u8], low: u8, high: u8) -> bool
 fn utf8(v: &[u8]) -> bool
     ensures { result ≡ sequences v.now [] }
 {
-    let mut due = Due::trail(0);
+    let mut due = Due::new(0, 0x80, 0xBF);
     let mut i = 0;
     while i < v.len() {
         if due.more == 0 && 8 <= v.len() - i && all_within(&v[i..i + 8], 0, 127) {
