@@ -7,14 +7,14 @@ ghost use Rattle.calendar.specs.Civil.{leap_day, year_of, month_of, last_sunday}
 ghost use Rattle.calendar.specs.Paris.{is_summer, offset_at, paris_day, paris_date, digit_of, digits_of, paris_digits};
 
 // A day of a year, the first being 0.
-#[derive(Drop)]
+#[derive(Clone, Copy)]
 pub struct YearDay {
     pub year: u64,
     pub day: u64,
 }
 
 // Months and days are counted from 1.
-#[derive(Drop)]
+#[derive(Clone, Copy, PartialEq, Eq, PartialOrd, Ord)]
 pub struct Date {
     pub year: u64,
     pub month: u64,
@@ -22,38 +22,32 @@ pub struct Date {
 }
 
 // 1 in a leap year, else 0.
+#[tactic(auto, unfolding(crate::specs::Civil::leap_day))]
 fn leap_day(year: u64) -> u64
-    ensures { result ≡ leap_day year }
+    ensures value { result ≡ leap_day year }
+    ensures small { result ≤ 1 }
 {
-    if year % 400 == 0 {
-        return 1;
-    }
-    if year % 100 == 0 {
-        return 0;
-    }
-    if year % 4 == 0 {
-        return 1;
-    }
-    0
+    u64::from(year % 400 == 0 || year % 100 != 0 && year % 4 == 0)
 }
 
 // The year of the day n days after 1 January 1970.
 fn year_of(n: u64) -> YearDay
-    ensures { result ≡ year_of n }
+    ensures value { result ≡ year_of n }
+    ensures within { result.day ≤ n }
 {
-    let mut year = 1970 + n / 146097 * 400;
+    let first = 1970 + n / 146097 * 400;
     let mut day = n % 146097;
-    let mut left: u64 = 400;
-    while left != 0 {
+    for year in first..first + 400 {
         let days = 365 + leap_day(year);
         if day < days {
             return YearDay { year, day };
         }
         day -= days;
-        year += 1;
-        left -= 1;
     }
-    YearDay { year, day }
+    YearDay {
+        year: first + 400,
+        day,
+    }
 }
 
 // The month and the day of the month of a day of a year.
@@ -62,19 +56,17 @@ fn month_of(at: YearDay) -> Date
 {
     let year = at.year;
     let february = 28 + leap_day(year);
-    let days: [u64; 12] = [31, february, 31, 30, 31, 30, 31, 31, 30, 31, 30, 31];
+    let months = [31, february, 31, 30, 31, 30, 31, 31, 30, 31, 30, 31];
     let mut day = at.day;
-    let mut month: usize = 0;
-    while month < 12 {
-        if day < days[month] {
+    for month in 0..12 {
+        if day < months[month] {
             return Date {
                 year,
                 month: month as u64 + 1,
                 day: day + 1,
             };
         }
-        day -= days[month];
-        month += 1;
+        day -= months[month];
     }
     Date {
         year,
@@ -92,6 +84,7 @@ fn last_sunday(n: u64) -> u64
 }
 
 // Whether the clocks of Paris are two hours ahead at s.
+#[tactic(auto, unfolding(crate::specs::Paris::is_summer))]
 fn summer(s: u64) -> bool
     ensures { result ≡ is_summer s }
 {
@@ -105,16 +98,13 @@ fn summer(s: u64) -> bool
         return false;
     }
     let day = (s - 3600) / 86400;
-    (march <= day) & (day < october)
+    (march..october).contains(&day)
 }
 
 pub fn offset(s: u64) -> u64
     ensures { result ≡ offset_at s }
 {
-    if summer(s) {
-        return 7200;
-    }
-    3600
+    if summer(s) { 7200 } else { 3600 }
 }
 
 // The day in Paris at s. The offset goes to the seconds of the day, so that no sum is too large.

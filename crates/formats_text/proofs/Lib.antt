@@ -1,5 +1,2 @@
 -- What the proofs of several functions use.
-pub mod Leads
-pub mod Bytewise
-pub mod Spans
-pub mod Printable
+pub mod Bytes

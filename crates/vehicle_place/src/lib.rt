@@ -1,52 +1,39 @@
-// A vehicle's place by value: latitude, longitude and when it was told. Floats are handed on bit for bit. The
-// language has no bits of a NaN, so a coordinate is a float, or the pattern of a NaN: together they carry all 2^64
-// patterns.
+// A vehicle's place by value: latitude, longitude and when it was told. Floats are handed on bit for bit.
 #![tactic(auto)]
 
-ghost use Rattle.std.specs.Prelude.{◌≡◌, T, not};
-ghost use Rattle.std.specs.Float.{binary64};
-ghost use Rattle.std.specs.Float.Ieee.{is_nan, nan_bits, of_bits, to_bits};
+ghost use Rattle.std.specs.Prelude.{◌≡◌};
 ghost use Rattle.formats_write.specs.Promises.Adds.{Adds};
 ghost use Rattle.vehicle_place.specs.Promises.Coordinates.{coordinate_of, bits_of};
 ghost use Rattle.vehicle_place.specs.Promises.Place.{ReadsPlace, place_w};
 
+use std::num::{f64_from_bits_with_nan, f64_to_bits_with_nan};
 
-#[derive(Drop)]
+// A float, or the pattern of a NaN, whose bits no float here has: together they carry all 2^64 patterns.
+#[derive(Clone, Copy)]
 pub enum Coordinate {
     Number(f64),
     NaN(u64),
 }
 
-#[derive(Drop)]
+#[derive(Clone, Copy)]
 pub struct VehiclePlace {
     pub latitude: Coordinate,
     pub longitude: Coordinate,
     pub updated: i64,
 }
 
-fn of_pattern(n: u64) -> f64
-    requires { T (not (nan_bits binary64 n)) }
-    ensures { result ≡ of_bits binary64 n }
-{
-    f64::from_bits(n)
-}
-
-fn pattern_of(x: f64) -> u64
-    requires { T (not (is_nan x)) }
-    ensures { result ≡ to_bits binary64 x }
-{
-    f64::to_bits(x)
-}
-
 impl Coordinate {
-    // The coordinate of 64 bits: a NaN's pattern has all ones in the exponent, and digits behind it.
+    // The coordinate of 64 bits.
+    #[tactic(auto, using(crate::proofs::Laws::is_pattern))]
     pub fn from_bits(n: u64) -> Self
         ensures { result ≡ coordinate_of n }
     {
-        if 0x7ff0000000000000 < n % 0x8000000000000000 {
-            return Coordinate::NaN(n);
+        let x = f64_from_bits_with_nan(n);
+        if x.is_nan() {
+            Coordinate::NaN(n)
+        } else {
+            Coordinate::Number(x)
         }
-        Coordinate::Number(of_pattern(n))
     }
 
     // The 64 bits of a coordinate.
@@ -54,12 +41,7 @@ impl Coordinate {
         ensures { result ≡ bits_of self }
     {
         match self {
-            Coordinate::Number(x) => {
-                if x != x {
-                    return 0x7ff8000000000000;
-                }
-                pattern_of(x)
-            }
+            Coordinate::Number(x) => f64_to_bits_with_nan(x),
             Coordinate::NaN(n) => n,
         }
     }
@@ -80,9 +62,9 @@ pub fn read(s: &[u8], latitude: usize, longitude: usize, updated: usize) -> Vehi
 pub fn write(out: &mut [u8], w: Option<usize>, v: VehiclePlace) -> Option<usize>
     ensures { Adds out.old w out.new result (place_w v) }
 {
-    let latitude = v.latitude;
-    let longitude = v.longitude;
-    let w1 = formats_write::optional_float(out, w, Some(latitude.to_bits()));
-    let w2 = formats_write::optional_float(out, w1, Some(longitude.to_bits()));
+    let latitude = v.latitude.to_bits();
+    let longitude = v.longitude.to_bits();
+    let w1 = formats_write::optional_float(out, w, Some(latitude));
+    let w2 = formats_write::optional_float(out, w1, Some(longitude));
     formats_write::optional_signed(out, w2, Some(v.updated))
 }

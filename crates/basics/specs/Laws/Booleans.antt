@@ -1,6 +1,6 @@
 -- Law. `&&` and `||` as they are joined, and what a test that is true says.
-use Rattle.std.specs.Prelude.{◌≡◌, refl, ◌⊎◌, Bool, true, false, cond, not, ◌&&◌, ◌||◌, ℕ}
-use Rattle.std.proofs.Common.{sym, ◌∙◌, inl, inr, arith}
+use Rattle.std.specs.Prelude.{◌≡◌, refl, ◌⊎◌, Bool, true, false, cond, not, ◌&&◌, ◌||◌}
+use Rattle.std.proofs.Common.{sym, ◌∙◌, inl, inr}
 
 pub or_false : (x : Bool) → x || false ≡ x
 or_false true = refl
@@ -35,7 +35,7 @@ and_no true = refl
 and_no false = refl
 
 pub false_true : {C : Type 0} → false ≡ true → C
-false_true e = absurd (let z : ◌≡◌ {A = ℕ} 0 1 = cc in omega arith)
+false_true e = absurd cc
 
 pub or_true : (x y : Bool) → x || y ≡ true → (x ≡ true) ⊎ (y ≡ true)
 or_true true y e = inl refl
@@ -78,4 +78,4 @@ both_ways false false h k = refl
 
 pub both_true : (a b : Bool) → a && b ≡ true → (a ≡ true) × (b ≡ true)
 both_true true b e = (refl, e)
-both_true false b e = absurd (let z : ◌≡◌ {A = ℕ} 0 1 = cc in omega arith)
+both_true false b e = absurd cc

@@ -1,27 +1,13 @@
--- `calendar::year_of` meets its contract: what is left decides, year after year. Assumes nothing.
-use Rattle.calendar.proofs.Counting.{Years, years_none, years_more, year_here, year_last, leap_small}
-use borrow.Author.Rules.{rules}
-use native.Mathlib.Omega.{arith}
+-- `calendar::year_of` meets its contract: what is left decides, year after year.
+use Rattle.std.proofs.Common.{rules}
+use Rattle.calendar.proofs.Counting.{year_here, years_more, years_last}
 use Rattle.calendar.proofs.year_of.Goals as goal
 
-pub loop-left-init : goal.loop-left-init
-loop-left-init c = years_none _ _
+pub returns-then-day-days-clause-value : goal.returns-then-day-days-clause-value
+returns-then-day-days-clause-value c = search (rules, year_here)
 
-pub overflow_add-days : goal.overflow_add-days
-overflow_add-days c = omega (arith, c.leap_day-days.ensures, leap_small c.loop-left.year)
+pub loop-year-preserved : goal.loop-year-preserved
+loop-year-preserved c = search (rules, years_more)
 
-pub returns-then-day-days : goal.returns-then-day-days
-returns-then-day-days c =
-    year_here c.loop-left.invariant c.leap_day-days.ensures
-    c.loop-left-test.true c.if-day-days.true
-
-pub overflow_add-year-in-loop-left : goal.overflow_add-year-in-loop-left
-overflow_add-year-in-loop-left c = omega (arith, c.loop-left.invariant.near)
-
-pub loop-left-preserved : goal.loop-left-preserved
-loop-left-preserved c =
-    years_more c.loop-left.invariant c.leap_day-days.ensures
-    c.loop-left-test.true c.if-day-days.false
-
-pub returns : goal.returns
-returns c = year_last c.loop-left.invariant c.loop-left-test.false
+pub returns-clause-value : goal.returns-clause-value
+returns-clause-value c = search (rules, years_last)

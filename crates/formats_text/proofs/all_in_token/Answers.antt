@@ -1,14 +1,13 @@
 -- `formats_text::all_in_token` meets its contract.
-use native.Mathlib.Omega.{arith}
-use borrow.Author.Tests.{not-true, not-false}
-use Rattle.formats_text.proofs.Bytewise.{all_end, all_stop, all_more}
+use Rattle.std.proofs.Common.{◌∙◌, rules, tests}
+use Rattle.std.proofs.lemmas.Iterator.{YieldsList-from_slice}
+use Rattle.std.proofs.lemmas.Iterator.Search.{all_from_yields_List}
+use Rattle.formats.specs.Class.{token, allowed}
+use Rattle.formats_text.proofs.Bytes.{all_is}
 use Rattle.formats_text.proofs.all_in_token.Goals as goal
 
-pub returns-then-not-in_token : goal.returns-then-not-in_token
-returns-then-not-in_token c = search (all_stop, not-true)
-
-pub loop-i-preserved : goal.loop-i-preserved
-loop-i-preserved c = (omega arith, search (all_more, not-false))
-
 pub returns : goal.returns
-returns c = search all_end
+returns c =
+    all_from_yields_List (allowed token) _ _ _ c.all.ensures.ran (YieldsList-from_slice c.args.v.now cc)
+    (λ x b q k. search (rules, tests))
+    ∙ all_is (allowed token) c.args.v.now

@@ -1,11 +1,11 @@
 -- `formats_text::all_printable` meets its contract.
-use Prim.Native.Nat.{◌-◌, ◌≤◌}
-use lib.ListN.{length}
-use Rattle.formats_text.proofs.Printable.{Passed}
+use Rattle.std.proofs.Common.{length}
+use Rattle.formats_text.proofs.Bytes.{Passed}
+use Rattle.formats.specs.Class.{printable, allowed}
 use Rattle.formats_text.proofs.all_printable.Given as goal
 
-abbrev pub invariant-loop-i : goal.invariant-loop-i
-invariant-loop-i l = (l.i ≤ length l.v) × Passed l.v l.i
+abbrev pub invariant-loop-block : goal.invariant-loop-block
+invariant-loop-block l = Passed (allowed printable) l.v l.left
 
-abbrev pub decreases-loop-i : goal.decreases-loop-i
-decreases-loop-i l = length l.v - l.i
+abbrev pub decreases-loop-block : goal.decreases-loop-block
+decreases-loop-block l = length l.left

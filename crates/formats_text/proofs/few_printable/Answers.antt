@@ -1,24 +1,18 @@
 -- `formats_text::few_printable` meets its contract.
-use borrow.Author.Rules.{rules}
-use native.Mathlib.Omega.{arith}
-use Rattle.formats_text.proofs.Printable.{passed_start, passed_end, both_fours}
-use Rattle.formats_text.proofs.Printable.{passed_low, passed_high, passed_one}
+use Rattle.std.proofs.Common.{◌∙◌, rules, tests, arith}
+use Rattle.std.proofs.lemmas.Iterator.{YieldsList-from_slice}
+use Rattle.std.proofs.lemmas.Iterator.Search.{all_from_yields_List}
+use Rattle.formats.specs.Class.{printable, allowed}
+use Rattle.formats_text.proofs.Bytes.{all_is, both_ends}
 use Rattle.formats_text.proofs.few_printable.Goals as goal
 
 pub returns-then-v-ge4 : goal.returns-then-v-ge4
-returns-then-v-ge4 c = search both_fours
+returns-then-v-ge4 c =
+    both_ends (allowed printable) 4 c.args.v.now (omega arith)
+    c.all_within.ensures c.all_within-then-v-ge4.ensures
 
-pub loop-i-init : goal.loop-i-init
-loop-i-init c = (search rules, search passed_start)
-
-pub returns-then-b-lt32 : goal.returns-then-b-lt32
-returns-then-b-lt32 c = search passed_low
-
-pub returns-then-b-gt126 : goal.returns-then-b-gt126
-returns-then-b-gt126 c = search passed_high
-
-pub loop-i-preserved : goal.loop-i-preserved
-loop-i-preserved c = (omega arith, search passed_one)
-
-pub returns : goal.returns
-returns c = search passed_end
+pub returns-else-v-ge4 : goal.returns-else-v-ge4
+returns-else-v-ge4 c =
+    all_from_yields_List (allowed printable) _ _ _ c.all.ensures.ran (YieldsList-from_slice c.args.v.now cc)
+    (λ x b q k. search (rules, tests))
+    ∙ all_is (allowed printable) c.args.v.now

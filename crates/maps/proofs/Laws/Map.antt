@@ -1,6 +1,6 @@
 -- Law. Laws of maps: what is got after a put, the order that a put keeps, equality by what is got, and walks over
 -- entries both ways.
-use Rattle.std.specs.Prelude.{ℕ, suc, ◌+◌, ◌≤◌, ◌≡◌, refl, true, List, [], ◌∷◌, ◌++◌, length}
+use Rattle.std.specs.Prelude.{suc, ◌+◌, ◌≤◌, ◌≡◌, refl, true, List, [], ◌∷◌, ◌++◌, length}
 use Rattle.std.proofs.Common.{sym, ap, ◌∙◌, arith}
 use Rattle.std.proofs.Math.Option.{Option, none, some}
 use Rattle.std.specs.declared.cmp.Ordering.{Ordering}
@@ -32,8 +32,8 @@ module _ {K : Type 0} (O : Ordered K) {A : Type 0} where
 
 pub is_less_means : (o : Ordering) → is_less o ≡ true → o ≡ Less
 is_less_means Less e = refl
-is_less_means Equal e = absurd (let z : ◌≡◌ {A = ℕ} 0 1 = cc in omega arith)
-is_less_means Greater e = absurd (let z : ◌≡◌ {A = ℕ} 0 1 = cc in omega arith)
+is_less_means Equal e = absurd cc
+is_less_means Greater e = absurd cc
 
 unsome : {A : Type 0} {a b : A} → some a ≡ some b → a ≡ b
 unsome e = cc

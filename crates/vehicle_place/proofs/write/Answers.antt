@@ -10,6 +10,6 @@ returns c =
     let f : SFits w64 c.args.v.updated = search rules in
     Laws.place_out
     c.args.v
-    c.to_bits.ensures c.to_bits-2.ensures f
+    c.to_bits-latitude.ensures c.to_bits-longitude.ensures f
     c.optional_float-w1.ensures c.optional_float-w2.ensures
     c.optional_signed.ensures
