@@ -2,6 +2,7 @@
 use Rattle.std.specs.Prelude.{◌≡◌, refl, true, false, List, [], ◌∷◌, ℕ, length, take, Option, Some, None}
 use Rattle.std.proofs.Common.{sym, arith}
 use Rattle.std.proofs.Math.Path.{ap}
+use Rattle.std.proofs.lemmas.Option.{some_pair_parts}
 use Rattle.std.proofs.Math.Option.{Option as LogicOption, none}
 use Rattle.basics.specs.Lists.{is_empty}
 use Rattle.basics.specs.Options.{or_else, bind_o}
@@ -21,7 +22,7 @@ use Rattle.overlay_resolve.specs.Laws.Shown.{shown_some, shown_none}
 
 found_at : {b : List ℕ} {p e : ℕ} {o : LogicOption FeedTrip} → ResolvedAt b p e o → FoundIn b o (Some (p, e))
 found_at {b} {p} {e} R = record {
-  found = λ q d h. let x : p ≡ q = cc in let y : e ≡ d = cc in rw (x, y) at R;
+  found = λ q d h. let k = some_pair_parts p q e d h in rw (k.0, k.1) at R;
   missing = λ h. absurd (let z : ◌≡◌ {A = ℕ} 0 1 = cc in omega arith);
 }
 
