@@ -1,5 +1,4 @@
-// States and cards as a person reads them. Each function writes what stands at a place and answers the place past it;
-// they are total, and write something also where nothing stands.
+// States and cards as a person reads them. What is read is total, and something is written also where nothing stands.
 #![tactic(auto)]
 
 pub mod parts; // numbers, texts, times, and what may be absent
