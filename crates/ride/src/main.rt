@@ -18,7 +18,7 @@ fn play(rt: &(impl Runtime + AllocGlobal), words: &[Word]) -> io::Result<()> {
     panel_report::fresh(ROOM, &mut old);
     let mut at = 1;
     for _ in words {
-        let (step, next) = Step::at(words, at);
+        let (step, next) = Step::parse(words, at);
         if step.play(rt, &old, &mut new)? {
             mem::swap(&mut old, &mut new);
         }

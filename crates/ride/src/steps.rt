@@ -132,21 +132,21 @@ fn show_card(rt: &(impl Runtime + AllocGlobal), file: Option<&Word>, old: &[u8])
 
 impl<'a> Step<'a> {
     // The step whose first word is the word `at`, and where the next one begins.
-    pub fn at(words: &'a [Word], at: usize) -> (Self, usize) {
-        let file = |k| words.get(later(at, k));
-        let text = |k| words::bytes(file(k));
+    pub fn parse(words: &'a [Word], at: usize) -> (Self, usize) {
+        let word = |k| words.get(later(at, k));
+        let text = |k| words::bytes(word(k));
         match text(0) {
             b"message" => (
                 Step::Message {
                     feed: text(1),
-                    file: file(2),
+                    file: word(2),
                 },
                 later(at, 3),
             ),
             b"alerts" => (
                 Step::Alerts {
                     feed: text(1),
-                    file: file(2),
+                    file: word(2),
                 },
                 later(at, 3),
             ),
@@ -154,14 +154,14 @@ impl<'a> Step<'a> {
                 Step::Vehicles {
                     feed: text(1),
                     clock: words::decimal(text(2)),
-                    file: file(3),
+                    file: word(3),
                 },
                 later(at, 4),
             ),
-            b"card" => (Step::Card { file: file(1) }, later(at, 2)),
+            b"card" => (Step::Card { file: word(1) }, later(at, 2)),
             b"records" => (Step::Records, later(at, 1)),
             [] => (Step::Nothing, later(at, 1)),
-            word => (Step::Unknown(word), later(at, 1)),
+            other => (Step::Unknown(other), later(at, 1)),
         }
     }
 

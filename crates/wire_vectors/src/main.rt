@@ -3,8 +3,8 @@
 //   n BYTES = VALUE 0 NEXT         a number         k BYTES = NUMBER WIRE NEXT   a key
 //   t BYTES = START LENGTH NEXT    a text           f BYTES = 0 0 NEXT           a field, passed over
 // or '!' behind the bytes, where they are broken. All numbers are hexadecimal, and one space stands between two
-// words. A line that begins with '#' says what follows. What the reader answers is proved in `wire`; here only the
-// places in a line are, so most functions have no `ensures`.
+// words. A line that begins with '#' says what follows. What the reader answers is proved in `wire`; the functions here
+// promise nothing of what they read, so they have no `ensures`.
 #![tactic(auto)]
 
 use std::alloc::{AllocError, Global};
