@@ -25,7 +25,8 @@ pub fn read_at_most<R: Read>(alloc: Global, reader: &mut R, limit: usize) -> io:
 }
 
 // Reads until `buf` is full or the input ends, and answers how many bytes stand at the start of `buf`: the next ones
-// of the reader, and all that it has left where they do not fill `buf`.
+// of the reader, and all that it has left where they do not fill `buf`. The loop goes by the place: `read_exact` of
+// the library promises no count where the input ends early, and `read_to_end` takes no slice.
 pub fn read_full<R: Read>(reader: &mut R, buf: &mut [u8]) -> io::Result<usize>
     ensures count { IfOk result (λ n. IsPrefixLen n buf.new) }
     ensures bytes { IfOk result (λ n. Consumes (R.remaining reader.old) (R.remaining reader.new) (take n buf.new)) }

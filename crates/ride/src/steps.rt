@@ -51,7 +51,7 @@ pub enum Step<'a> {
     Nothing,
 }
 
-// The k-th word behind the word `at`. No command line has so many words that this stops short.
+// The k-th word behind the word `at`. A place and no iterator: a ride stands still at its word 65536, as it always did.
 fn later(at: usize, k: usize) -> usize {
     if at < 65536 { at.saturating_add(k) } else { at }
 }
