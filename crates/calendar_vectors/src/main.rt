@@ -5,68 +5,47 @@
 // read, so they have no `ensures`.
 #![tactic(auto)]
 
-ghost use Rattle.std.specs.Prelude.{◌+◌, ◌≤◌, length};
+ghost use Rattle.std.specs.Prelude.{◌≡◌, length};
 
 use std::io;
 
-// The value of a decimal digit.
-fn digit(c: u8) -> u64 {
-    (c % 16) as u64
-}
+// How long a line is.
+const LINE: usize = 20;
 
-// The number in the ten digits from `at` on.
-fn seconds(s: &[u8], at: usize) -> u64
-    requires { at + 10 ≤ length s.now }
+// The number in a line's first ten digits.
+fn seconds(line: &[u8]) -> u64
+    requires { length line.now ≡ LINE }
 {
-    let mut n: u64 = 0;
-    let mut i = 0;
-    while i < 10 {
-        n = n % 1000000000 * 10 + digit(s[at + i]) % 10;
-        i += 1;
+    let mut n = 0;
+    for c in &line[..10] {
+        n = n % 1_000_000_000 * 10 + u64::from(c % 16 % 10);
     }
     n
 }
 
-// Whether the eight digits from `at` on are those of d.
-fn is_date(s: &[u8], at: usize, d: [u8; 8]) -> bool
-    requires { at + 8 ≤ length s.now }
+// Whether the calendar has a line's date at its time.
+fn agrees(line: &[u8]) -> bool
+    requires { length line.now ≡ LINE }
 {
-    let mut i = 0;
-    while i < 8 {
-        if s[at + i] != d[i] {
-            return false;
+    calendar::paris_digits(seconds(line)).as_slice() == &line[11..19]
+}
+
+// How many lines agree; where one differs, it is named.
+fn run(rt: &impl Print, input: &[u8]) -> io::Result<u64> {
+    let mut agree = 0u64;
+    for line in input.chunks_exact(LINE) {
+        if agrees(line) {
+            agree = agree.wrapping_add(1);
+        } else {
+            rt.write_all(b"differs: ")?;
+            rt.write_all(line)?;
         }
-        i += 1;
-    }
-    true
-}
-
-// 1 where the line from `at` on agrees, else 0, and the line is named.
-fn run_line(rt: &impl Print, s: &[u8], at: usize) -> io::Result<u64>
-    requires { at + 20 ≤ length s.now }
-{
-    let d = calendar::paris_digits(seconds(s, at));
-    if is_date(s, at + 11, d) {
-        return Ok(1);
-    }
-    rt.write_all(b"differs: ")?;
-    rt.write_all(&s[at..at + 20])?;
-    Ok(0)
-}
-
-fn run(rt: &impl Print, s: &[u8]) -> io::Result<u64> {
-    let mut at = 0;
-    let mut agree: u64 = 0;
-    while 20 <= s.len() - at {
-        agree = agree.wrapping_add(run_line(rt, s, at)?);
-        at += 20;
     }
     Ok(agree)
 }
 
 fn main(rt: HostRuntime) -> io::Result<()> {
-    let mut input = program_io::large_buffer();
-    let n = program_io::read_full(&mut rt.reader(), &mut input)?;
-    let agree = run(&rt, &input[..n])?;
+    let input = program_io::read_at_most(rt.alloc(), &mut rt.reader(), program_io::INPUT)?;
+    let agree = run(&rt, &input)?;
     println!(rt; "{agree} dates agree")
 }

@@ -1,182 +1,173 @@
 // A card as it stands on a panel: status, times, notices, and each leg.
-use crate::large::say_large;
-use crate::parts::{
-    clock, named, optional_clock, optional_degrees, optional_number, past, past_optional, say,
-    say_delay, say_number, set, text,
-};
-use formats_read::Numbered;
+use crate::large::Large;
+use crate::parts::{Delay, Reader, Time, say_any_text, say_optional, say_text};
 use std::io;
 
-// What a list holds.
-const NOTICE: u8 = 0;
+#[derive(Clone, Copy)]
+enum Status {
+    Scheduled,
+    OnTime,
+    Disrupted,
+    Delayed,
+    Cancelled,
+    Unknown,
+}
 
-const MIDDLE: u8 = 1;
+impl From<u64> for Status {
+    fn from(number: u64) -> Self {
+        match number {
+            0 => Status::Scheduled,
+            1 => Status::OnTime,
+            2 => Status::Disrupted,
+            3 => Status::Delayed,
+            4 => Status::Cancelled,
+            _ => Status::Unknown,
+        }
+    }
+}
 
-const MISSED: u8 = 2; // a middle stop to which no train comes
+impl Status {
+    fn name(self) -> &'static str {
+        match self {
+            Status::Scheduled => "SCHEDULED",
+            Status::OnTime => "ON TIME",
+            Status::Disrupted => "DISRUPTED",
+            Status::Delayed => "DELAYED",
+            Status::Cancelled => "CANCELLED",
+            Status::Unknown => "?",
+        }
+    }
+}
 
 // A status as a headline, or in a line.
-fn headline(rt: &impl Print, large: bool, text: &[u8]) -> io::Result<()> {
+fn say_status(rt: &impl Print, status: Status, large: bool) -> io::Result<()> {
+    let name = status.name();
     if large {
-        say_large(rt, text)
+        rt.print(Large(name))
     } else {
-        say(rt, b"  [ ")?;
-        say(rt, text)?;
-        say(rt, b" ]")
+        print!(rt; "  [ {name} ]")
     }
 }
 
-fn say_status(rt: &impl Print, large: bool, n: u64) -> io::Result<()> {
-    match n {
-        0 => headline(rt, large, b"SCHEDULED"),
-        1 => headline(rt, large, b"ON TIME"),
-        2 => headline(rt, large, b"DISRUPTED"),
-        3 => headline(rt, large, b"DELAYED"),
-        4 => headline(rt, large, b"CANCELLED"),
-        _ => headline(rt, large, b"?"),
+fn say_delay(rt: &impl Print, delay: Option<Delay>) -> io::Result<()> {
+    match delay {
+        Some(delay) => print!(rt; " ({delay})"),
+        None => Ok(()),
     }
 }
 
-// The delay at `at`, where it is there.
-fn delay(rt: &impl Print, s: &[u8], at: usize) -> io::Result<()> {
-    if set(s, at) {
-        say(rt, b" (")?;
-        say_delay(rt, formats_read::number(s, past(s, at)).value)?;
-        say(rt, b")")?;
+fn notice(rt: &impl Print, r: &mut Reader<'_>) -> io::Result<()> {
+    say_text(rt, "  ! ", r.text())?;
+    println!(rt)
+}
+
+// A middle stop with both scheduled times, and those that are expected. Of a train that is cancelled nothing is
+// expected.
+fn middle(rt: &impl Print, r: &mut Reader<'_>, cancelled: bool) -> io::Result<()> {
+    say_text(rt, "      by ", r.text())?;
+    print!(rt; " {}", r.time())?;
+    print!(rt; " - {}", r.time())?;
+    let arrival = r.optional(|r| r.time());
+    let departure = r.optional(|r| r.time());
+    if !cancelled {
+        say_optional(rt, ", expected ", arrival)?;
+        say_optional(rt, " to ", departure)?;
     }
-    Ok(())
-}
-
-fn notice(rt: &impl Print, s: &[u8], at: usize) -> io::Result<usize> {
-    say(rt, b"  ! ")?;
-    let p = text(rt, s, at)?;
-    say(rt, b"\n")?;
-    Ok(p)
-}
-
-// A middle stop with both scheduled times.
-fn stop(rt: &impl Print, s: &[u8], at: usize) -> io::Result<usize> {
-    say(rt, b"      by ")?;
-    let p = text(rt, s, at)?;
-    let q = clock(rt, s, p, b" ")?;
-    clock(rt, s, q, b" - ")
-}
-
-// With those that are expected.
-fn middle(rt: &impl Print, s: &[u8], at: usize) -> io::Result<usize> {
-    let p = stop(rt, s, at)?;
-    let q = optional_clock(rt, s, p, b", expected ")?;
-    let r = optional_clock(rt, s, q, b" to ")?;
-    say(rt, b"\n")?;
-    Ok(r)
-}
-
-// Of a train that is cancelled nothing is expected.
-fn missed(rt: &impl Print, s: &[u8], at: usize) -> io::Result<usize> {
-    let p = stop(rt, s, at)?;
-    say(rt, b"\n")?;
-    Ok(past_optional(s, past_optional(s, p)))
-}
-
-fn leaf(rt: &impl Print, kind: u8, s: &[u8], at: usize) -> io::Result<usize> {
-    match kind {
-        NOTICE => notice(rt, s, at),
-        MIDDLE => middle(rt, s, at),
-        _ => missed(rt, s, at),
-    }
-}
-
-fn leaves(rt: &impl Print, kind: u8, s: &[u8], at: usize) -> io::Result<usize> {
-    let n: Numbered = formats_read::number(s, at);
-    let mut p = n.next;
-    let mut left = n.value;
-    while 0 < left {
-        p = leaf(rt, kind, s, p)?;
-        left -= 1;
-    }
-    Ok(p)
+    println!(rt)
 }
 
 // The line, its trip and its two stops.
-fn route(rt: &impl Print, s: &[u8], at: usize) -> io::Result<usize> {
-    let p = text(rt, s, at)?;
-    let q = named(rt, s, p, b" ")?;
-    let r = named(rt, s, q, b", route ")?;
-    let u = named(rt, s, r, b", trip ")?;
-    let v = optional_number(rt, s, u, b", direction ")?;
-    let w = named(rt, s, v, b"\n    from ")?;
-    named(rt, s, w, b" to ")
+fn route(rt: &impl Print, r: &mut Reader<'_>) -> io::Result<()> {
+    say_text(rt, "  ", r.text())?;
+    say_any_text(rt, " ", r.text())?;
+    say_any_text(rt, ", route ", r.text())?;
+    say_any_text(rt, ", trip ", r.text())?;
+    say_optional(rt, ", direction ", r.optional(|r| r.number()))?;
+    say_any_text(rt, "\n    from ", r.text())?;
+    say_any_text(rt, " to ", r.text())
 }
 
-// The two expected times, each with its delay. A train that is cancelled is expected nowhere, whatever they say.
-fn expected(rt: &impl Print, s: &[u8], at: usize, cancelled: bool) -> io::Result<()> {
-    if cancelled {
-        say(rt, b"\n    CANCELLED")
-    } else {
-        let arrival = past_optional(s, at);
-        let departure_delay = past_optional(s, arrival);
-        if set(s, at) || set(s, arrival) {
-            say(rt, b"\n    expected ")?;
+// When a train is expected to leave and to arrive, and how late.
+#[derive(Drop)]
+struct Expected {
+    departure: Option<Time>,
+    arrival: Option<Time>,
+    departure_delay: Option<Delay>,
+    arrival_delay: Option<Delay>,
+}
+
+impl Expected {
+    fn read(r: &mut Reader<'_>) -> Self {
+        let departure = r.optional(|r| r.time());
+        let arrival = r.optional(|r| r.time());
+        let departure_delay = r.optional(|r| r.delay());
+        let arrival_delay = r.optional(|r| r.delay());
+        Expected {
+            departure,
+            arrival,
+            departure_delay,
+            arrival_delay,
         }
-        optional_clock(rt, s, at, b" ")?;
-        delay(rt, s, departure_delay)?;
-        optional_clock(rt, s, arrival, b" - ")?;
-        delay(rt, s, past_optional(s, departure_delay))
+    }
+
+    fn say(&self, rt: &impl Print) -> io::Result<()> {
+        if self.departure.is_some() || self.arrival.is_some() {
+            rt.print("\n    expected ")?;
+        }
+        say_optional(rt, " ", self.departure)?;
+        say_delay(rt, self.departure_delay)?;
+        say_optional(rt, " - ", self.arrival)?;
+        say_delay(rt, self.arrival_delay)
     }
 }
 
-// A transit leg: line and stops; scheduled and expected times with delays; cancelled; the vehicle; middle stops.
-fn transit(rt: &impl Print, s: &[u8], at: usize) -> io::Result<usize> {
-    say(rt, b"  ")?;
-    let p = route(rt, s, at)?;
-    let a = formats_read::number(s, p).next;
-    let b = formats_read::number(s, a).next;
-    let c = clock(rt, s, b, b"\n    scheduled ")?;
-    let d = clock(rt, s, c, b" - ")?;
-    let e = past_optional(s, past_optional(s, d));
-    let f = past_optional(s, past_optional(s, e));
-    let cancelled = set(s, f);
-    expected(rt, s, d, cancelled)?;
-    let g = optional_degrees(rt, s, past(s, f), b"\n    the vehicle is at ")?;
-    let h = optional_degrees(rt, s, g, b", ")?;
-    let i = optional_clock(rt, s, h, b", seen ")?;
-    say(rt, b"\n")?;
-    let j = leaves(rt, if cancelled { MISSED } else { MIDDLE }, s, i)?;
-    Ok(formats_read::text(s, j).to)
+// A transit leg: line and stops; scheduled and expected times with delays; cancelled; the vehicle; middle stops. A
+// train that is cancelled is expected nowhere, whatever the times say.
+fn transit(rt: &impl Print, r: &mut Reader<'_>) -> io::Result<()> {
+    route(rt, r)?;
+    let _not_shown = (r.number(), r.number());
+    print!(rt; "\n    scheduled {}", r.time())?;
+    print!(rt; " - {}", r.time())?;
+    let expected = Expected::read(r);
+    let cancelled = r.flag();
+    if cancelled {
+        rt.print("\n    CANCELLED")?;
+    } else {
+        expected.say(rt)?;
+    }
+    say_optional(rt, "\n    the vehicle is at ", r.optional(|r| r.degrees()))?;
+    say_optional(rt, ", ", r.optional(|r| r.degrees()))?;
+    say_optional(rt, ", seen ", r.optional(|r| r.time()))?;
+    println!(rt)?;
+    for _ in 0..r.number() {
+        middle(rt, r, cancelled)?;
+    }
+    let _not_shown = r.text();
+    Ok(())
 }
 
-fn leg(rt: &impl Print, s: &[u8], at: usize) -> io::Result<usize> {
-    let p = past(s, at);
-    if set(s, at) {
-        return transit(rt, s, p);
+fn leg(rt: &impl Print, r: &mut Reader<'_>) -> io::Result<()> {
+    if r.flag() {
+        return transit(rt, r);
     }
-    say(rt, b"  walk\n")?;
-    Ok(formats_read::text(s, p).to)
-}
-
-fn legs(rt: &impl Print, s: &[u8], at: usize) -> io::Result<usize> {
-    let n: Numbered = formats_read::number(s, at);
-    let mut p = n.next;
-    let mut left = n.value;
-    while 0 < left {
-        p = leg(rt, s, p)?;
-        left -= 1;
-    }
-    Ok(p)
+    println!(rt; "  walk")?;
+    let _not_shown = r.text();
+    Ok(())
 }
 
 // The card that stands at the start of s, with its status in large or not.
 pub fn card(rt: &impl Print, s: &[u8], large: bool) -> io::Result<()> {
-    let departure: Numbered = formats_read::number(s, past(s, 0));
-    let arrival: Numbered = formats_read::number(s, departure.next);
-    let duration: Numbered = formats_read::number(s, arrival.next);
-    let status: Numbered = formats_read::number(s, duration.next);
-    say_status(rt, large, status.value)?;
-    let p = clock(rt, s, past(s, 0), b"  ")?;
-    clock(rt, s, p, b" - ")?;
-    say(rt, b", ")?;
-    say_number(rt, duration.value / 120)?;
-    say(rt, b" min\n")?;
-    let q = leaves(rt, NOTICE, s, status.next)?;
-    legs(rt, s, q)?;
+    let mut r = Reader::new(s);
+    let departure = r.time();
+    let arrival = r.time();
+    let duration = r.number(); // a signed number as it is written: the seconds twice
+    say_status(rt, Status::from(r.number()), large)?;
+    println!(rt; "  {departure} - {arrival}, {} min", duration / 120)?;
+    for _ in 0..r.number() {
+        notice(rt, &mut r)?;
+    }
+    for _ in 0..r.number() {
+        leg(rt, &mut r)?;
+    }
     Ok(())
 }

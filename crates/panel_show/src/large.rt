@@ -1,6 +1,6 @@
 // A text in large: letters of five rows and five columns.
-use crate::parts::say;
-use std::io;
+use std::fmt;
+use std::fmt::Display;
 
 // The letters that the statuses have, a row after the other; any other letter is blank.
 fn shape(letter: u8) -> u32 {
@@ -26,69 +26,27 @@ fn shape(letter: u8) -> u32 {
     }
 }
 
-// A row of a letter: five bits.
-fn bits(letter: u8, row: u8) -> u32 {
-    let rows = shape(letter);
-    match row {
-        0 => rows / 1048576,
-        1 => rows / 32768 % 32,
-        2 => rows / 1024 % 32,
-        3 => rows / 32 % 32,
-        _ => rows % 32,
+// A text in large, with an indent of two. No line ends in a blank.
+#[derive(Drop)]
+pub struct Large<'a>(pub &'a str);
+
+impl Display for Large<'_> {
+    fn fmt<W: fmt::Write>(&self, f: &mut fmt::Formatter<W>) -> fmt::Result {
+        for row in 0..5u32 {
+            // The next mark goes to the end of as many columns.
+            let mut width = 2usize;
+            for letter in self.0.bytes() {
+                width = width.saturating_add(1);
+                for column in 0..5 {
+                    if shape(letter) >> (24 - 5 * row - column) & 1 == 1 {
+                        write!(f, "{:>width$}", '#')?;
+                        width = 0;
+                    }
+                    width = width.saturating_add(1);
+                }
+            }
+            writeln!(f)?;
+        }
+        Ok(())
     }
-}
-
-fn blank(rt: &impl Print) -> io::Result<()> {
-    say(rt, b" ")
-}
-
-fn blanks(rt: &impl Print, n: u64) -> io::Result<()> {
-    let mut left = n;
-    while 0 < left {
-        blank(rt)?;
-        left -= 1;
-    }
-    Ok(())
-}
-
-// One column of a row. Blanks wait for a mark behind them, so that no line ends in one; answers how many wait.
-fn column(rt: &impl Print, marked: bool, waiting: u64) -> io::Result<u64> {
-    if marked {
-        blanks(rt, waiting)?;
-        say(rt, b"#")?;
-        return Ok(0);
-    }
-    Ok(waiting % 80 + 1)
-}
-
-// A letter's row behind a blank.
-fn letter_row(rt: &impl Print, bits: u32, waiting: u64) -> io::Result<u64> {
-    let mut b = bits;
-    let mut w = waiting;
-    let mut left: u8 = 6;
-    while 0 < left {
-        w = column(rt, b / 32 % 2 == 1, w)?;
-        b = b % 32 * 2;
-        left -= 1;
-    }
-    Ok(w)
-}
-
-// A row of the whole text, with an indent of two.
-fn row(rt: &impl Print, text: &[u8], n: u8) -> io::Result<()> {
-    let mut waiting: u64 = 1;
-    let mut i: usize = 0;
-    while i < text.len() {
-        waiting = letter_row(rt, bits(text[i], n), waiting)?;
-        i += 1;
-    }
-    say(rt, b"\n")
-}
-
-pub fn say_large(rt: &impl Print, text: &[u8]) -> io::Result<()> {
-    row(rt, text, 0)?;
-    row(rt, text, 1)?;
-    row(rt, text, 2)?;
-    row(rt, text, 3)?;
-    row(rt, text, 4)
 }

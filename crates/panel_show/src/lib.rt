@@ -1,8 +1,7 @@
-// States and cards as a person reads them. Each function writes what stands at a place and answers the place past it;
-// they are total, and write something also where nothing stands.
+// States and cards as a person reads them. What is read is total, and something is written also where nothing stands.
 #![tactic(auto)]
 
-pub mod parts; // numbers, texts, times, and what may be absent
+mod parts; // a reader of values, and the values as they are printed
 pub mod state; // the supplier's raw records behind a train
-pub mod large; // letters of five rows
+mod large; // letters of five rows
 pub mod card; // the card on a panel

@@ -1,264 +1,202 @@
-// What states and cards are made of: numbers, texts, times of day, and what may be absent.
-use formats::Span;
-use formats_read::Numbered;
-use std::io;
+// What states and cards are made of: a reader of their values, and the values as they are printed.
+ghost use Rattle.std.specs.Prelude.{◌≤◌};
 
-pub fn say(rt: &impl Print, text: &[u8]) -> io::Result<()> {
-    rt.write_all(text)
+use std::fmt::Display;
+use std::{fmt, io};
+
+// The place at which a state or a card is read: what is read moves it past. It is total, and reads something also
+// where nothing stands.
+#[derive(Drop)]
+pub struct Reader<'a> {
+    bytes: &'a [u8],
+    at: usize,
 }
 
-pub fn say_number(rt: &impl Print, n: u64) -> io::Result<()> {
-    rt.print(n)
-}
+impl<'a> Reader<'a> {
+    // At the first value, behind the byte that stands at the start.
+    pub fn new(bytes: &'a [u8]) -> Self {
+        let mut reader = Reader { bytes, at: 0 };
+        reader.pass_byte();
+        reader
+    }
 
-// A signed number, by how it is written.
-pub fn say_signed(rt: &impl Print, code: u64) -> io::Result<()> {
-    if code % 2 == 0 {
-        say_number(rt, code / 2)
-    } else {
-        say(rt, b"-")?;
-        say_number(rt, code / 2 + 1)
+    fn pass_byte(&mut self) {
+        self.at = if self.at < self.bytes.len() {
+            self.at + 1
+        } else {
+            0
+        };
+    }
+
+    // Whether a flag is set, or an optional value is there.
+    pub fn flag(&mut self) -> bool {
+        let number = formats_read::number(self.bytes, self.at).value;
+        self.pass_byte();
+        number == 1
+    }
+
+    pub fn number(&mut self) -> u64 {
+        let number = formats_read::number(self.bytes, self.at);
+        self.at = number.next;
+        number.value
+    }
+
+    pub fn signed(&mut self) -> i64 {
+        integers::from_zigzag(self.number())
+    }
+
+    pub fn time(&mut self) -> Time {
+        Time(self.signed())
+    }
+
+    pub fn delay(&mut self) -> Delay {
+        Delay(self.signed())
+    }
+
+    pub fn text(&mut self) -> &'a [u8] {
+        let text = formats_read::text(self.bytes, self.at);
+        self.at = text.to;
+        &self.bytes[text.from..text.to]
+    }
+
+    pub fn degrees(&mut self) -> Degrees {
+        let bits = formats_read::float(self.bytes, self.at);
+        let past = self.at.saturating_add(8);
+        self.at = if past <= self.bytes.len() { past } else { 0 };
+        Degrees(bits)
+    }
+
+    // A text that may be absent. (Written out: a closure that lends from its reader gets no proof in `optional`.)
+    pub fn optional_text(&mut self) -> Option<&'a [u8]> {
+        if self.flag() { Some(self.text()) } else { None }
+    }
+
+    // Another value that may be absent.
+    pub fn optional<T, F: FnOnce(&mut Self) -> T>(&mut self, value: F) -> Option<T>
+        requires { F.IsAlwaysCallable value }
+    {
+        if self.flag() { Some(value(self)) } else { None }
     }
 }
 
-// Two digits.
-fn say_two(rt: &impl Print, n: u64) -> io::Result<()> {
-    if n < 10 {
-        say(rt, b"0")?;
-    }
-    say_number(rt, n)
-}
+// A time of day in Paris, from the seconds since 1970. A time before 1970 stays a number.
+#[derive(Clone, Copy)]
+pub struct Time(i64);
 
-// A time of day in Paris, by how the seconds since 1970 are written. A time before 1970 stays a number.
-pub fn say_clock(rt: &impl Print, code: u64) -> io::Result<()> {
-    if code % 2 == 0 {
-        let t = code / 2;
-        let ahead = calendar::offset(t) % 86400;
-        let day = (t % 86400 + ahead) % 86400;
-        say_two(rt, day / 3600)?;
-        say(rt, b":")?;
-        say_two(rt, day / 60 % 60)?;
-        say(rt, b":")?;
-        say_two(rt, day % 60)
-    } else {
-        say_signed(rt, code)
+impl Display for Time {
+    fn fmt<W: fmt::Write>(&self, f: &mut fmt::Formatter<W>) -> fmt::Result {
+        let Ok(seconds) = u64::try_from(self.0) else {
+            return write!(f, "{}", self.0);
+        };
+        let ahead = calendar::offset(seconds) % 86400;
+        let day = (seconds % 86400 + ahead) % 86400;
+        write!(f, "{:02}:{:02}:{:02}", day / 3600, day / 60 % 60, day % 60)
     }
 }
 
-// How long something takes: in minutes where they are whole.
-fn say_seconds(rt: &impl Print, n: u64) -> io::Result<()> {
-    if n % 60 == 0 {
-        say_number(rt, n / 60)?;
-        say(rt, b" min")
-    } else {
-        say_number(rt, n)?;
-        say(rt, b" s")
+// A delay of so many seconds; in minutes where they are whole.
+#[derive(Clone, Copy)]
+pub struct Delay(i64);
+
+impl Display for Delay {
+    fn fmt<W: fmt::Write>(&self, f: &mut fmt::Formatter<W>) -> fmt::Result {
+        if self.0 == 0 {
+            return f.write_str("on time");
+        }
+        let seconds = self.0.unsigned_abs();
+        let side = if self.0 < 0 { "early" } else { "late" };
+        if seconds % 60 == 0 {
+            write!(f, "{} min {side}", seconds / 60)
+        } else {
+            write!(f, "{seconds} s {side}")
+        }
     }
 }
 
-// A delay, by how its seconds are written.
-pub fn say_delay(rt: &impl Print, code: u64) -> io::Result<()> {
-    if code == 0 {
-        say(rt, b"on time")
-    } else if code % 2 == 0 {
-        say_seconds(rt, code / 2)?;
-        say(rt, b" late")
-    } else {
-        say_seconds(rt, code / 2 + 1)?;
-        say(rt, b" early")
-    }
-}
-
-// The bytes of a text.
-pub fn text(rt: &impl Print, s: &[u8], at: usize) -> io::Result<usize> {
-    let t: Span = formats_read::text(s, at);
-    let from = t.from;
-    let to = t.to;
-    say(rt, &s[from..to])?;
-    Ok(to)
-}
-
-// A text behind its name, where it is not empty.
-pub fn named(rt: &impl Print, s: &[u8], at: usize, name: &[u8]) -> io::Result<usize> {
-    let t: Span = formats_read::text(s, at);
-    if t.from < t.to {
-        say(rt, name)?;
-        return text(rt, s, at);
-    }
-    Ok(t.to)
-}
-
-// Whether a flag is set, or an optional value is there.
-pub fn set(s: &[u8], at: usize) -> bool {
-    formats_read::number(s, at).value == 1
-}
-
-// The place past the byte at `at`.
-pub fn past(s: &[u8], at: usize) -> usize {
-    if at < s.len() {
-        return at + 1;
-    }
-    0
-}
-
-// A signed number behind its name.
-pub fn signed(rt: &impl Print, s: &[u8], at: usize, name: &[u8]) -> io::Result<usize> {
-    let n: Numbered = formats_read::number(s, at);
-    say(rt, name)?;
-    say_signed(rt, n.value)?;
-    Ok(n.next)
-}
-
-// A time of day behind its name.
-pub fn clock(rt: &impl Print, s: &[u8], at: usize, name: &[u8]) -> io::Result<usize> {
-    let n: Numbered = formats_read::number(s, at);
-    say(rt, name)?;
-    say_clock(rt, n.value)?;
-    Ok(n.next)
-}
-
-// The place past a number that may be absent.
-pub fn past_optional(s: &[u8], at: usize) -> usize {
-    let p = past(s, at);
-    if set(s, at) {
-        return formats_read::number(s, p).next;
-    }
-    p
-}
-
-// The same where it is there.
-pub fn optional_signed(rt: &impl Print, s: &[u8], at: usize, name: &[u8]) -> io::Result<usize> {
-    let p = past(s, at);
-    if set(s, at) {
-        return signed(rt, s, p, name);
-    }
-    Ok(p)
-}
-
-pub fn optional_clock(rt: &impl Print, s: &[u8], at: usize, name: &[u8]) -> io::Result<usize> {
-    let p = past(s, at);
-    if set(s, at) {
-        return clock(rt, s, p, name);
-    }
-    Ok(p)
-}
-
-pub fn optional_number(rt: &impl Print, s: &[u8], at: usize, name: &[u8]) -> io::Result<usize> {
-    let p = past(s, at);
-    if set(s, at) {
-        let n: Numbered = formats_read::number(s, p);
-        say(rt, name)?;
-        say_number(rt, n.value)?;
-        return Ok(n.next);
-    }
-    Ok(p)
-}
-
-pub fn optional_text(rt: &impl Print, s: &[u8], at: usize, name: &[u8]) -> io::Result<usize> {
-    let p = past(s, at);
-    if set(s, at) {
-        say(rt, name)?;
-        return text(rt, s, p);
-    }
-    Ok(p)
-}
+// A number of degrees by the 64 bits of its float: sign, whole part and five digits. What is no number below 256 is a
+// question mark.
+#[derive(Clone, Copy)]
+pub struct Degrees(u64);
 
 // What a whole one is in a fraction that counts 2^-56.
 const ONE: u64 = 72057594037927936;
 
-// The five digits behind the point of a fraction.
-fn say_fraction(rt: &impl Print, fraction: u64) -> io::Result<()> {
-    let mut f = fraction;
-    let mut left: u8 = 5;
-    while 0 < left {
-        f = f % ONE * 10;
-        say_number(rt, f / ONE)?;
-        left -= 1;
-    }
-    Ok(())
-}
-
-// m doubled n times, as long as there is room.
-fn doubled(m: u64, n: u64) -> u64 {
-    let mut x = m;
-    let mut left = n;
-    while 0 < left {
-        if x < 9223372036854775808 {
-            x *= 2;
-        }
-        left -= 1;
-    }
-    x
-}
-
-fn halved(m: u64, n: u64) -> u64 {
-    let mut x = m;
-    let mut left = n;
-    while 0 < left {
-        x /= 2;
-        left -= 1;
-    }
-    x
-}
-
 // A float's mantissa, the last 52 bits, as a fraction that counts 2^-56: so does its last bit at an exponent of 1019.
-fn fraction(bits: u64, exponent: u64) -> u64 {
-    let m = bits % 4503599627370496 + 4503599627370496;
+fn fraction(bits: u64, exponent: u32) -> u64
+    requires { exponent ≤ 1030 }
+{
+    let mantissa = bits % 4503599627370496 + 4503599627370496;
     if exponent < 1019 {
-        return halved(m, 1019 - exponent);
+        mantissa.checked_shr(1019 - exponent).unwrap_or(0)
+    } else {
+        mantissa << (exponent - 1019)
     }
-    doubled(m, exponent - 1019)
 }
 
 // With half a unit of the fifth digit.
-fn rounded(f: u64) -> u64 {
-    if f < 18000000000000000000 {
-        return f + 360287970190;
-    }
-    f
-}
-
-// A number of degrees by its 64 bits: sign, whole part and five digits. What is no number below 256 is a question mark.
-pub fn say_degrees(rt: &impl Print, bits: u64) -> io::Result<()> {
-    let exponent = bits / 4503599627370496 % 2048;
-    if 1030 < exponent {
-        say(rt, b"?")
+fn rounded(fraction: u64) -> u64 {
+    if fraction < 18000000000000000000 {
+        fraction + 360287970190
     } else {
-        if 9223372036854775808 <= bits {
-            say(rt, b"-")?;
+        fraction
+    }
+}
+
+impl Display for Degrees {
+    fn fmt<W: fmt::Write>(&self, f: &mut fmt::Formatter<W>) -> fmt::Result {
+        let exponent = (self.0 / 4503599627370496 % 2048) as u32;
+        if 1030 < exponent {
+            return f.write_str("?");
         }
-        let f = rounded(fraction(bits, exponent));
-        say_number(rt, f / ONE)?;
-        say(rt, b".")?;
-        say_fraction(rt, f)
+        if 9223372036854775808 <= self.0 {
+            f.write_str("-")?;
+        }
+        let mut left = rounded(fraction(self.0, exponent));
+        write!(f, "{}.", left / ONE)?;
+        for _ in 0..5 {
+            left = left % ONE * 10;
+            write!(f, "{}", left / ONE)?;
+        }
+        Ok(())
     }
 }
 
-// A float that is there, as degrees behind a name.
-pub fn optional_degrees(rt: &impl Print, s: &[u8], at: usize, name: &[u8]) -> io::Result<usize> {
-    let p = past(s, at);
-    if set(s, at) {
-        say(rt, name)?;
-        say_degrees(rt, formats_read::float(s, p))?;
-        return Ok(past_float(s, p));
-    }
-    Ok(p)
+// A text, which need not be UTF-8, behind its name.
+pub fn say_text(rt: &impl Print, name: &str, text: &[u8]) -> io::Result<()> {
+    rt.print(name)?;
+    rt.write_all(text)
 }
 
-// The place past eight bytes.
-pub fn past_float(s: &[u8], at: usize) -> usize {
-    if s.len() < 8 {
-        return 0;
+// The same where it is not empty.
+pub fn say_any_text(rt: &impl Print, name: &str, text: &[u8]) -> io::Result<()> {
+    if text.is_empty() {
+        Ok(())
+    } else {
+        say_text(rt, name, text)
     }
-    if s.len() - 8 < at {
-        return 0;
-    }
-    at + 8
 }
 
-pub fn flag(rt: &impl Print, s: &[u8], at: usize, name: &[u8]) -> io::Result<usize> {
-    if set(s, at) {
-        say(rt, name)?;
+// A text behind its name, where it is there.
+pub fn say_optional_text(rt: &impl Print, name: &str, text: Option<&[u8]>) -> io::Result<()> {
+    match text {
+        Some(text) => say_text(rt, name, text),
+        None => Ok(()),
     }
-    Ok(past(s, at))
+}
+
+// A value behind its name, where it is there.
+pub fn say_optional<T: Display + Drop>(
+    rt: &impl Print,
+    name: &str,
+    value: Option<T>,
+) -> io::Result<()> {
+    match value {
+        Some(value) => print!(rt; "{name}{value}"),
+        None => Ok(()),
+    }
+}
+
+// A flag's name, where it is set.
+pub fn say_flag(rt: &impl Print, name: &str, flag: bool) -> io::Result<()> {
+    if flag { rt.print(name) } else { Ok(()) }
 }

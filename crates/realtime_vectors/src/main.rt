@@ -12,254 +12,146 @@
 // nothing of what was written, so they have no `ensures`.
 #![tactic(auto)]
 
-ghost use Rattle.std.specs.Prelude.{◌+◌, ◌≤◌, ◌<◌, length};
-ghost use Rattle.program_io.specs.Promises.Counts.{IsPrefixLen};
+ghost use Rattle.std.specs.Prelude.{◌+◌, ◌≤◌, length};
 
 use realtime::Verdict;
 use realtime_read::{FEED_MESSAGE, ID_LIMIT};
-use realtime_views::{Event, Item, StopUpdate, TextPart, Trip};
+use realtime_views::{Event, Item, StopUpdate, TextPart};
+use std::alloc::{AllocError, Global};
+use std::fmt::Display;
 use std::io;
 
-fn write(rt: &impl Print, s: &[u8]) -> io::Result<()> {
-    rt.write_all(s)
+// How long a message is at most; what a line has behind that is left out.
+const MESSAGE: usize = 4096;
+
+fn write_flag(rt: &impl Print, flag: bool) -> io::Result<()> {
+    rt.print(if flag { " yes" } else { " no" })
 }
 
-fn write_number(rt: &impl Print, n: u64) -> io::Result<()> {
-    rt.print(n)
-}
-
-fn write_bool(rt: &impl Print, b: bool) -> io::Result<()> {
-    if b {
-        write(rt, b" yes")
-    } else {
-        write(rt, b" no")
+// A number, or '-' where there is none.
+fn write_given<T: Display + Drop>(rt: &impl Print, value: Option<T>) -> io::Result<()> {
+    match value {
+        Some(x) => print!(rt; " {x}"),
+        None => rt.print(" -"),
     }
 }
 
-fn flipped(z: i64) -> i64 {
-    -1 - z
-}
-
-// A number that is not below zero, and 0 for one that is.
-fn magnitude(z: i64) -> u64
-    ensures { result < 9223372036854775808 }
+fn write_text(rt: &impl Print, s: &[u8], text: TextPart) -> io::Result<()>
+    requires { text.start + text.len ≤ length s.now }
 {
-    if z < 0 {
-        return 0;
-    }
-    z as u64
-}
-
-fn write_signed(rt: &impl Print, z: i64) -> io::Result<()> {
-    if z < 0 {
-        write(rt, b" -")?;
-        write_number(rt, magnitude(flipped(z)) + 1)
-    } else {
-        write(rt, b" ")?;
-        write_number(rt, magnitude(z))
+    rt.print(" ")?;
+    match slices::part(s, text.start, text.len) {
+        [] => rt.print("-"),
+        bytes => rt.write_all(bytes),
     }
 }
 
-fn wide(z: i32) -> i64 {
-    z as i64
+fn write_event(rt: &impl Print, event: Event) -> io::Result<()> {
+    write_given(rt, event.delay)?;
+    write_given(rt, event.time)
 }
 
-fn write_delay(rt: &impl Print, d: Option<i32>) -> io::Result<()> {
-    match d {
-        Some(z) => write_signed(rt, wide(z)),
-        None => write(rt, b" -"),
-    }
-}
-
-fn write_time(rt: &impl Print, t: Option<i64>) -> io::Result<()> {
-    match t {
-        Some(z) => write_signed(rt, z),
-        None => write(rt, b" -"),
-    }
-}
-
-fn write_span(rt: &impl Print, s: &[u8], p: TextPart) -> io::Result<()>
-    requires { p.start + p.len ≤ length s.now }
+fn write_stop(rt: &impl Print, s: &[u8], update: StopUpdate) -> io::Result<()>
+    requires { update.stop.start + update.stop.len ≤ length s.now }
 {
-    let start = p.start;
-    let len = p.len;
-    if len == 0 {
-        return write(rt, b" -");
-    }
-    write(rt, b" ")?;
-    write(rt, slices::part(s, start, len))
-}
-
-fn write_event(rt: &impl Print, e: Event) -> io::Result<()> {
-    let delay = e.delay;
-    let time = e.time;
-    write_delay(rt, delay)?;
-    write_time(rt, time)
-}
-
-fn write_stop(rt: &impl Print, s: &[u8], u: StopUpdate) -> io::Result<()>
-    requires { u.stop.start + u.stop.len ≤ length s.now }
-{
-    write(rt, b" (")?;
-    write_number(rt, u.sequence as u64)?;
-    write_span(rt, s, u.stop)?;
-    write_event(rt, u.arrival)?;
-    write_event(rt, u.departure)?;
-    write_bool(rt, u.skipped)?;
-    write(rt, b")")
-}
-
-fn write_direction(rt: &impl Print, d: Option<u32>) -> io::Result<()> {
-    match d {
-        Some(n) => {
-            write(rt, b" ")?;
-            write_number(rt, n as u64)
-        }
-        None => write(rt, b" -"),
-    }
-}
-
-fn write_timestamp(rt: &impl Print, t: Option<u64>) -> io::Result<()> {
-    match t {
-        Some(n) => {
-            write(rt, b" ")?;
-            write_number(rt, n)
-        }
-        None => write(rt, b" -"),
-    }
+    print!(rt; " ({}", update.sequence)?;
+    write_text(rt, s, update.stop)?;
+    write_event(rt, update.arrival)?;
+    write_event(rt, update.departure)?;
+    write_flag(rt, update.skipped)?;
+    rt.print(")")
 }
 
 fn write_trip(rt: &impl Print, s: &[u8], start: usize, len: usize) -> io::Result<()>
     requires { start + len ≤ length s.now }
 {
-    let t = realtime_views::trip_of(s, start, len);
-    write(rt, b"trip")?;
-    write_span(rt, s, t.id)?;
-    write_span(rt, s, t.time)?;
-    write_span(rt, s, t.date)?;
-    write_span(rt, s, t.route)?;
-    write_bool(rt, t.cancelled)?;
-    let direction = t.direction;
-    let delay = t.delay;
-    write_direction(rt, direction)?;
-    write_delay(rt, delay)
+    let trip = realtime_views::trip_of(s, start, len);
+    rt.print("trip")?;
+    write_text(rt, s, trip.id)?;
+    write_text(rt, s, trip.time)?;
+    write_text(rt, s, trip.date)?;
+    write_text(rt, s, trip.route)?;
+    write_flag(rt, trip.cancelled)?;
+    write_given(rt, trip.direction)?;
+    write_given(rt, trip.delay)
 }
 
 // The stop time updates of the entity that starts at `start` and ends with `s`.
 fn write_updates(rt: &impl Print, s: &[u8], start: usize) -> io::Result<()>
     requires { start ≤ length s.now }
 {
-    let mut w = realtime_views::merged_items(start);
-    loop {
-        match realtime_views::next_update(s, w) {
-            Item::Done => return Ok(()),
-            Item::At {
-                start: i,
-                len: n,
-                walk: rest,
-            } => {
-                write_stop(rt, s, realtime_views::stop_of(s, i, n))?;
-                w = rest;
-            }
-        }
+    let mut rest = realtime_views::merged_items(start);
+    while let Item::At { start, len, walk } = realtime_views::next_update(s, rest) {
+        write_stop(rt, s, realtime_views::stop_of(s, start, len))?;
+        rest = walk;
     }
+    Ok(())
 }
 
 fn write_entity(rt: &impl Print, s: &[u8], start: usize, len: usize) -> io::Result<()>
     requires { start + len ≤ length s.now }
 {
-    write(rt, b" [")?;
+    rt.print(" [")?;
     if realtime_views::is_deleted(s, start, len) {
-        write(rt, b"deleted")?;
+        rt.print("deleted")?;
     } else {
         write_trip(rt, s, start, len)?;
-        write_updates(rt, slices::part(s, 0, start + len), start)?;
+        write_updates(rt, &s[..start + len], start)?;
     }
-    write(rt, b"]")
+    rt.print("]")
 }
 
 fn write_entities(rt: &impl Print, s: &[u8]) -> io::Result<()> {
-    let mut w = realtime_views::entities(s);
-    loop {
-        match realtime_views::next_entity(s, w) {
-            Item::Done => return Ok(()),
-            Item::At {
-                start: i,
-                len: n,
-                walk: rest,
-            } => {
-                write_entity(rt, s, i, n)?;
-                w = rest;
-            }
-        }
+    let mut rest = realtime_views::entities(s);
+    while let Item::At { start, len, walk } = realtime_views::next_entity(s, rest) {
+        write_entity(rt, s, start, len)?;
+        rest = walk;
     }
+    Ok(())
 }
 
 fn write_message(rt: &impl Print, s: &[u8]) -> io::Result<()> {
     match realtime_read::judge(s, FEED_MESSAGE, ID_LIMIT) {
-        Verdict::Broken => write(rt, b"4")?,
-        Verdict::Text => write(rt, b"5")?,
-        Verdict::Time => write(rt, b"6")?,
+        Verdict::Broken => println!(rt; "4"),
+        Verdict::Text => println!(rt; "5"),
+        Verdict::Time => println!(rt; "6"),
         Verdict::Fine => {
-            write(rt, b"0")?;
-            let h = realtime_views::header_of(s);
-            write_bool(rt, h.differential)?;
-            let timestamp = h.timestamp;
-            write_timestamp(rt, timestamp)?;
+            let header = realtime_views::header_of(s);
+            rt.print("0")?;
+            write_flag(rt, header.differential)?;
+            write_given(rt, header.timestamp)?;
             write_entities(rt, s)?;
+            println!(rt)
         }
     }
-    write(rt, b"\n")
 }
 
-// The bytes of a line, two digits each, and how many they are.
-fn bytes_of(line: &[u8], out: &mut [u8]) -> usize
-    ensures { IsPrefixLen result out.new }
-{
-    let mut n = 0;
-    let mut high: u8 = 16;
-    let mut i = 0;
-    while i < line.len() {
-        let d = vector_lines::digit(line[i]);
-        i += 1;
-        if d < 16 {
-            if high == 16 {
-                high = d;
-            } else {
-                if n < out.len() {
-                    out[n] = high * 16 + d;
-                    n += 1;
-                }
-                high = 16;
-            }
+// The bytes of a line, two digits each, whatever stands between the digits.
+fn bytes_of(alloc: Global, line: &[u8]) -> Result<Vec<u8>, AllocError> {
+    let digits: Vec<u8> = line
+        .iter()
+        .filter_map(|c| vector_lines::digit(*c))
+        .collect(alloc)?;
+    let (pairs, _) = digits.as_chunks::<2>();
+    pairs
+        .iter()
+        .take(MESSAGE)
+        .map(|pair| pair[0] << 4 | pair[1])
+        .collect(alloc)
+}
+
+fn answer(rt: &(impl Print + AllocGlobal), input: &[u8]) -> io::Result<()> {
+    for line in input.split_inclusive(|b| *b == b'\n') {
+        if line.starts_with(b"#") {
+            rt.write_all(line)?;
+        } else {
+            write_message(rt, &bytes_of(rt.alloc(), line)?)?;
         }
-    }
-    n
-}
-
-fn answer(rt: &impl Print, line: &[u8]) -> io::Result<()> {
-    if 0 < line.len() {
-        if line[0] == b'#' {
-            return write(rt, line);
-        }
-    }
-    let mut bytes = program_io::buffer();
-    let n = bytes_of(line, &mut bytes);
-    write_message(rt, &bytes[..n])
-}
-
-fn answers(rt: &impl Print, s: &[u8]) -> io::Result<()> {
-    let mut at = 0;
-    while at < s.len() {
-        let end = vector_lines::line_end(s, at);
-        answer(rt, &s[at..end])?;
-        at = end;
     }
     Ok(())
 }
 
 fn main(rt: HostRuntime) -> io::Result<()> {
-    let mut buffer = program_io::large_buffer();
-    let n = program_io::read_full(&mut rt.reader(), &mut buffer)?;
-    answers(&rt, &buffer[..n])
+    let input = program_io::read_at_most(rt.alloc(), &mut rt.reader(), program_io::INPUT)?;
+    answer(&rt, &input)
 }

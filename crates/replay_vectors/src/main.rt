@@ -6,140 +6,125 @@
 // of it.
 #![tactic(auto)]
 
-mod memory;
+ghost use Rattle.std.specs.Prelude.{◌≤◌, length, IfOk};
+ghost use Rattle.std.specs.Iterator.{at_most};
 
-ghost use Rattle.std.specs.Prelude.{◌≤◌, ◌<◌, length, IfOk};
-
+use std::alloc::{AllocError, Global};
 use std::io;
 
 // How long an overlay is here.
 const ROOM: usize = 16384;
 
-fn write(rt: &impl Print, s: &[u8]) -> io::Result<()> {
-    rt.write_all(s)
+// How long a message's working buffers are.
+const KEYS: usize = 280713;
+
+const MARKS: usize = 6147;
+
+const ORDER: usize = 2049;
+
+// How much a replay tells at most, and how long all lists are.
+const TOLD: usize = 262144;
+
+const LISTS: usize = 1048576;
+
+// The calls from this kind on are a card and a report: behind their number stands their output.
+const CARD: u64 = 4;
+
+// A list of calls.
+#[derive(Drop)]
+struct List<'a> {
+    name: &'a [u8],
+    script: &'a [u8],
 }
 
-fn wide(b: u8) -> usize
-    ensures { result ≤ 255 }
-{
-    b as usize
+// The lists that stand in some bytes, as far as they are whole.
+#[derive(Drop)]
+struct Lists<'a>(&'a [u8]);
+
+impl<'a> Iterator for Lists<'a> {
+    type Item = List<'a>;
+
+    ghost remaining = { λ s. at_most (length s.0.now) };
+
+    fn next(&mut self) -> Option<List<'a>> {
+        let [length, low, middle, high, rest @ ..] = self.0 else {
+            return None;
+        };
+        let (name, rest) = rest.split_at_checked(usize::from(*length))?;
+        let length = u32::from_le_bytes([*low, *middle, *high, 0]);
+        let (script, rest) = rest.split_at_checked(length as usize)?;
+        self.0 = rest;
+        Some(List { name, script })
+    }
 }
 
-// Adler-32 (RFC 1950) of the bytes before `end`.
-fn sum(s: &[u8], end: usize) -> usize
-    requires { end ≤ length s.now }
-{
-    let mut low: usize = 1;
-    let mut high: usize = 0;
-    let mut i: usize = 0;
-    while i < end {
-        low = (low % 65521 + wide(s[i])) % 65521;
-        high = (high % 65521 + low) % 65521;
-        i += 1;
+// Adler-32 (RFC 1950).
+fn sum(s: &[u8]) -> u32 {
+    let mut low: u32 = 1;
+    let mut high: u32 = 0;
+    for b in s {
+        low = (low + u32::from(*b)) % 65521;
+        high = (high + low) % 65521;
     }
-    high % 65521 * 65536 + low % 65521
-}
-
-// Past what stands at p of a call: its number, and of a card or a report its output.
-fn past(p: usize, kind: u64, size: usize, end: usize) -> usize
-    requires { p < end }
-    ensures { result ≤ end }
-{
-    let from = p + 1;
-    if kind < 4 {
-        return from;
-    }
-    if end - from < size {
-        return end;
-    }
-    from + size
+    high << 16 | low
 }
 
 // The numbers of a script's calls, written; and where what was told ends.
-fn write_numbers(rt: &impl Print, s: &[u8], told: &[u8]) -> io::Result<usize>
+fn write_numbers(rt: &impl Print, script: &[u8], told: &[u8]) -> io::Result<usize>
     ensures { IfOk result (λ end. end ≤ length told.now) }
 {
-    let Some((count, start)) = replay_script::calls(s) else {
+    let Some((count, start)) = replay_script::calls(script) else {
         return Ok(0);
     };
-    let mut left = count;
     let mut at = start;
-    let mut p: usize = 0;
-    while 0 < left {
-        if told.len() <= p {
-            return Ok(p);
+    let mut end = 0;
+    for _ in 0..count {
+        let Some(number) = told.get(end) else {
+            break;
+        };
+        print!(rt; " {number}")?;
+        let call = replay_script::read(script, at);
+        at = call.next;
+        end += 1;
+        if CARD <= call.kind {
+            end = end.saturating_add(call.out).min(told.len());
         }
-        write(rt, b" ")?;
-        rt.print(wide(told[p]) as u64)?;
-        let q = replay_script::read(s, at);
-        p = past(p, q.kind, q.out, told.len());
-        at = q.next;
-        left -= 1;
     }
-    Ok(p)
-}
-
-fn replay(s: &[u8], told: &mut [u8]) -> u32 {
-    let mut a = memory::overlay();
-    let mut b = memory::overlay();
-    let mut keys = memory::keys();
-    let mut marks = memory::marks();
-    let mut order = memory::order();
-    replay_calls::replay(
-        ROOM, s, &mut a, &mut b, told, &mut keys, &mut marks, &mut order,
-    )
-}
-
-// What was told of a script: the numbers, and the sum of all bytes.
-fn write_told(rt: &impl Print, s: &[u8], told: &[u8]) -> io::Result<()> {
-    let end = write_numbers(rt, s, told)?;
-    write(rt, b", ")?;
-    rt.print(sum(told, end) as u64)
-}
-
-fn show(rt: &impl Print, name: &[u8], s: &[u8]) -> io::Result<()> {
-    let mut told = memory::told();
-    write(rt, name)?;
-    write(rt, b":")?;
-    if replay(s, &mut told) == 0 {
-        write_told(rt, s, &told)?;
-    } else {
-        write(rt, b" no script")?;
-    }
-    write(rt, b"\n")
-}
-
-// The list that stands at `at`, shown; and the place past it.
-fn show_next(rt: &impl Print, s: &[u8], at: usize) -> io::Result<usize>
-    requires { at < length s.now }
-    ensures lower_bound { IfOk result (λ next. at < next) }
-    ensures upper_bound { IfOk result (λ next. next ≤ length s.now) }
-{
-    if s.len() - at < 4 {
-        return Ok(s.len());
-    }
-    let n = wide(s[at]);
-    let m = wide(s[at + 1]) + 256 * wide(s[at + 2]) + 65536 * wide(s[at + 3]);
-    let from = at + 4;
-    if s.len() - from < n + m {
-        return Ok(s.len());
-    }
-    let middle = from + n;
-    let end = middle + m;
-    show(rt, &s[from..middle], &s[middle..end])?;
     Ok(end)
 }
 
-fn show_all(rt: &impl Print, s: &[u8]) -> io::Result<()> {
-    let mut at: usize = 0;
-    while at < s.len() {
-        at = show_next(rt, s, at)?;
+// What a replay tells of a script; nothing where it is none.
+fn replay(alloc: Global, script: &[u8]) -> Result<Option<Vec<u8>>, AllocError> {
+    let mut told = vec![in alloc; 0; TOLD]?;
+    let number = replay_calls::replay(
+        ROOM,
+        script,
+        &mut vec![in alloc; 0; ROOM]?,
+        &mut vec![in alloc; 0; ROOM]?,
+        &mut told,
+        &mut vec![in alloc; 0; KEYS]?,
+        &mut vec![in alloc; 0; MARKS]?,
+        &mut vec![in alloc; 0; ORDER]?,
+    );
+    Ok((number == 0).then_some(told))
+}
+
+fn show(rt: &(impl Print + AllocGlobal), list: List<'_>) -> io::Result<()> {
+    rt.write_all(list.name)?;
+    rt.print(":")?;
+    match replay(rt.alloc(), list.script)? {
+        Some(told) => {
+            let end = write_numbers(rt, list.script, &told)?;
+            println!(rt; ", {}", sum(&told[..end]))
+        }
+        None => println!(rt; " no script"),
     }
-    Ok(())
 }
 
 fn main(rt: HostRuntime) -> io::Result<()> {
-    let mut lists = memory::lists();
-    let n = program_io::read_full(&mut rt.reader(), &mut lists)?;
-    show_all(&rt, &lists[..n])
+    let input = program_io::read_at_most(rt.alloc(), &mut rt.reader(), LISTS)?;
+    for list in Lists(&input) {
+        show(&rt, list)?;
+    }
+    Ok(())
 }

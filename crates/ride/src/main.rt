@@ -2,40 +2,32 @@
 //   message FEED FILE    alerts FEED FILE    vehicles FEED CLOCK FILE    card FILE    records
 #![tactic(auto)]
 
-pub mod memory; // what is lent to the calls
-pub mod words; // the command line's words and files
-pub mod meaning; // what a number says
+pub mod answer; // what a call's number says
+pub mod words; // the command line's words, and the files that they name
 pub mod steps; // a step: a call, and what is shown of it
 
-use std::io;
 use std::rt::Runtime;
-use steps::Turn;
-
-// One step, from the overlay that counts into the other one.
-fn turn(rt: &impl Runtime, in_a: bool, at: usize, a: &mut [u8], b: &mut [u8]) -> io::Result<Turn> {
-    if in_a {
-        return steps::step(rt, at, a, b);
-    }
-    steps::step(rt, at, b, a)
-}
+use std::{io, mem};
+use steps::{ROOM, Step};
+use words::Word;
 
 // All steps: the overlays take turns after each accepted call that writes.
-fn play(rt: &impl Runtime, a: &mut [u8], b: &mut [u8]) -> io::Result<()> {
-    let mut at: usize = 1;
-    let mut in_a = true;
-    let mut left = words::count(rt);
-    while 0 < left {
-        let t = turn(rt, in_a, at, a, b)?;
-        in_a = in_a != t.wrote;
-        at = t.next;
-        left -= 1;
+fn play(rt: &(impl Runtime + AllocGlobal), words: &[Word]) -> io::Result<()> {
+    let mut old = vec![in rt.alloc(); 0; ROOM]?;
+    let mut new = vec![in rt.alloc(); 0; ROOM]?;
+    panel_report::fresh(ROOM, &mut old);
+    let mut at = 1;
+    for _ in words {
+        let (step, next) = Step::parse(words, at);
+        if step.play(rt, &old, &mut new)? {
+            mem::swap(&mut old, &mut new);
+        }
+        at = next;
     }
     Ok(())
 }
 
 fn main(rt: HostRuntime) -> io::Result<()> {
-    let mut a = memory::overlay();
-    let mut b = memory::overlay();
-    panel_report::fresh(memory::ROOM, &mut a);
-    play(&rt, &mut a, &mut b)
+    let words = words::all(&rt, rt.alloc())?;
+    play(&rt, &words)
 }

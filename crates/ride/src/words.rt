@@ -1,127 +1,87 @@
 // The command line's words, and the files that they name.
-ghost use Rattle.std.specs.Prelude.{◌≡◌, IfOk};
-ghost use Rattle.program_io.specs.Promises.Counts.{IsPrefixLen};
-
+use std::alloc::Global;
 use std::env::{Env, FillError};
 use std::fs::{File, Files};
 use std::io;
 
-// What was put at the start of a buffer: whether it is whole, and how many bytes it has.
+// How long a word is at most.
+const WORD: usize = 4096;
+
+// How much of a file is read: one byte more than a message may have, so that a longer one is refused as too long.
+const FILE: usize = 1048577;
+
+// A word; none that is too long is kept.
 #[derive(Drop)]
-pub struct Filled {
-    pub whole: bool,
-    pub count: usize,
+pub enum Word {
+    Whole(Vec<u8>),
+    TooLong,
 }
 
-// How many words the command line has, the program's own name among them.
-pub fn count(rt: &impl Env) -> usize {
+// The bytes of a word; a word that is too long has none, and where there is no word there are none.
+pub fn bytes(word: Option<&Word>) -> &[u8] {
+    match word {
+        Some(Word::Whole(bytes)) => bytes.as_slice(),
+        Some(Word::TooLong) | None => &[],
+    }
+}
+
+// Up to 18 digits at a word's start as a number; 0 where it begins with none.
+pub fn decimal(word: &[u8]) -> i64 {
+    let digits = word.iter().take(18).take_while(|b| b.is_ascii_digit());
+    let digits = &word[..digits.count()];
+    let number = str::from_utf8(digits).ok().and_then(|n| n.parse().ok());
+    number.unwrap_or(0)
+}
+
+// All words, the program's own name the first.
+pub fn all(rt: &impl Env, alloc: Global) -> io::Result<Vec<Word>> {
+    let mut words = Vec::new(alloc);
+    let mut buf = [0; WORD];
     for i in 0..usize::MAX {
-        if let Err(FillError::NotPresent) = rt.arg(i, &mut []) {
-            return i;
-        }
+        let word = match rt.arg(i, &mut buf) {
+            Ok(length) => Word::Whole(buf[..length].to_vec(alloc)?),
+            Err(FillError::TooLong) => Word::TooLong,
+            Err(FillError::NotPresent) => break,
+        };
+        words.push(word)?;
     }
-    usize::MAX
+    Ok(words)
 }
 
-// The word i, at the start of `buf`.
-pub fn word(rt: &impl Env, i: usize, buf: &mut [u8]) -> Filled
-    ensures { IsPrefixLen result.count buf.new }
-{
-    match rt.arg(i, buf) {
-        Ok(count) => Filled { whole: true, count },
-        Err(_) => Filled {
-            whole: false,
-            count: 0,
-        },
+// The name of a file that a word is; or why it is none.
+fn path(word: Option<&Word>) -> Result<&str, &'static str> {
+    match word {
+        Some(Word::Whole(name)) => str::from_utf8(name).map_err(|_| "Invalid argument"),
+        Some(Word::TooLong) => Err("File name too long"),
+        None => Err("Invalid argument"),
     }
-}
-
-// Says on standard error what is wrong with a file, of which nothing is read.
-fn not_read(rt: &impl Eprint, what: &str, why: &str) -> io::Result<Filled>
-    ensures { IfOk result (λ f. f.count ≡ 0) }
-{
-    eprintln!(rt; "{what}: {why}")?;
-    Ok(Filled {
-        whole: false,
-        count: 0,
-    })
 }
 
 // The system's words of an error, without its number.
 fn without_number(words: &str) -> &str {
-    match words.split_once(" (os error ") {
-        Some((before, _)) => before,
-        None => words,
-    }
+    words
+        .split_once(" (os error ")
+        .map_or(words, |(before, _)| before)
 }
 
-// The bytes of the file of that name, at the start of `buf`. A name that is no text names no file.
-fn named<R: Files + Eprint + Alloc>(rt: &R, name: &[u8], buf: &mut [u8]) -> io::Result<Filled>
-    ensures { IfOk result (λ f. IsPrefixLen f.count buf.new) }
-{
-    let Ok(path) = str::from_utf8(name) else {
-        return not_read(rt, "the name of a file", "Invalid argument");
+// The bytes of the file that a word names. Where it does not open, standard error says what is wrong with it.
+pub fn file<R: Files + Eprint + AllocGlobal>(
+    rt: &R,
+    word: Option<&Word>,
+) -> io::Result<Option<Vec<u8>>> {
+    let path = match path(word) {
+        Ok(path) => path,
+        Err(why) => {
+            eprintln!(rt; "the name of a file: {why}")?;
+            return Ok(None);
+        }
     };
     match File::open(rt, path) {
-        Ok(mut file) => {
-            let count = program_io::read_full(&mut file, buf)?;
-            Ok(Filled { whole: true, count })
-        }
+        Ok(mut file) => Ok(Some(program_io::read_at_most(rt.alloc(), &mut file, FILE)?)),
         Err(e) => {
             let words = format!(in rt.alloc(); "{e}")?;
-            not_read(rt, path, without_number(words.as_str()))
+            eprintln!(rt; "{path}: {}", without_number(words.as_str()))?;
+            Ok(None)
         }
     }
-}
-
-// The bytes of the file that the word i names, at the start of `buf`, as many as have room there. What is wrong with
-// it is said on standard error.
-pub fn file<R: Env + Files + Eprint + Alloc>(rt: &R, i: usize, buf: &mut [u8]) -> io::Result<Filled>
-    ensures { IfOk result (λ f. IsPrefixLen f.count buf.new) }
-{
-    let mut path = program_io::buffer();
-    match rt.arg(i, &mut path) {
-        Ok(length) => named(rt, &path[..length], buf),
-        Err(FillError::NotPresent) => not_read(rt, "the name of a file", "Invalid argument"),
-        Err(FillError::TooLong) => not_read(rt, "the name of a file", "File name too long"),
-    }
-}
-
-// What a digit counts; a byte that is none ends the number.
-fn digit(b: u8) -> u64 {
-    if b < b'0' {
-        return 10;
-    }
-    if b'9' < b {
-        return 10;
-    }
-    (b - b'0') as u64
-}
-
-// A number in decimal digits, up to 18 of them.
-fn number(word: &[u8]) -> u64 {
-    let mut n: u64 = 0;
-    let mut left: usize = 18;
-    let mut i: usize = 0;
-    while 0 < left {
-        if word.len() <= i {
-            return n;
-        }
-        let d = digit(word[i]);
-        if 9 < d {
-            return n;
-        }
-        n = n % 100000000000000000 * 10 + d;
-        i += 1;
-        left -= 1;
-    }
-    n
-}
-
-// The number that the word i is.
-pub fn decimal(rt: &impl Env, i: usize) -> i64 {
-    let mut buf = program_io::buffer();
-    let count = word(rt, i, &mut buf).count;
-    let n = number(&buf[..count]) % 1000000000000000000;
-    n as i64
 }

@@ -1,32 +1,17 @@
-// The lines of a file of vectors, and hexadecimal digits: for the programs that run vectors.
+// Hexadecimal digits, for the programs that run files of vectors.
 #![tactic(auto)]
 
-ghost use Rattle.std.specs.Prelude.{◌≤◌, ◌<◌, length};
-ghost use Rattle.vector_lines.specs.Promises.Line.{Past};
+ghost use Rattle.std.specs.Prelude.{◌≡◌, ◌-◌, ◌≤◌, ◌<◌, IfSome, Some};
 
-// The value of a hexadecimal digit; 16 for any other byte.
-pub fn digit(c: u8) -> u8
-    ensures { result ≤ 16 }
+// The value of a hexadecimal digit; no byte but '0' to '9' and 'a' to 'f' is one.
+pub fn digit(c: u8) -> Option<u8>
+    ensures below_ten { 48 ≤ c → c ≤ 57 → result ≡ Some (c - 48) }
+    ensures from_ten { 97 ≤ c → c ≤ 102 → result ≡ Some (c - 87) }
+    ensures bound { IfSome result (λ d. d < 16) }
 {
     match c {
-        b'0'..=b'9' => c - 48,
-        b'a'..=b'f' => c - 87,
-        _ => 16,
+        b'0'..=b'9' => Some(c - b'0'),
+        b'a'..=b'f' => Some(c - b'a' + 10),
+        _ => None,
     }
-}
-
-// Past the line that starts at `from`: behind its end of line, or the end of s.
-pub fn line_end(s: &[u8], from: usize) -> usize
-    requires { from < length s.now }
-    ensures { Past from result s.now }
-{
-    let mut i = from;
-    while i < s.len() {
-        let b = s[i];
-        i += 1;
-        if b == b'\n' {
-            return i;
-        }
-    }
-    i
 }

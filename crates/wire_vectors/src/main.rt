@@ -3,79 +3,57 @@
 //   n BYTES = VALUE 0 NEXT         a number         k BYTES = NUMBER WIRE NEXT   a key
 //   t BYTES = START LENGTH NEXT    a text           f BYTES = 0 0 NEXT           a field, passed over
 // or '!' behind the bytes, where they are broken. All numbers are hexadecimal, and one space stands between two
-// words. A line that begins with '#' says what follows. What the reader answers is proved in `wire`; here only the
-// places in a line are, so most functions have no `ensures`.
+// words. A line that begins with '#' says what follows. What the reader answers is proved in `wire`; the functions here
+// promise nothing of what they read, so they have no `ensures`.
 #![tactic(auto)]
 
-ghost use Rattle.std.specs.Prelude.{◌≤◌, length};
-
+use std::alloc::{AllocError, Global};
 use std::io;
+use std::slice::Iter;
 use wire::Cursor;
 
-// An answer in numbers: 1 and what was read, or zeros where the bytes are broken.
-#[derive(Drop)]
+// How many bytes a line gives at most.
+const BYTES: usize = 64;
+
+// What is read, and the place behind it.
+#[derive(PartialEq, Eq, Drop)]
 struct Answer {
-    whole: u64,
     a: u64,
     b: u64,
     next: u64,
 }
 
-fn broken() -> Answer {
-    Answer {
-        whole: 0,
-        a: 0,
-        b: 0,
-        next: 0,
+impl Answer {
+    fn new(a: u64, b: u64, next: Cursor) -> Self {
+        let next = next.at as u64;
+        Answer { a, b, next }
     }
 }
 
-fn read_whole(a: u64, b: u64, next: usize) -> Answer {
-    Answer {
-        whole: 1,
-        a,
-        b,
-        next: next as u64,
-    }
+fn number(s: &[u8]) -> Option<Answer> {
+    let (value, next) = (Cursor { at: 0 }).number(s)?;
+    Some(Answer::new(value, 0, next))
 }
 
-fn number(s: &[u8]) -> Answer {
-    let c = Cursor { at: 0 };
-    match c.number(s) {
-        None => broken(),
-        Some((value, next)) => read_whole(value, 0, next.at),
-    }
+fn key(s: &[u8]) -> Option<Answer> {
+    let (number, wire, next) = (Cursor { at: 0 }).key(s)?;
+    Some(Answer::new(number, wire, next))
 }
 
-fn key(s: &[u8]) -> Answer {
-    let c = Cursor { at: 0 };
-    match c.key(s) {
-        None => broken(),
-        Some((number, wire, next)) => read_whole(number, wire, next.at),
-    }
+fn text(s: &[u8]) -> Option<Answer> {
+    let (start, len, next) = (Cursor { at: 0 }).text(s)?;
+    Some(Answer::new(start as u64, len as u64, next))
 }
 
-fn text(s: &[u8]) -> Answer {
-    let c = Cursor { at: 0 };
-    match c.text(s) {
-        None => broken(),
-        Some((start, len, next)) => read_whole(start as u64, len as u64, next.at),
-    }
+fn field(s: &[u8]) -> Option<Answer> {
+    let (number, wire, value) = (Cursor { at: 0 }).key(s)?;
+    let next = value.skip(s, number, wire, 16)?;
+    Some(Answer::new(0, 0, next))
 }
 
-fn field(s: &[u8]) -> Answer {
-    let c = Cursor { at: 0 };
-    match c.key(s) {
-        None => broken(),
-        Some((number, wire, next)) => match next.skip(s, number, wire, 16) {
-            None => broken(),
-            Some(after) => read_whole(0, 0, after.at),
-        },
-    }
-}
-
-fn read(kind: u8, s: &[u8]) -> Answer {
-    match kind {
+// What the reader answers of s, as a line's letter asks.
+fn read(letter: u8, s: &[u8]) -> Option<Answer> {
+    match letter {
         b'n' => number(s),
         b'k' => key(s),
         b't' => text(s),
@@ -83,131 +61,68 @@ fn read(kind: u8, s: &[u8]) -> Answer {
     }
 }
 
-fn digit(c: u8) -> u64
-    ensures { result ≤ 16 }
-{
-    vector_lines::digit(c) as u64
+fn is_digit(c: u8) -> bool {
+    vector_lines::digit(c).is_some()
 }
 
-// A number, and where the next word starts.
-#[derive(Drop)]
-struct Word {
-    value: u64,
-    next: usize,
+// The number whose digits come next; the byte behind them is passed too.
+fn word(line: &mut Iter<'_, u8>) -> u64 {
+    line.map_while(|c| vector_lines::digit(*c))
+        .fold(0, |n, d| n << 4 | u64::from(d))
 }
 
-fn read_word(line: &[u8], from: usize) -> Word
-    requires { from ≤ length line.now }
-    ensures { result.next ≤ length line.now }
-{
-    let mut at = from;
-    let mut value: u64 = 0;
-    while at < line.len() {
-        let d = digit(line[at]);
-        at += 1;
-        if d == 16 {
-            return Word { value, next: at };
-        }
-        value = value % 1152921504606846976 * 16 + d;
-    }
-    Word { value, next: at }
-}
-
-// The bytes of a line go into out; the answer is how many, and where the word behind them starts.
-#[derive(Drop)]
-struct Row {
-    count: usize,
-    next: usize,
-}
-
-fn bytes(line: &[u8], out: &mut [u8]) -> Row
-    ensures { (result.count ≤ length out.new) × (result.next ≤ length line.now) }
-{
-    if line.len() < 2 {
-        return Row { count: 0, next: 0 };
-    }
-    let mut at = 2;
-    let mut n = 0;
-    while n < out.len() {
-        if line.len() <= at {
-            return Row { count: n, next: at };
-        }
-        if digit(line[at]) == 16 {
-            return Row { count: n, next: at };
-        }
-        let w = read_word(line, at);
-        out[n] = (w.value % 256) as u8;
-        n += 1;
-        at = w.next;
-    }
-    Row { count: n, next: at }
-}
-
-// What a line says is read: three numbers behind '=', else broken.
-fn wanted(line: &[u8], from: usize) -> Answer
-    requires { from ≤ length line.now }
-{
-    let sign = read_word(line, from);
-    let space = read_word(line, sign.next);
-    let a = read_word(line, space.next);
-    let b = read_word(line, a.next);
-    let next = read_word(line, b.next);
-    if from < line.len() {
-        if line[from] == b'=' {
-            return Answer {
-                whole: 1,
-                a: a.value,
-                b: b.value,
-                next: next.value,
-            };
+// The bytes that come next.
+fn bytes(alloc: Global, line: &mut Iter<'_, u8>) -> Result<Vec<u8>, AllocError> {
+    let mut s = Vec::new(alloc);
+    for _ in 0..BYTES {
+        match line.as_slice() {
+            [c, ..] if is_digit(*c) => s.push((word(line) % 256) as u8)?,
+            _ => break,
         }
     }
-    broken()
+    Ok(s)
 }
 
-// Whether what is read is what the line says; its bytes go into s.
-fn agrees(line: &[u8], kind: u8, s: &mut [u8]) -> bool {
-    let b = bytes(line, s);
-    let want = wanted(line, b.next);
-    let n = b.count;
-    let got = read(kind, &s[..n]);
-    (got.whole == want.whole) & (got.a == want.a) & (got.b == want.b) & (got.next == want.next)
+// What a line says is read: three numbers behind '=', else nothing.
+fn wanted(line: &mut Iter<'_, u8>) -> Option<Answer> {
+    if !line.as_slice().starts_with(b"=") {
+        return None;
+    }
+    let _sign = word(line);
+    let _space = word(line);
+    let a = word(line);
+    let b = word(line);
+    let next = word(line);
+    Some(Answer { a, b, next })
 }
 
-// 1 where a line has a vector that agrees, else 0; where it differs, the line is named.
-fn run_line(rt: &impl Print, line: &[u8], number: u64) -> io::Result<u64> {
-    if line.len() == 0 {
-        return Ok(0);
-    }
-    let kind = line[0];
-    if (kind == b'#') | (kind == b'\n') {
-        return Ok(0);
-    }
-    let mut s = [0u8; 64];
-    if agrees(line, kind, &mut s) {
-        return Ok(1);
-    }
-    println!(rt; "differs: line {number}")?;
-    Ok(0)
+// Whether what is read is what the line says.
+fn agrees(alloc: Global, letter: u8, line: &[u8]) -> Result<bool, AllocError> {
+    let mut rest = line.get(2..).unwrap_or(line).iter();
+    let s = bytes(alloc, &mut rest)?;
+    Ok(read(letter, &s) == wanted(&mut rest))
 }
 
-// How many vectors of s agree.
-fn run(rt: &impl Print, s: &[u8]) -> io::Result<u64> {
-    let mut start = 0;
-    let mut number: u64 = 1;
-    let mut agree: u64 = 0;
-    while start < s.len() {
-        let end = vector_lines::line_end(s, start);
-        agree = agree.wrapping_add(run_line(rt, &s[start..end], number)?);
-        number = number.wrapping_add(1);
-        start = end;
+// How many vectors of the input agree; where one differs, its line is named.
+fn run(rt: &(impl Print + AllocGlobal), input: &[u8]) -> io::Result<u64> {
+    let mut agree = 0u64;
+    for (line, number) in input.split_inclusive(|b| *b == b'\n').zip(1u64..) {
+        match line {
+            [] | [b'#' | b'\n', ..] => {}
+            [letter, ..] => {
+                if agrees(rt.alloc(), *letter, line)? {
+                    agree = agree.wrapping_add(1);
+                } else {
+                    println!(rt; "differs: line {number}")?;
+                }
+            }
+        }
     }
     Ok(agree)
 }
 
 fn main(rt: HostRuntime) -> io::Result<()> {
-    let mut input = program_io::large_buffer();
-    let n = program_io::read_full(&mut rt.reader(), &mut input)?;
-    let agree = run(&rt, &input[..n])?;
+    let input = program_io::read_at_most(rt.alloc(), &mut rt.reader(), program_io::INPUT)?;
+    let agree = run(&rt, &input)?;
     println!(rt; "{agree} vectors agree")
 }

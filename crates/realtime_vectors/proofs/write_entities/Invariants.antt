@@ -2,8 +2,8 @@
 use Rattle.realtime_views.specs.Promises.Walks.{SoundWalk, ahead}
 use Rattle.realtime_vectors.proofs.write_entities.Given as goal
 
-abbrev pub invariant-loop-i : goal.invariant-loop-i
-invariant-loop-i g l = SoundWalk l.s l.w.outer l.w.end l.w.at
+abbrev pub invariant-loop-start : goal.invariant-loop-start
+invariant-loop-start g l = SoundWalk l.s l.rest.outer l.rest.end l.rest.at
 
-abbrev pub decreases-loop-i : goal.decreases-loop-i
-decreases-loop-i g l = ahead l.s l.w
+abbrev pub decreases-loop-start : goal.decreases-loop-start
+decreases-loop-start g l = ahead l.s l.rest

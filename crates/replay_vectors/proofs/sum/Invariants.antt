@@ -1,9 +1,6 @@
--- `replay_vectors::sum` is safe and ends.
-use Rattle.std.proofs.Common.{◌-◌, ◌≤◌}
+-- `replay_vectors::sum` is safe: both sums stay below the modulus.
+use Rattle.std.proofs.Common.{◌<◌}
 use Rattle.replay_vectors.proofs.sum.Given as goal
 
-abbrev pub invariant-loop-i : goal.invariant-loop-i
-invariant-loop-i l = l.i ≤ l.end
-
-abbrev pub decreases-loop-i : goal.decreases-loop-i
-decreases-loop-i l = l.end - l.i
+abbrev pub invariant-loop-b : goal.invariant-loop-b
+invariant-loop-b l = (l.low < 65521) × (l.high < 65521)

@@ -1,5 +1,0 @@
--- `panel_show::card::leaves` ends: what is left falls. Assumes nothing.
-use Rattle.panel_show.proofs.card.leaves.Given as goal
-
-abbrev pub decreases-loop-left : goal.decreases-loop-left
-decreases-loop-left g l = l.left

@@ -1,5 +1,0 @@
--- `panel_show::large::letter_row` ends: what is left falls. Assumes nothing.
-use Rattle.panel_show.proofs.large.letter_row.Given as goal
-
-abbrev pub decreases-loop-left : goal.decreases-loop-left
-decreases-loop-left g l = l.left
