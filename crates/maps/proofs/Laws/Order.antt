@@ -8,6 +8,16 @@ use Rattle.std.specs.declared.cmp.Ordering.TheVariants.{Less, Equal, Greater}
 use Rattle.maps.proofs.Laws.Map.{Lawful}
 use Rattle.maps.specs.Order.{texts, numbers}
 
+-- no order is another
+less_same : {C : Type 0} → Less ≡ Equal → C
+less_same e = absurd (let z : ◌≡◌ {A = ℕ} 0 1 = cc in omega arith)
+
+less_more : {C : Type 0} → Less ≡ Greater → C
+less_more e = absurd (let z : ◌≡◌ {A = ℕ} 0 1 = cc in omega arith)
+
+same_more : {C : Type 0} → Equal ≡ Greater → C
+same_more e = absurd (let z : ◌≡◌ {A = ℕ} 0 1 = cc in omega arith)
+
 module _ (x y : ℕ) (xs ys : List ℕ) where
   pub cons_before : x < y → lex_of (x ∷ xs) (y ∷ ys) ≡ Less
   unfolding lex_of
@@ -45,58 +55,58 @@ lex_itself (x ∷ a) = cons_level x x a a refl ∙ lex_itself a
 pub lex_same : (a b : List ℕ) → lex_of a b ≡ Equal → a ≡ b
 unfolding lex_of
 lex_same [] [] e = refl
-lex_same [] (y ∷ b) e = absurd cc
-lex_same (x ∷ a) [] e = absurd cc
+lex_same [] (y ∷ b) e = less_same e
+lex_same (x ∷ a) [] e = same_more (sym e)
 lex_same (x ∷ a) (y ∷ b) e = go (firsts x y a b) e (lex_same a b)
   where
     go : {o : Ordering} → Firsts x y a b o → o ≡ Equal → (lex_of a b ≡ Equal → a ≡ b) → x ∷ a ≡ y ∷ b
-    go (before h p) q r = absurd cc
-    go (behind h p) q r = absurd cc
+    go (before h p) q r = less_same (sym p ∙ q)
+    go (behind h p) q r = same_more (sym q ∙ p)
     go (level h p) q r = let t : a ≡ b = r (sym p ∙ q) in cc
 
 pub lex_less : (a b : List ℕ) → lex_of a b ≡ Greater → lex_of b a ≡ Less
 unfolding lex_of
-lex_less [] [] e = absurd cc
-lex_less [] (y ∷ b) e = absurd cc
+lex_less [] [] e = same_more e
+lex_less [] (y ∷ b) e = less_more e
 lex_less (x ∷ a) [] e = refl
 lex_less (x ∷ a) (y ∷ b) e = go (firsts x y a b) e (lex_less a b)
   where
     go : {o : Ordering} → Firsts x y a b o → o ≡ Greater → (lex_of a b ≡ Greater → lex_of b a ≡ Less)
         → lex_of (y ∷ b) (x ∷ a) ≡ Less
-    go (before h p) q r = absurd cc
+    go (before h p) q r = less_more (sym p ∙ q)
     go (behind h p) q r = cons_before y x b a h
     go (level h p) q r = cons_level y x b a (sym h) ∙ r (sym p ∙ q)
 
 pub lex_more : (a b : List ℕ) → lex_of a b ≡ Less → lex_of b a ≡ Greater
 unfolding lex_of
-lex_more [] [] e = absurd cc
+lex_more [] [] e = less_same (sym e)
 lex_more [] (y ∷ b) e = refl
-lex_more (x ∷ a) [] e = absurd cc
+lex_more (x ∷ a) [] e = less_more (sym e)
 lex_more (x ∷ a) (y ∷ b) e = go (firsts x y a b) e (lex_more a b)
   where
     go : {o : Ordering} → Firsts x y a b o → o ≡ Less → (lex_of a b ≡ Less → lex_of b a ≡ Greater)
         → lex_of (y ∷ b) (x ∷ a) ≡ Greater
     go (before h p) q r = cons_behind y x b a h
-    go (behind h p) q r = absurd cc
+    go (behind h p) q r = less_more (sym q ∙ p)
     go (level h p) q r = cons_level y x b a (sym h) ∙ r (sym p ∙ q)
 
 pub lex_through : (a b c : List ℕ) → lex_of a b ≡ Less → lex_of b c ≡ Less → lex_of a c ≡ Less
 unfolding lex_of
-lex_through [] [] c e f = absurd cc
-lex_through [] (y ∷ b) [] e f = absurd cc
+lex_through [] [] c e f = less_same (sym e)
+lex_through [] (y ∷ b) [] e f = less_more (sym f)
 lex_through [] (y ∷ b) (z ∷ c) e f = refl
-lex_through (x ∷ a) [] c e f = absurd cc
-lex_through (x ∷ a) (y ∷ b) [] e f = absurd cc
+lex_through (x ∷ a) [] c e f = less_more (sym e)
+lex_through (x ∷ a) (y ∷ b) [] e f = less_more (sym f)
 lex_through (x ∷ a) (y ∷ b) (z ∷ c) e f = go (firsts x y a b) e (firsts y z b c) f (lex_through a b c)
   where
     go : {o p : Ordering} → Firsts x y a b o → o ≡ Less → Firsts y z b c p → p ≡ Less
         → (lex_of a b ≡ Less → lex_of b c ≡ Less → lex_of a c ≡ Less) → lex_of (x ∷ a) (z ∷ c) ≡ Less
-    go (behind h p) q g t r = absurd cc
+    go (behind h p) q g t r = less_more (sym q ∙ p)
     go (before h p) q (before k s) t r = cons_before x z a c (omega arith)
-    go (before h p) q (behind k s) t r = absurd cc
+    go (before h p) q (behind k s) t r = less_more (sym t ∙ s)
     go (before h p) q (level k s) t r = cons_before x z a c (omega arith)
     go (level h p) q (before k s) t r = cons_before x z a c (omega arith)
-    go (level h p) q (behind k s) t r = absurd cc
+    go (level h p) q (behind k s) t r = less_more (sym t ∙ s)
     go (level h p) q (level k s) t r = cons_level x z a c (h ∙ k) ∙ r (sym p ∙ q) (sym s ∙ t)
 
 pub texts_order : Lawful texts
