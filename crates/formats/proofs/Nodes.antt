@@ -3,16 +3,9 @@ use mathlib.Core.Path.{◌≡◌, refl, sym, ap, ◌∙◌}
 use mathlib.Core.List.{List}
 use Prim.Native.Nat.{ℕ, zero, suc, ◌+◌, ◌-◌, ◌*◌, ◌≤◌, ◌<◌}
 use native.Mathlib.Omega.{arith}
-use lib.ListN.{length, get_or, get_or-eq_default}
+use lib.ListN.{get_or}
 use Rattle.formats.specs.Format.{Format, never, list, choice, ◌&◌}
 use Rattle.formats.specs.Promises.Outcome.{node_format, format_at, leaf_format}
-
--- a word past the end
-pub word_end : (t : List ℕ) (i : ℕ) → length t ≤ i → 0 ≡ get_or t i 0
-word_end t i h = sym (get_or-eq_default t 0 h)
-
-pub word_past : (t : List ℕ) (n j : ℕ) → length t ≤ n → 0 ≡ get_or t (4 * n + j) 0
-word_past t n j h = word_end t (4 * n + j) (omega arith)
 
 -- a kind with no parts does not look at the others
 pub leaf_is : (kind a b : ℕ) (sub : ℕ → Format) → kind < 8 → leaf_format kind a b ≡ node_format kind a b sub

@@ -57,18 +57,9 @@ module _ {w : ℕ → List ℕ} {r : Reader ℕ} {ok : ℕ → Type 0} (l : Law 
   got_fits : (n q : ℕ) → NumberGot r s at n q → ok n
   got_fits n q f = (l.back (drop at s) n (drop q s) f.reads).1
 
-pub at_end : (s : List ℕ) (at : ℕ) → length s ≤ at → None ≡ numbered s (number_r (drop at s))
-at_end s at h = rw (drop_of_length-le s h) refl
-
 pub little_end : (k : ℕ) (s : List ℕ) (at : ℕ) → (k ≡ 0 → ⊥) → length s ≤ at → None ≡ numbered s (little_r k (drop at s))
 little_end zero s at z h = absurd (z refl)
 little_end (suc k) s at z h = rw (drop_of_length-le s h) refl
-
-pub float_end : (s : List ℕ) (at : ℕ) → length s ≤ at → None ≡ numbered s (little_r 8 (drop at s))
-float_end s at h = little_end 8 s at (λ z. omega arith) h
-
-pub little_none : (k : ℕ) (s : List ℕ) (at : ℕ) → k ≡ 0 → at ≤ length s → Some (0, at) ≡ numbered s (little_r k (drop at s))
-little_none k s at z h = rw (z, place s at h) refl
 
 -- a byte is there
 module _ (s : List ℕ) (at b : ℕ) (h : at < length s) (e : b ≡ get_or s at 0) where
@@ -95,15 +86,9 @@ module _ (s : List ℕ) (at b : ℕ) (h : at < length s) (e : b ≡ get_or s at 
     next = let i : k ≡ suc (k - 1) = omega arith in ap (λ k. little_r k (drop at s)) i
         ∙ rw (opened, lt-ltb b 256 u) refl
 
-    pub little_bad : o ≡ None → None ≡ numbered s (little_r k (drop at s))
-    little_bad f = rw (next, bad_none s (little_r (k - 1) (drop (at + 1) s)) o r f) refl
-
     module _ (n q : ℕ) (f : o ≡ Some (n, q)) where
       others : NumberGot (little_r (k - 1)) s (at + 1) n q
       others = got (little_law (k - 1)) s (at + 1) n q o r f
-
-      pub little_good : Some (b + 256 * n, q) ≡ numbered s (little_r k (drop at s))
-      little_good = rw (next, others.reads, place s q others.within) refl
 
       pub little_below : k ≤ 8 → n < 2 ^ 56
       little_below h = let i : k - 1 ≤ 7 = omega arith in let p : 256 ^ (k - 1) ≤ 256 ^ 7 =

@@ -28,17 +28,10 @@ tag_at_fits s at c e l = go (ltb at (length s)) refl
     go true q = (ltb-true at (length s) q, rw (q, tag_at) at e)
     go false q = let z : c ≡ 2 = rw (q, tag_at) at e in absurd (omega arith)
 
-pub tag_within : (s : List ℕ) (at c : ℕ) → c ≡ tag_at s at → c < 2 → at + 1 ≤ length s
-tag_within s at c e l = omega (arith, (tag_at_fits s at c e l).0)
-
 -- a number was got
 pub count : (s : List ℕ) (at n p : ℕ) (o : Option (ℕ × ℕ)) → o ≡ numbered s (number_r (drop at s)) → o ≡ Some (n, p)
     → NumberGot number_r s at n p
 count s at n p o r e = got number_law s at n p o r e
-
-pub count_within : (s : List ℕ) (at n p : ℕ) (o : Option (ℕ × ℕ)) → o ≡ numbered s (number_r (drop at s)) → o ≡ Some (n, p)
-    → p ≤ length s
-count_within s at n p o r e = (count s at n p o r e).within
 
 -- one of the kinds 2 to 5, which begin with a number
 pub record Numbered (kind : ℕ) : Type 0 where

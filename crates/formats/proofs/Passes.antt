@@ -6,8 +6,8 @@ use mathlib.Core.Option.{Option as LogicOption, none, some}
 use mathlib.Core.Logic.{inl, inr}
 use Prim.Native.Nat.{ℕ, zero, suc, ◌+◌, ◌-◌, ◌*◌, ◌≤◌, ◌<◌}
 use native.Mathlib.Omega.{arith}
-use lib.ListN.{length, drop, get_or, length-drop, drop_of_length-le}
-use borrow.Author.Tests.{lt-ltb, le-ltb, le-leb, lt-leb, eq-eqb, ne_eqb}
+use lib.ListN.{length, drop, get_or}
+use borrow.Author.Tests.{le-leb}
 use Rattle.formats.specs.Readers.{bind, bytes_r, const_r, many_r}
 use Rattle.formats.specs.Number.{number_r, little_r}
 use Rattle.formats.specs.Laws.Number.{little_law}
@@ -16,48 +16,17 @@ use Rattle.formats.specs.Promises.Outcome.{element, numbered, skipped, skip_to, 
 use Rattle.formats.specs.Promises.Outcome.{tag_at}
 use Rattle.formats.specs.Laws.Format.{law}
 use Rattle.formats.specs.Laws.Outcome.{broken, at_place}
-use Rattle.formats.proofs.Numbers.{place, opened, NumberGot, got}
-use Rattle.formats.proofs.Parts.{count, Numbered, no_value, no_float, no_number, too_large, no_element, no_bytes}
-use Rattle.formats.proofs.Parts.{an_element, the_one, the_other, no_depth, no_count, too_many, no_tag, no_first}
-use Rattle.formats.proofs.Parts.{no_kind}
+use Rattle.formats.proofs.Numbers.{place, NumberGot, got}
+use Rattle.formats.proofs.Parts.{count, Numbered, no_float, no_number, too_large, no_bytes}
+use Rattle.formats.proofs.Parts.{an_element, the_one, the_other, no_count, too_many, no_tag, no_first}
 use Rattle.formats.proofs.Nodes.{node_leaf, node_list, node_choice, node_pair}
 
 -- nothing was read
 pub nothing : {A : Type 0} (s : List ℕ) {o : LogicOption (A × List ℕ)} → o ≡ none → None ≡ skipped s o
 nothing s e = sym (ap (skipped s) e)
 
--- n bytes
-pub raw_good : (s : List ℕ) (at n : ℕ) → at ≤ length s
-    → n ≤ length s - at → Some (at + n) ≡ skipped s (bytes_r n (drop at s))
-raw_good s at n h l =
-    rw (le-leb n (length (drop at s)) (rw length-drop l)) (ap Some (rw (length-drop, length-drop) (omega arith)))
-
-pub raw_bad : (s : List ℕ) (at n : ℕ) → length s - at < n → None ≡ skipped s (bytes_r n (drop at s))
-raw_bad s at n l = rw (lt-leb n (length (drop at s)) (rw length-drop l)) refl
-
--- a given byte
-pub given_end : (s : List ℕ) (at c : ℕ) → length s ≤ at → None ≡ skipped s (const_r c (drop at s))
-given_end s at c h = rw (drop_of_length-le s h) refl
-
-module _ (s : List ℕ) (at b c : ℕ) (h : at < length s) (e : b ≡ get_or s at 0) where
-  pub given_good : b ≡ c → Some (at + 1) ≡ skipped s (const_r c (drop at s))
-  given_good q = rw (opened s at b h e, eq-eqb b c q, place s (at + 1) (omega arith)) refl
-
-  pub given_bad : (b ≡ c → ⊥) → None ≡ skipped s (const_r c (drop at s))
-  given_bad q = rw (opened s at b h e, ne_eqb b c q) refl
-
--- a tag
-pub tag_end : (s : List ℕ) (at : ℕ) → length s ≤ at → 2 ≡ tag_at s at
-tag_end s at h = rw (le-ltb at (length s) h) refl
-
-pub tag_in : (s : List ℕ) (at b : ℕ) → b ≡ get_or s at 0 → at < length s → b ≡ tag_at s at
-tag_in s at b e h = rw (lt-ltb at (length s) h) e
-
 -- the kinds with no parts
 module _ (kind a : ℕ) (s : List ℕ) (at : ℕ) where
-  pub leaf_0 : kind ≡ 0 → None ≡ skip_to (leaf_format kind a 0) s at
-  leaf_0 e = nothing s (no_value kind a 0 s at e)
-
   pub leaf_1 : kind ≡ 1 → at ≤ length s → Some at ≡ skip_to (leaf_format kind a 0) s at
   leaf_1 e h = rw (e, place s at h) refl
 
@@ -114,16 +83,8 @@ pub passed_in : (f : Format) (s : List ℕ) (at p : ℕ) (r : Option ℕ) → r 
 passed_in f s at p r e h = at_in f s (read f (drop at s)) p (sym h ∙ e)
 
 -- n of one kind: what the whole loop finds is what is found from here on
-pub many_none : (f : Format) (s : List ℕ) (n at : ℕ) (x : Option ℕ) → skip_many f n s at ≡ x → n ≤ 0 → at ≤ length s
-    → Some at ≡ x
-many_none f s n at x i l h = let e : n ≡ 0 = omega arith in let j : Some at ≡ skip_many f n s at =
-    rw (e, place s at h) refl in j ∙ i
-
 module _ (f : Format) (s : List ℕ) (n at : ℕ) (r : Option ℕ) (e : r ≡ skip_to f s at) (l : 0 < n) (x : Option ℕ)
     (i : skip_many f n s at ≡ x) where
-  pub many_bad : r ≡ None → None ≡ x
-  many_bad h = nothing s (no_element f s n at l (broken s (read f (drop at s)) (sym e ∙ h))) ∙ i
-
   module _ (p : ℕ) (h : r ≡ Some p) (k : at ≤ length s) where
     pub many_flat : p ≤ at → None ≡ x
     many_flat j =
@@ -138,9 +99,6 @@ module _ (f : Format) (s : List ℕ) (n at : ℕ) (r : Option ℕ) (e : r ≡ sk
 
 -- the node at n of the table t
 module _ (depth : ℕ) (t : List ℕ) (n : ℕ) (s : List ℕ) (at : ℕ) where
-  pub pass_none : depth ≡ 0 → None ≡ skip_to (format_at depth t n) s at
-  pass_none z = nothing s (no_depth depth t n s at z)
-
   module _ (z : depth ≡ 0 → ⊥) (kind a b : ℕ) (ek : kind ≡ get_or t (4 * n + 0) 0) (ea : a ≡ get_or t (4 * n + 1) 0)
       (eb : b ≡ get_or t (4 * n + 2) 0) where
     leaf_any : (kind a b : ℕ) → kind < 8 → skip_to (leaf_format kind a 0) s at ≡ skip_to (leaf_format kind a b) s at
@@ -205,7 +163,3 @@ module _ (depth : ℕ) (t : List ℕ) (n : ℕ) (s : List ℕ) (at : ℕ) where
           let y = at_place (law (format_at (depth - 1) t a)) s at p (sym e ∙ h) in
           rw (node_pair depth t n z kind a b ek ea eb k, y.1)
           (f ∙ moved s (λ v. (y.0, v)) (read (format_at (depth - 1) t b) (drop p s)))
-
-    pub pass_never : 8 ≤ kind → (kind ≡ 8 → ⊥) → (kind ≡ 9 → ⊥) → (kind ≡ 10 → ⊥)
-        → None ≡ skip_to (format_at depth t n) s at
-    pass_never l z₈ z₉ z₁₀ = nothing s (no_kind depth t n s at z kind a b ek ea eb l z₈ z₉ z₁₀)

@@ -54,21 +54,20 @@ pub struct Span {
 pub fn wide(b: u8) -> u64
     ensures { (result ≡ b) × (result < 256) }
 {
-    b as u64
+    u64::from(b)
 }
 
-// The number whose first group says `low`, by the groups at `at` that follow it: each counts for 128 times the one
-// before.
+// The number whose first group says `low`, by the groups at `at` that follow it, and the place past it: each group
+// counts for 128 times the one before.
 fn more(s: &[u8], at: usize, low: u64) -> Option<(u64, usize)>
     requires { low < 128 }
     ensures { result ≡ numbered s.now (more_r 8 low 128 (drop at s.now)) }
 {
-    let mut p = at;
     let mut n = low;
     let mut unit: u64 = 128;
     let mut left: u32 = 8;
-    while p < s.len() {
-        let b = wide(s[p]);
+    for p in at..s.len() {
+        let b = u64::from(s[p]);
         if left == 0 {
             if b == 1 {
                 return Some((n + unit, p + 1));
@@ -84,26 +83,23 @@ fn more(s: &[u8], at: usize, low: u64) -> Option<(u64, usize)>
         n += unit * (b - 128);
         unit *= 128;
         left -= 1;
-        p += 1;
     }
     None
 }
 
-// A number at `at`. Most have one group: that case stands in front, and is small enough to be put in place.
+// The number at `at`, and the place past it. Most have one group: that case stands in front, and is small enough to be
+// put in place.
 pub fn number(s: &[u8], at: usize) -> Option<(u64, usize)>
     ensures { result ≡ numbered s.now (number_r (drop at s.now)) }
 {
-    if s.len() <= at {
-        return None;
-    }
-    let b = wide(s[at]);
+    let &b = s.get(at)?;
     if b < 128 {
-        return Some((b, at + 1));
+        return Some((u64::from(b), at + 1));
     }
-    more(s, at + 1, b - 128)
+    more(s, at + 1, u64::from(b - 128))
 }
 
-// A number of k whole bytes at `at`, low byte first.
+// A number of k whole bytes at `at`, low byte first, and the place past it.
 fn little(k: u32, s: &[u8], at: usize) -> Option<(u64, usize)>
     requires { (k ≤ 8) × (at ≤ length s.now) }
     ensures { result ≡ numbered s.now (little_r k (drop at s.now)) }
@@ -111,17 +107,12 @@ fn little(k: u32, s: &[u8], at: usize) -> Option<(u64, usize)>
     if k == 0 {
         return Some((0, at));
     }
-    if s.len() <= at {
-        return None;
-    }
-    let b = wide(s[at]);
-    match little(k - 1, s, at + 1) {
-        Some((h, next)) => Some((b + 256 * h, next)),
-        None => None,
-    }
+    let &b = s.get(at)?;
+    let (h, next) = little(k - 1, s, at + 1)?;
+    Some((u64::from(b) + 256 * h, next))
 }
 
-// The eight bytes of a float at `at`, as a number.
+// The eight bytes of a float at `at`, as a number, and the place past them.
 pub fn float(s: &[u8], at: usize) -> Option<(u64, usize)>
     ensures { result ≡ numbered s.now (little_r 8 (drop at s.now)) }
 {
@@ -131,7 +122,7 @@ pub fn float(s: &[u8], at: usize) -> Option<(u64, usize)>
     little(8, s, at)
 }
 
-// n bytes as they are
+// Past n bytes as they are.
 pub fn raw(s: &[u8], at: usize, n: u64) -> Option<usize>
     requires { at ≤ length s.now }
     ensures { result ≡ skipped s.now (bytes_r n (drop at s.now)) }
@@ -141,15 +132,16 @@ pub fn raw(s: &[u8], at: usize, n: u64) -> Option<usize>
     if m <= left { Some(at + m) } else { None }
 }
 
-// one given byte
+// Past one given byte.
 pub fn given(s: &[u8], at: usize, c: u64) -> Option<usize>
     ensures { result ≡ skipped s.now (const_r c (drop at s.now)) }
 {
-    if s.len() <= at {
-        return None;
+    let &b = s.get(at)?;
+    if u64::from(b) == c {
+        Some(at + 1)
+    } else {
+        None
     }
-    let b = wide(s[at]);
-    if b == c { Some(at + 1) } else { None }
 }
 
 // word j of a node of a table, 0 past its end
@@ -161,21 +153,14 @@ pub fn word(t: &[u64], node: u64, j: usize) -> u64
     if t.len() <= here {
         return 0;
     }
-    let i = 4 * here + j;
-    if i < t.len() {
-        return t[i];
-    }
-    0
+    t.get(4 * here + j).copied().unwrap_or(0)
 }
 
 // the byte at `at`, 2 past the end
 pub fn tag(s: &[u8], at: usize) -> u64
     ensures { result ≡ tag_at s.now at }
 {
-    if s.len() <= at {
-        return 2;
-    }
-    wide(s[at])
+    s.get(at).map_or(2, |&b| u64::from(b))
 }
 
 // Past the value at `at` of a format that has no parts.
@@ -183,34 +168,23 @@ fn leaf(kind: u64, a: u64, s: &[u8], at: usize) -> Option<usize>
     requires { (kind < 8) × (at ≤ length s.now) }
     ensures { result ≡ skip_to (leaf_format kind a 0) s.now at }
 {
-    if kind == kinds::NEVER {
-        return None;
-    }
-    if kind == kinds::EMPTY {
-        return Some(at);
-    }
-    if kind == kinds::FLOAT {
-        let Some((_, p)) = float(s, at) else {
-            return None;
-        };
-        return Some(p);
-    }
-    if kind == kinds::CONSTANT {
-        return given(s, at, a);
-    }
-    let Some((n, p)) = number(s, at) else {
-        return None;
-    };
-    if kind == kinds::SMALL {
-        if a < n {
-            return None;
+    match kind {
+        kinds::NEVER => None,
+        kinds::EMPTY => Some(at),
+        kinds::FLOAT => {
+            let (_, p) = float(s, at)?;
+            Some(p)
         }
-        return Some(p);
+        kinds::CONSTANT => given(s, at, a),
+        _ => {
+            let (n, p) = number(s, at)?;
+            match kind {
+                kinds::SMALL if a < n => None,
+                kinds::TEXT => raw(s, p, n),
+                _ => Some(p),
+            }
+        }
     }
-    if kind == kinds::TEXT {
-        return raw(s, p, n);
-    }
-    Some(p)
 }
 
 // Past the value at `at` of the format that the table has at `node`, `depth` levels deep at most.
@@ -226,35 +200,26 @@ pub fn pass(t: &[u64], depth: u32, node: u64, s: &[u8], at: usize) -> Option<usi
     let kind = word(t, node, 0);
     let a = word(t, node, 1);
     let b = word(t, node, 2);
-    if kind < kinds::PARTS {
-        return leaf(kind, a, s, at);
-    }
-    if kind == kinds::LIST {
-        let Some((n, p)) = number(s, at) else {
-            return None;
-        };
-        if s.len() - p < n as usize {
-            return None;
+    match kind {
+        0..kinds::PARTS => leaf(kind, a, s, at),
+        kinds::LIST => {
+            let (n, p) = number(s, at)?;
+            if s.len() - p < n as usize {
+                return None;
+            }
+            pass_many(t, d, b, n, s, p)
         }
-        return pass_many(t, d, b, n, s, p);
-    }
-    if kind == kinds::CHOICE {
-        let c = tag(s, at);
-        if c == 0 {
-            return pass(t, d, a, s, at + 1);
+        kinds::CHOICE => match tag(s, at) {
+            0 => pass(t, d, a, s, at + 1),
+            1 => pass(t, d, b, s, at + 1),
+            _ => None,
+        },
+        kinds::PAIR => {
+            let p = pass(t, d, a, s, at)?;
+            pass(t, d, b, s, p)
         }
-        if c == 1 {
-            return pass(t, d, b, s, at + 1);
-        }
-        return None;
+        _ => None,
     }
-    if kind == kinds::PAIR {
-        let Some(p) = pass(t, d, a, s, at) else {
-            return None;
-        };
-        return pass(t, d, b, s, p);
-    }
-    None
 }
 
 // Past n values of one format, each of a byte or more.
@@ -264,16 +229,12 @@ fn pass_many(t: &[u64], depth: u32, node: u64, n: u64, s: &[u8], at: usize) -> O
     ensures { result ≡ skip_many (format_at depth t.now node) n s.now at }
 {
     let mut p = at;
-    let mut left = n;
-    while 0 < left {
-        let Some(q) = pass(t, depth, node, s, p) else {
-            return None;
-        };
+    for _ in 0..n {
+        let q = pass(t, depth, node, s, p)?;
         if q <= p {
             return None;
         }
         p = q;
-        left -= 1;
     }
     Some(p)
 }

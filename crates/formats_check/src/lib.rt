@@ -10,8 +10,6 @@ ghost use Rattle.formats_check.specs.Promises.Checked.{Number, IfGot, Fine};
 ghost use Rattle.formats_check.specs.Laws.Climbing.{Spans, known, follows};
 ghost use Rattle.formats_check.specs.Laws.Walks.{Each};
 
-use std::cmp::Ordering;
-
 // The class of printable texts, by the number that a table has for it.
 const PRINTABLE: u64 = 1;
 
@@ -26,42 +24,24 @@ pub fn number_long(s: &[u8], at: usize) -> Option<(u64, usize)>
 pub fn number_at(s: &[u8], at: usize) -> Option<(u64, usize)>
     ensures { Number s.now at result }
 {
-    if s.len() <= at {
-        return None;
-    }
-    let b = formats::wide(s[at]);
+    let &b = s.get(at)?;
     if b < 128 {
-        return Some((b, at + 1));
+        return Some((u64::from(b), at + 1));
     }
     number_long(s, at)
 }
 
-// The number of five groups at `at`; Bad where another stands there.
+// The number of five groups at `at`, and the place past it; `None` where another stands there.
 fn five(s: &[u8], at: usize) -> Option<(u64, usize)>
     requires { at + 5 ≤ length s.now }
     ensures { IfGot s.now at result }
 {
-    let a = formats::wide(s[at]);
-    let b = formats::wide(s[at + 1]);
-    let c = formats::wide(s[at + 2]);
-    let d = formats::wide(s[at + 3]);
-    let e = formats::wide(s[at + 4]);
-    if a < 128 {
-        return None;
-    }
-    if b < 128 {
-        return None;
-    }
-    if c < 128 {
-        return None;
-    }
-    if d < 128 {
-        return None;
-    }
-    if 128 <= e {
-        return None;
-    }
-    if e == 0 {
+    let a = u64::from(s[at]);
+    let b = u64::from(s[at + 1]);
+    let c = u64::from(s[at + 2]);
+    let d = u64::from(s[at + 3]);
+    let e = u64::from(s[at + 4]);
+    if a < 128 || b < 128 || c < 128 || d < 128 || 128 <= e || e == 0 {
         return None;
     }
     let n = a - 128 + 128 * (b - 128) + 16384 * (c - 128) + 2097152 * (d - 128) + 268435456 * e;
@@ -72,25 +52,21 @@ fn five(s: &[u8], at: usize) -> Option<(u64, usize)>
 pub fn number_five(s: &[u8], at: usize) -> Option<(u64, usize)>
     ensures { Number s.now at result }
 {
-    if s.len() < 5 {
+    if s.len() < 5 || s.len() - 5 < at {
         return number_at(s, at);
     }
-    if s.len() - 5 < at {
-        return number_at(s, at);
+    // Not `or_else`: its proof does not close.
+    match five(s, at) {
+        Some(found) => Some(found),
+        None => number_at(s, at),
     }
-    let Some((n, q)) = five(s, at) else {
-        return number_at(s, at);
-    };
-    Some((n, q))
 }
 
 // A text of any bytes, at most `limit` of them, and where they stand.
 fn bytes_at(limit: u64, s: &[u8], at: usize) -> Option<(usize, usize)>
     ensures { Spans limit any s.now at result }
 {
-    let Some((n, p)) = number_at(s, at) else {
-        return None;
-    };
+    let (n, p) = number_at(s, at)?;
     if limit < n {
         return None;
     }
@@ -106,13 +82,12 @@ fn bytes_at(limit: u64, s: &[u8], at: usize) -> Option<(usize, usize)>
 pub fn text_at(class: u64, limit: u64, s: &[u8], at: usize) -> Option<(usize, usize)>
     ensures { Spans limit (class_of class) s.now at result }
 {
-    let Some((a, e)) = bytes_at(limit, s, at) else {
-        return None;
-    };
+    let (a, e) = bytes_at(limit, s, at)?;
     if formats_text::in_class(class, &s[a..e]) {
-        return Some((a, e));
+        Some((a, e))
+    } else {
+        None
     }
-    None
 }
 
 pub fn printable_at(limit: u64, s: &[u8], at: usize) -> Option<(usize, usize)>
@@ -124,10 +99,8 @@ pub fn printable_at(limit: u64, s: &[u8], at: usize) -> Option<(usize, usize)>
 pub fn text(class: u64, limit: u64, s: &[u8], at: usize) -> Option<usize>
     ensures { Fine (text limit (class_of class)) s.now at result }
 {
-    match text_at(class, limit, s, at) {
-        Some((a, e)) => Some(e),
-        None => None,
-    }
+    let (_, e) = text_at(class, limit, s, at)?;
+    Some(e)
 }
 
 pub fn printable(limit: u64, s: &[u8], at: usize) -> Option<usize>
@@ -139,17 +112,11 @@ pub fn printable(limit: u64, s: &[u8], at: usize) -> Option<usize>
 pub fn optional_text(class: u64, limit: u64, s: &[u8], at: usize) -> Option<usize>
     ensures { Fine (optional (text limit (class_of class))) s.now at result }
 {
-    if s.len() <= at {
-        return None;
+    match s.get(at)? {
+        0 => Some(at + 1),
+        1 => text(class, limit, s, at + 1),
+        _ => None,
     }
-    let c = s[at];
-    if c == 0 {
-        return Some(at + 1);
-    }
-    if c == 1 {
-        return text(class, limit, s, at + 1);
-    }
-    None
 }
 
 pub fn optional_printable(limit: u64, s: &[u8], at: usize) -> Option<usize>
@@ -162,13 +129,8 @@ pub fn optional_printable(limit: u64, s: &[u8], at: usize) -> Option<usize>
 pub fn at_most(limit: u64, s: &[u8], at: usize) -> Option<usize>
     ensures { Fine (small limit) s.now at result }
 {
-    let Some((n, p)) = number_at(s, at) else {
-        return None;
-    };
-    if limit < n {
-        return None;
-    }
-    Some(p)
+    let (n, p) = number_at(s, at)?;
+    if n <= limit { Some(p) } else { None }
 }
 
 // Whether the key from a to e may follow the one from b to d.
@@ -176,14 +138,7 @@ pub fn follows(first: bool, s: &[u8], b: usize, d: usize, a: usize, e: usize) ->
     requires { (b ≤ d) × (d ≤ length s.now) × (a ≤ e) × (e ≤ length s.now) }
     ensures { result ≡ follows (known first s.now b d) (take (e - a) (drop a s.now)) }
 {
-    if first {
-        return true;
-    }
-    match slices::compare(&s[b..d], &s[a..e]) {
-        Ordering::Less => true,
-        Ordering::Equal => false,
-        Ordering::Greater => false,
-    }
+    first || slices::compare(&s[b..d], &s[a..e]).is_lt()
 }
 
 // n texts of printable bytes one after another.
@@ -192,13 +147,8 @@ fn printables_from(n: u64, limit: u64, s: &[u8], at: usize) -> Option<usize>
     ensures { Each (text limit printable) n s.now at result }
 {
     let mut p = at;
-    let mut left = n;
-    while 0 < left {
-        let Some(q) = printable(limit, s, p) else {
-            return None;
-        };
-        p = q;
-        left -= 1;
+    for _ in 0..n {
+        p = printable(limit, s, p)?;
     }
     Some(p)
 }
@@ -207,9 +157,7 @@ fn printables_from(n: u64, limit: u64, s: &[u8], at: usize) -> Option<usize>
 pub fn printables(most: u64, limit: u64, s: &[u8], at: usize) -> Option<usize>
     ensures { Fine (list most (text limit printable)) s.now at result }
 {
-    let Some((n, p)) = number_at(s, at) else {
-        return None;
-    };
+    let (n, p) = number_at(s, at)?;
     if most < n {
         return None;
     }
@@ -219,8 +167,6 @@ pub fn printables(most: u64, limit: u64, s: &[u8], at: usize) -> Option<usize>
 pub fn float(s: &[u8], at: usize) -> Option<usize>
     ensures { Fine float s.now at result }
 {
-    match formats::float(s, at) {
-        Some((n, p)) => Some(p),
-        None => None,
-    }
+    let (_, p) = formats::float(s, at)?;
+    Some(p)
 }

@@ -18,8 +18,8 @@ use Rattle.formats.specs.Laws.Format.{law, element_law}
 use Rattle.formats.specs.Laws.Outcome.{suffix}
 use Rattle.formats.proofs.Numbers.{place}
 use Rattle.formats.proofs.Nodes.{node_leaf, node_list, node_choice, node_pair}
-use Rattle.formats.proofs.Parts.{count, no_element, no_bytes, an_element, the_one, the_other, no_depth, no_count}
-use Rattle.formats.proofs.Parts.{too_many, no_tag, no_first, no_kind}
+use Rattle.formats.proofs.Parts.{count, no_bytes, an_element, the_one, the_other, no_count}
+use Rattle.formats.proofs.Parts.{too_many, no_tag, no_first}
 use Rattle.formats_judge.specs.Judged.{answer, verdict, judged, judge_to}
 use Rattle.formats_judge.specs.Promises.Judged.{verdicts, sooner, judge_many, judged_after}
 use Rattle.formats_judge.specs.Laws.Joins.{sooner_assoc, verdict_pair, verdict_more, verdict_list}
@@ -89,11 +89,6 @@ many_none f s n at g y i l h =
 
 module _ (f : Format) (s : List ℕ) (n at g : ℕ) (r : Option (ℕ × ℕ)) (e : r ≡ judge_to f s at) (l : 0 < n) (y : Option (ℕ × ℕ))
     (i : judged_after g (judge_many f n s at) ≡ y) where
-  pub many_bad : r ≡ None → None ≡ y
-  many_bad h =
-      let none_read = judged_none (verdict f) s (read f (drop at s)) r e h in
-      ap (judged_after g) (nothing (verdicts f) s (no_element f s n at l none_read)) ∙ i
-
   module _ (p x : ℕ) (h : r ≡ Some (p, x)) (k : at ≤ length s) where
     one : ValueJudged (read f) (verdict f) s at p x
     one = found (law f) (verdict f) s at r p x e h
@@ -123,9 +118,6 @@ list_go l f s t n (some y) e =
 
 -- the node at n of the table t
 module _ (depth : ℕ) (t : List ℕ) (n : ℕ) (s : List ℕ) (at : ℕ) where
-  pub value_none : depth ≡ 0 → None ≡ judge_to (format_at depth t n) s at
-  value_none z = nothing (verdict (format_at depth t n)) s (no_depth depth t n s at z)
-
   module _ (z : depth ≡ 0 → ⊥) (kind a b : ℕ) (ek : kind ≡ get_or t (4 * n + 0) 0) (ea : a ≡ get_or t (4 * n + 1) 0)
       (eb : b ≡ get_or t (4 * n + 2) 0) where
     pub value_leaf : (r : Option (ℕ × ℕ)) → r ≡ judge_to (leaf_format kind a b) s at → kind < 8
@@ -194,8 +186,3 @@ module _ (depth : ℕ) (t : List ℕ) (n : ℕ) (s : List ℕ) (at : ℕ) where
 
         pub pair_good : (q u w : ℕ) → y ≡ Some (q, u) → w ≡ sooner x u → Some (q, w) ≡ judge_to (format_at depth t n) s at
         pair_good q u w g c = ap (λ other. Some (q, other)) c ∙ sym (ap (judged_after x) g) ∙ halves
-
-    pub value_never : 8 ≤ kind → (kind ≡ 8 → ⊥) → (kind ≡ 9 → ⊥) → (kind ≡ 10 → ⊥)
-        → None ≡ judge_to (format_at depth t n) s at
-    value_never l z₈ z₉ z₁₀ =
-        nothing (verdict (format_at depth t n)) s (no_kind depth t n s at z kind a b ek ea eb l z₈ z₉ z₁₀)

@@ -4,18 +4,18 @@ use mathlib.Core.Path.{◌≡◌, refl, sym, ap, ◌∙◌}
 use mathlib.Core.List.{List}
 use mathlib.Core.Option.{Option as LogicOption, none, some}
 use mathlib.Core.Bool.{◌&&◌}
-use Prim.Native.Nat.{ℕ, ◌+◌, ◌-◌, ◌≤◌, ◌<◌}
+use Prim.Native.Nat.{ℕ, ◌-◌, ◌≤◌, ◌<◌}
 use native.Mathlib.Omega.{arith}
-use lib.ListN.{length, take, drop, length-drop}
+use lib.ListN.{length, drop}
 use lib.Dec.{leb}
-use borrow.Author.Tests.{le-leb, lt-leb}
+use borrow.Author.Tests.{le-leb}
 use Rattle.formats.specs.Readers.{bytes_r, const_r}
 use Rattle.formats.specs.Number.{number_r, little_r, zag}
 use Rattle.formats.specs.Laws.Number.{number_law, little_law}
 use Rattle.formats.specs.Format.{text}
 use Rattle.formats.specs.Promises.Outcome.{numbered, skipped, class_of, leaf_format}
 use Rattle.formats.proofs.Numbers.{place, NumberGot, got}
-use Rattle.formats.proofs.Parts.{Numbered, no_value, no_float, no_number, too_large}
+use Rattle.formats.proofs.Parts.{Numbered, no_float, no_number, too_large}
 use Rattle.formats_judge.proofs.Rules.{nothing}
 use Rattle.formats_judge.specs.Judged.{at_most, answer, verdict, judged, judge_to}
 use Rattle.formats_judge.specs.Promises.Judged.{text_answer}
@@ -36,9 +36,6 @@ judged_good s none r q e h = skip_both (sym e ∙ h)
 judged_good s (some x) r q e h = let i : q ≡ length s - length x.1 = cc in ap (λ n. Some (n, 0)) i
 
 module _ (kind a b : ℕ) (s : List ℕ) (at : ℕ) where
-  pub leaf_0 : kind ≡ 0 → None ≡ judge_to (leaf_format kind a b) s at
-  leaf_0 e = nothing (verdict (leaf_format kind a b)) s (no_value kind a b s at e)
-
   pub leaf_1 : kind ≡ 1 → at ≤ length s → Some (at, 0) ≡ judge_to (leaf_format kind a b) s at
   leaf_1 e h = rw (e, place s at h) refl
 
@@ -80,18 +77,6 @@ module _ (a b : ℕ) (s : List ℕ) (at : ℕ) (o : Option (ℕ × ℕ)) (r : o 
 -- what is left of the kinds is a text
 is_text : (kind : ℕ) → Numbered kind → (kind ≡ 2 → ⊥) → (kind ≡ 3 → ⊥) → (kind ≡ 4 → ⊥) → kind ≡ 5
 is_text kind k z₂ z₃ z₄ = omega (arith, k.low, k.high)
-
--- the bytes of a text
-module _ (g : List ℕ → ℕ) (s : List ℕ) (p n : ℕ) where
-  pub bytes_over : length s - p < n → None ≡ judged g s (bytes_r n (drop p s))
-  bytes_over l = rw (lt-leb n (length (drop p s)) (rw length-drop l)) refl
-
-  pub bytes_good : p ≤ length s → n ≤ length s - p → (y : ℕ) → y ≡ g (take (p + n - p) (drop p s))
-      → Some (p + n, y) ≡ judged g s (bytes_r n (drop p s))
-  bytes_good h l y e =
-      let i : p + n - p ≡ n = omega arith in
-      let j : length s - length (drop n (drop p s)) ≡ p + n = rw (length-drop, length-drop) (omega arith) in
-      rw (le-leb n (length (drop p s)) (rw length-drop l), j) (ap (λ other. Some (p + n, other)) (rw i at e))
 
 pub leaf_5 : (a b : ℕ) (s : List ℕ) (at : ℕ) (o : Option (ℕ × ℕ)) → o ≡ numbered s (number_r (drop at s)) → (n p : ℕ)
     → o ≡ Some (n, p)

@@ -13,52 +13,39 @@ use formats::kinds;
 fn sooner(x: u32, y: u32) -> u32
     ensures { result ≡ sooner x y }
 {
-    if x == 0 {
-        return y;
+    match (x, y) {
+        (0, _) => y,
+        (_, 0) => x,
+        _ => x.min(y),
     }
-    if y == 0 {
-        return x;
-    }
-    if x <= y { x } else { y }
 }
 
 fn range(lo: u64, hi: u64, n: u64) -> u32
     ensures { result ≡ answer 6 (leb lo n && leb n hi) }
 {
-    if n < lo {
-        return 6;
-    }
-    if hi < n {
-        return 6;
-    }
-    0
+    if (lo..=hi).contains(&n) { 0 } else { 6 }
 }
 
 // The order of the signed numbers that m and n stand for: 2z, or -2z-1 below zero.
 fn at_most(m: u64, n: u64) -> bool
     ensures { result ≡ at_most (zag m) (zag n) }
 {
-    if m % 2 == 0 {
-        if n % 2 == 0 {
-            return m / 2 <= n / 2;
-        }
-        return false;
+    match (m % 2, n % 2) {
+        (0, 0) => m <= n,
+        (0, _) => false,
+        (_, 0) => true,
+        _ => n <= m,
     }
-    if n % 2 == 0 {
-        return true;
-    }
-    n / 2 <= m / 2
 }
 
 fn signed_range(lo: u64, hi: u64, n: u64) -> u32
     ensures { result ≡ answer 6 (at_most (zag lo) (zag n) && at_most (zag n) (zag hi)) }
 {
-    if at_most(lo, n) {
-        if at_most(n, hi) {
-            return 0;
-        }
+    if at_most(lo, n) && at_most(n, hi) {
+        0
+    } else {
+        6
     }
-    6
 }
 
 fn count(limit: u64, n: u64) -> u32
@@ -71,10 +58,8 @@ fn count(limit: u64, n: u64) -> u32
 pub fn text(limit: u64, c: u64, v: &[u8]) -> u32
     ensures { result ≡ text_answer limit (class_of c) v.now }
 {
-    if v.len() as u64 <= limit {
-        if formats_text::in_class(c, v) {
-            return 0;
-        }
+    if v.len() as u64 <= limit && formats_text::in_class(c, v) {
+        return 0;
     }
     5
 }
@@ -99,40 +84,28 @@ fn leaf(kind: u64, a: u64, b: u64, s: &[u8], at: usize) -> Option<(usize, u32)>
     requires { (kind < 8) × (at ≤ length s.now) }
     ensures { result ≡ judge_to (leaf_format kind a b) s.now at }
 {
-    if kind == kinds::NEVER {
-        return None;
-    }
-    if kind == kinds::EMPTY {
-        return Some((at, 0));
-    }
-    if kind == kinds::FLOAT {
-        let Some((_, q)) = formats::float(s, at) else {
-            return None;
-        };
-        return Some((q, 0));
-    }
-    if kind == kinds::CONSTANT {
-        let Some(q) = formats::given(s, at, a) else {
-            return None;
-        };
-        return Some((q, 0));
-    }
-    let Some((n, p)) = formats::number(s, at) else {
-        return None;
-    };
-    if kind == kinds::NUMBER {
-        return Some((p, range(a, b, n)));
-    }
-    if kind == kinds::SIGNED {
-        return Some((p, signed_range(a, b, n)));
-    }
-    if kind == kinds::SMALL {
-        if a < n {
-            return None;
+    match kind {
+        kinds::NEVER => None,
+        kinds::EMPTY => Some((at, 0)),
+        kinds::FLOAT => {
+            let (_, q) = formats::float(s, at)?;
+            Some((q, 0))
         }
-        return Some((p, 0));
+        kinds::CONSTANT => {
+            let q = formats::given(s, at, a)?;
+            Some((q, 0))
+        }
+        _ => {
+            let (n, p) = formats::number(s, at)?;
+            match kind {
+                kinds::NUMBER => Some((p, range(a, b, n))),
+                kinds::SIGNED => Some((p, signed_range(a, b, n))),
+                kinds::SMALL if a < n => None,
+                kinds::SMALL => Some((p, 0)),
+                _ => bytes(a, b, s, p, n),
+            }
+        }
     }
-    bytes(a, b, s, p, n)
 }
 
 // Past the value at `at` of the format that the table has at `node`, `depth` levels deep at most.
@@ -148,59 +121,52 @@ pub fn judge_value(t: &[u64], depth: u32, node: u64, s: &[u8], at: usize) -> Opt
     let kind = formats::word(t, node, 0);
     let a = formats::word(t, node, 1);
     let b = formats::word(t, node, 2);
-    if kind < kinds::PARTS {
-        return leaf(kind, a, b, s, at);
-    }
-    if kind == kinds::LIST {
-        let Some((n, p)) = formats::number(s, at) else {
-            return None;
-        };
-        if s.len() - p < n as usize {
-            return None;
+    match kind {
+        0..kinds::PARTS => leaf(kind, a, b, s, at),
+        kinds::LIST => {
+            let (n, p) = formats::number(s, at)?;
+            if s.len() - p < n as usize {
+                return None;
+            }
+            judge_many(t, d, b, n, s, p, count(a, n))
         }
-        return judge_many(t, d, b, n, s, p, count(a, n));
-    }
-    if kind == kinds::CHOICE {
-        let c = formats::tag(s, at);
-        if c == 0 {
-            return judge_value(t, d, a, s, at + 1);
+        kinds::CHOICE => match formats::tag(s, at) {
+            0 => judge_value(t, d, a, s, at + 1),
+            1 => judge_value(t, d, b, s, at + 1),
+            _ => None,
+        },
+        kinds::PAIR => {
+            let (p, x) = judge_value(t, d, a, s, at)?;
+            let (q, y) = judge_value(t, d, b, s, p)?;
+            Some((q, sooner(x, y)))
         }
-        if c == 1 {
-            return judge_value(t, d, b, s, at + 1);
-        }
-        return None;
+        _ => None,
     }
-    if kind == kinds::PAIR {
-        let Some((p, x)) = judge_value(t, d, a, s, at) else {
-            return None;
-        };
-        let Some((q, y)) = judge_value(t, d, b, s, p) else {
-            return None;
-        };
-        return Some((q, sooner(x, y)));
-    }
-    None
 }
 
 // Past n values of one format, each of a byte or more, after a verdict.
 #[cycle(judge_many_judge_value)]
-fn judge_many(t: &[u64], depth: u32, node: u64, n: u64, s: &[u8], at: usize, x: u32) -> Option<(usize, u32)>
+fn judge_many(
+    t: &[u64],
+    depth: u32,
+    node: u64,
+    n: u64,
+    s: &[u8],
+    at: usize,
+    x: u32,
+) -> Option<(usize, u32)>
     requires { at ≤ length s.now }
     ensures { result ≡ judged_after x (judge_many (format_at depth t.now node) n s.now at) }
 {
     let mut p = at;
-    let mut left = n;
     let mut found = x;
-    while 0 < left {
-        let Some((q, y)) = judge_value(t, depth, node, s, p) else {
-            return None;
-        };
+    for _ in 0..n {
+        let (q, y) = judge_value(t, depth, node, s, p)?;
         if q <= p {
             return None;
         }
         p = q;
         found = sooner(found, y);
-        left -= 1;
     }
     Some((p, found))
 }

@@ -1,6 +1,6 @@
 -- What the readers answer where a value stands.
 use Rattle.std.proofs.lemmas.Option.{some_pair_parts}
-use Rattle.std.specs.Prelude.{Option, Some, None}
+use Rattle.std.specs.Prelude.{Option, Some, unwrap_or}
 use mathlib.Core.Path.{◌≡◌, sym, ap, ◌∙◌}
 use mathlib.Core.List.{List}
 use mathlib.Core.Logic.{inl, inr}
@@ -22,32 +22,18 @@ use Rattle.formats_read.specs.Promises.Reads.{ReadsNumber, ReadsText}
 
 -- passing over a value, and locating a field
 module _ {f : Format} {s : List ℕ} {at q : ℕ} {v : Value f} (h : Here f s at q v) where
-  pub in_s : length s < at → ⊥
-  in_s l = omega (arith, h.forward, h.within)
+  pub past_at : {r : Option ℕ} {p : ℕ} → r ≡ skip_to f s at → p ≡ unwrap_or r 0 → p ≡ q
+  past_at e b = b ∙ ap (λ r. unwrap_or r 0) (e ∙ passed h)
 
-  pub past_none : {r : Option ℕ} → r ≡ skip_to f s at → r ≡ None → ⊥
-  past_none e b = let z = passed h in (let z : ◌≡◌ {A = ℕ} 0 1 = cc in omega arith)
-
-  pub past_at : {r : Option ℕ} {p : ℕ} → r ≡ skip_to f s at → r ≡ Some p → p ≡ q
-  past_at e b = let z = passed h in cc
-
-  module _ (k : ℕ) (i : Has k f) {r : Option ℕ} (e : r ≡ field_to k f s at) where
-    pub place_none : r ≡ None → ⊥
-    place_none b = let z = (field k f i h).2 in (let z : ◌≡◌ {A = ℕ} 0 1 = cc in omega arith)
-
-    pub place_at : {p : ℕ} → r ≡ Some p → Field k f i s at q v p
-    place_at {p} b = let x = field k f i h in let z = x.2 in let w : x.0 ≡ p = cc in rw w at x.1
+  pub place_at : (k : ℕ) (i : Has k f) {r : Option ℕ} {p : ℕ} → r ≡ field_to k f s at → p ≡ unwrap_or r 0
+      → Field k f i s at q v p
+  place_at k i {p} e b =
+      let x = field k f i h in let w : x.0 ≡ p = sym (b ∙ ap (λ r. unwrap_or r 0) (e ∙ x.2)) in rw w at x.1
 
 -- a number
 module _ {s : List ℕ} {at : ℕ} {r : Option (ℕ × ℕ)} (e : r ≡ numbered s (number_r (drop at s))) where
   got : {n q : ℕ} → Here (number 0 0) s at q n → r ≡ Some (n, q)
   got {n} {q} h = e ∙ ap (numbered s) (reads h) ∙ ap (λ other. Some (n, other)) (place s q h.within)
-
-  pub number_none : {a b : ℕ} → r ≡ None → ReadsNumber s at a b
-  number_none b = record {
-    value = λ h. absurd (let z = got h in (let z : ◌≡◌ {A = ℕ} 0 1 = cc in omega arith));
-    next = λ h. absurd (let z = got h in (let z : ◌≡◌ {A = ℕ} 0 1 = cc in omega arith));
-  }
 
   pub number_got : {m p : ℕ} → r ≡ Some (m, p) → ReadsNumber s at m p
   number_got b = record {
@@ -55,17 +41,17 @@ module _ {s : List ℕ} {at : ℕ} {r : Option (ℕ × ℕ)} (e : r ≡ numbered
     next = λ h. (some_pair_parts _ _ _ _ (sym b ∙ got h)).1;
   }
 
+  pub number_or : {y : ℕ × ℕ} → y ≡ unwrap_or r (0, 0) → ReadsNumber s at y.0 y.1
+  number_or b = record {
+    value = λ h. ap (λ y. y.0) (b ∙ ap (λ r. unwrap_or r (0, 0)) (got h));
+    next = λ h. ap (λ y. y.1) (b ∙ ap (λ r. unwrap_or r (0, 0)) (got h));
+  }
+
 -- a float
 module _ {s : List ℕ} {at n q : ℕ} (h : Here float s at q n) {r : Option (ℕ × ℕ)}
     (e : r ≡ numbered s (little_r 8 (drop at s))) where
-  bits : r ≡ Some (n, q)
+  pub bits : r ≡ Some (n, q)
   bits = e ∙ ap (numbered s) (reads h) ∙ ap (λ other. Some (n, other)) (place s q h.within)
-
-  pub float_none : r ≡ None → ⊥
-  float_none b = let z = bits in (let z : ◌≡◌ {A = ℕ} 0 1 = cc in omega arith)
-
-  pub float_got : {m p : ℕ} → r ≡ Some (m, p) → m ≡ n
-  float_got b = (some_pair_parts _ _ _ _ (sym b ∙ bits)).0
 
 -- a signed number
 pub signed_is : {s : List ℕ} {at q n e : ℕ} {lo hi z : ℤ} → Here (signed lo hi) s at q z → ReadsNumber s at n e

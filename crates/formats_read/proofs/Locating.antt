@@ -2,7 +2,7 @@
 use Rattle.std.specs.Prelude.{Option, Some, None}
 use mathlib.Core.Path.{◌≡◌, refl, sym, ap, ◌∙◌}
 use mathlib.Core.List.{List}
-use Prim.Native.Nat.{ℕ, zero, suc, ◌+◌, ◌-◌, ◌*◌, ◌≤◌, ◌<◌}
+use Prim.Native.Nat.{ℕ, zero, suc, ◌+◌, ◌-◌, ◌*◌, ◌<◌}
 use native.Mathlib.Omega.{arith}
 use lib.ListN.{get_or}
 use Rattle.formats.specs.Format.{Format}
@@ -26,9 +26,6 @@ not_pair j (suc (suc (suc (suc (suc (suc (suc (suc (suc (suc (suc k))))))))))) a
 
 -- what the part j fields on gives is what the whole gives, x
 module _ (j d : ℕ) (t : List ℕ) (n : ℕ) (s : List ℕ) (p : ℕ) {x : Option ℕ} (w : field_to j (format_at d t n) s p ≡ x) where
-  pub field_here : j ≤ 0 → Some p ≡ x
-  field_here h = let e : j ≡ 0 = omega arith in (let z : field_to 0 (format_at d t n) s p ≡ x = rw e at w in z)
-
   pub field_none : 0 < j → d ≡ 0 → None ≡ x
   field_none h e = go j h refl ∙ w
     where

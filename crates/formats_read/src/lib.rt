@@ -21,8 +21,7 @@ pub fn locate(t: &[u64], depth: u32, node: u64, k: u32, s: &[u8], at: usize) -> 
     let mut d = depth;
     let mut n = node;
     let mut p = at;
-    let mut j = k;
-    while 0 < j {
+    for _ in 0..k {
         if d == 0 {
             return None;
         }
@@ -32,13 +31,9 @@ pub fn locate(t: &[u64], depth: u32, node: u64, k: u32, s: &[u8], at: usize) -> 
         if kind != kinds::PAIR {
             return None;
         }
-        let Some(q) = formats::pass(t, d - 1, a, s, p) else {
-            return None;
-        };
-        p = q;
+        p = formats::pass(t, d - 1, a, s, p)?;
         n = b;
         d -= 1;
-        j -= 1;
     }
     Some(p)
 }
@@ -52,10 +47,7 @@ pub fn place(t: &[u64], depth: u32, node: u64, k: u32, s: &[u8], at: usize) -> u
     if s.len() < at {
         return 0;
     }
-    let Some(q) = locate(t, depth, node, k, s, at) else {
-        return 0;
-    };
-    q
+    locate(t, depth, node, k, s, at).unwrap_or(0)
 }
 
 // The place past the value at `at`.
@@ -66,10 +58,7 @@ pub fn past(t: &[u64], depth: u32, node: u64, s: &[u8], at: usize) -> usize
     if s.len() < at {
         return 0;
     }
-    let Some(q) = formats::pass(t, depth, node, s, at) else {
-        return 0;
-    };
-    q
+    formats::pass(t, depth, node, s, at).unwrap_or(0)
 }
 
 // The place of the value i of the values from `at` on.
@@ -77,10 +66,8 @@ pub fn nth(t: &[u64], depth: u32, node: u64, s: &[u8], at: usize, i: u64) -> usi
     ensures { Reaches (format_at depth t.now node) s.now at i result }
 {
     let mut p = at;
-    let mut j = 0;
-    while j < i {
+    for _ in 0..i {
         p = past(t, depth, node, s, p);
-        j += 1;
     }
     p
 }
@@ -96,10 +83,8 @@ pub struct Numbered {
 pub fn number(s: &[u8], at: usize) -> Numbered
     ensures { ReadsNumber s.now at result.value result.next }
 {
-    let Some((n, q)) = formats::number(s, at) else {
-        return Numbered { value: 0, next: 0 };
-    };
-    Numbered { value: n, next: q }
+    let (value, next) = formats::number(s, at).unwrap_or((0, 0));
+    Numbered { value, next }
 }
 
 pub fn signed(s: &[u8], at: usize) -> i64
@@ -112,10 +97,7 @@ pub fn signed(s: &[u8], at: usize) -> i64
 pub fn float(s: &[u8], at: usize) -> u64
     ensures { (n q : ℕ) → Here float s.now at q n → result ≡ n }
 {
-    let Some((n, _)) = formats::float(s, at) else {
-        return 0;
-    };
-    n
+    formats::float(s, at).map_or(0, |(bits, _)| bits)
 }
 
 // The bytes of the text at `at`.
@@ -125,10 +107,7 @@ pub fn text(s: &[u8], at: usize) -> Span
     let n = number(s, at);
     let from = n.next;
     let size = n.value as usize;
-    if s.len() < from {
-        return Span { from: 0, to: 0 };
-    }
-    if s.len() - from < size {
+    if s.len() < from || s.len() - from < size {
         return Span { from: 0, to: 0 };
     }
     Span {

@@ -5,43 +5,22 @@ use mathlib.Core.List.{List, [], ◌∷◌}
 use mathlib.Core.Logic.{◌⊎◌, inl, inr}
 use Prim.Native.Nat.{ℕ, zero, suc, ◌+◌, ◌-◌, ◌/◌, ◌%◌, ◌≤◌, ◌<◌}
 use native.Mathlib.Omega.{arith}
-use lib.ListN.{length, take, drop, set}
+use lib.ListN.{length, take, drop}
 use lib.Seq.{length-sets, sets-eq, slice, length-slice}
 use borrow.Author.Tests.{lt-ltb, le-ltb}
 use Rattle.slices.specs.Lists.{pasted}
 use Rattle.formats.specs.Number.{groups_w, number_w, little_w}
 use Rattle.formats.specs.Promises.Number.{top}
-use Rattle.formats_write.specs.Laws.Adds.{none, then, same}
+use Rattle.formats_write.specs.Laws.Adds.{then, same}
 use Rattle.formats_write.specs.Promises.Adds.{Adds}
 use Rattle.formats_write.specs.Laws.Slices.{slice_is}
-use Rattle.formats_write.specs.Promises.Given.{optional_w, text_w, given_text, Inside}
-use Rattle.formats.specs.declared.Span.{Span}
+use Rattle.formats_write.specs.Promises.Given.{optional_w, text_w}
 
 at_full : {C : Type 0} {p : ℕ} → Some p ≡ None → C
 at_full e = absurd (let z : ◌≡◌ {A = ℕ} 0 1 = cc in omega arith)
 
 at_at : {p q : ℕ} → Some p ≡ Some q → p ≡ q
 at_at e = cc
-
--- what was full stays full
-pub was_full : {l : List ℕ} {r : Option ℕ} {x : List ℕ} → r ≡ None → Adds l r l None x
-was_full e = record {
-  size = refl;
-  full = λ i. refl;
-  next = λ p i h. at_full (sym i ∙ e);
-  holds = λ p i h. at_full (sym i ∙ e);
-  over = λ p i h k. refl;
-}
-
--- no room
-pub no_room : {l : List ℕ} {r : Option ℕ} {at : ℕ} (x : List ℕ) → r ≡ Some at → length l < at + length x → Adds l r l None x
-no_room {l} {r} {at} x e s = record {
-  size = refl;
-  full = λ i. refl;
-  next = λ p i h. let z : at ≡ p = at_at (sym e ∙ i) in absurd (omega arith);
-  holds = λ p i h. let z : at ≡ p = at_at (sym e ∙ i) in absurd (omega arith);
-  over = λ p i h k. refl;
-}
 
 -- room for n bytes
 pub room : {l m : List ℕ} {r : Option ℕ} {at : ℕ} (n : ℕ) (x : List ℕ) → length x ≡ n → r ≡ Some at → at + n ≤ length l
@@ -53,13 +32,6 @@ room {l} {m} {r} {at} n x c e s k = record {
   holds = λ p i h. let z : at ≡ p = at_at (sym e ∙ i) in k ∙ ap (λ p. pasted l p x) z;
   over = λ p i h o. let z : at ≡ p = at_at (sym e ∙ i) in absurd (omega arith);
 }
-
-pub byte_in : {l : List ℕ} {r : Option ℕ} {at b : ℕ} → r ≡ Some at → at < length l
-    → Adds l r (set l at b) (Some (at + 1)) (b ∷ [])
-byte_in {l} {at} {b} e s = room 1 (b ∷ []) refl e (omega arith) (sets-eq (b ∷ []) l at (omega arith))
-
-pub byte_out : {l : List ℕ} {r : Option ℕ} {at b : ℕ} → r ≡ Some at → length l ≤ at → Adds l r l None (b ∷ [])
-byte_out {b} e s = no_room (b ∷ []) e (omega arith)
 
 -- groups of seven bits
 one_group : (k n : ℕ) → n < 128 → groups_w k n ≡ n ∷ []
@@ -91,9 +63,6 @@ pub group_more : {l m o : List ℕ} {r q p : Option ℕ} {b : ℕ} (k n : ℕ) �
 group_more k n f g h u e = same (then f g) (rw e (sym (more_groups k n h (another k n h u))))
 
 -- bytes, low first
-pub little_none : {l : List ℕ} {r : Option ℕ} (k n : ℕ) → k ≡ 0 → Adds l r l r (little_w k n)
-little_none k n e = rw e none
-
 pub little_more : {l m o : List ℕ} {r q p : Option ℕ} {b : ℕ} (k n : ℕ) → (k ≡ 0 → ⊥) → Adds l r m q (b ∷ [])
     → Adds m q o p (little_w (k - 1) (n / 256)) → b ≡ n % 256 → Adds l r o p (little_w k n)
 little_more zero n z f g e = absurd (z refl)
@@ -101,16 +70,11 @@ little_more (suc k) n z f g e = let i : suc k - 1 ≡ k = omega arith in same (t
 
 -- a stretch
 module _ {l : List ℕ} {r : Option ℕ} {at : ℕ} (s : List ℕ) (a e : ℕ) (i : r ≡ Some at) (h : a ≤ e) (k : e ≤ length s) where
-  pub stretch_past : length l < at → Adds l r l None (slice a e s)
-  stretch_past o = no_room (slice a e s) i (omega arith)
-
-  pub stretch_out : at ≤ length l → length l - at < e - a → Adds l r l None (slice a e s)
-  stretch_out p o = no_room (slice a e s) i (omega (arith, length-slice a e s k))
-
-  pub stretch_in : {m : List ℕ} → at ≤ length l → e - a ≤ length l - at → m ≡ pasted l at (take (e - a) (drop a s))
-      → Adds l r m (Some (at + (e - a))) (slice a e s)
-  stretch_in p o j =
-      room (e - a) (slice a e s) (length-slice a e s k) i (omega arith) (j ∙ ap (pasted l at) (slice_is a e s h k))
+  pub stretch_in : {m v : List ℕ} → v ≡ take (e - a) (drop a s) → at ≤ length l → length v ≤ length l - at
+      → m ≡ pasted l at v → Adds l r m (Some (at + length v)) (slice a e s)
+  stretch_in {v} f p o j =
+      let same : v ≡ slice a e s = f ∙ slice_is a e s h k in
+      room (length v) (slice a e s) (ap length (sym same)) i (omega arith) (j ∙ ap (pasted l at) same)
 
 -- a text
 pub text_is : {l m o : List ℕ} {r k j : Option ℕ} (s : List ℕ) (a e : ℕ) → a ≤ e → e ≤ length s
@@ -118,20 +82,9 @@ pub text_is : {l m o : List ℕ} {r k j : Option ℕ} (s : List ℕ) (a e : ℕ)
     → Adds l r o j (text_w (slice a e s))
 text_is s a e h k f g = then (same f (ap number_w (sym (length-slice a e s k)))) (g h k)
 
-pub as_number : {l m : List ℕ} {r q : Option ℕ} (n z : ℕ) → Adds l r m q (number_w n) → n ≡ z → Adds l r m q (number_w z)
-as_number n z f e = same f (ap number_w e)
-
--- an optional value
-module _ {B : Type 0} (w : B → List ℕ) {v : Unit {0} ⊎ B} {l m : List ℕ} {r q : Option ℕ} where
-  pub absent_is : v ≡ inl tt → Adds l r m q (0 ∷ []) → Adds l r m q (optional_w w v)
-  absent_is e f = rw e f
-
-  pub present_is : {o : List ℕ} {p : Option ℕ} (b : B) → v ≡ inr b → Adds l r m q (1 ∷ []) → Adds m q o p (w b)
-      → Adds l r o p (optional_w w v)
-  present_is b e f g = rw e (then f g)
-
-pub present_text : (s : List ℕ) {v : Option Span} {l m o : List ℕ} {r q p : Option ℕ} (t : Span) → v ≡ Some t
-    → Inside s v → Adds l r m q (1 ∷ [])
-    → (t.from ≤ t.to → t.to ≤ length s → Adds m q o p (text_w (slice t.from t.to s)))
-    → Adds l r o p (optional_w text_w (given_text s v))
-present_text s t e h f g = let k : Inside s (Some t) = rw e at h in rw e (then f (g k.0 k.1))
+-- an optional value: the code's v stands for g v, of which f gives the value that is there
+pub optional_is : {A B : Type 0} {l m : List ℕ} {r q : Option ℕ} (w : B → List ℕ) (g : Option A → Unit {0} ⊎ B) (f : A → B)
+    → g None ≡ inl tt → ((x : A) → g (Some x) ≡ inr (f x)) → (v : Option A) → (v ≡ None → Adds l r m q (0 ∷ []))
+    → ((x : A) → v ≡ Some x → Adds l r m q (1 ∷ w (f x))) → Adds l r m q (optional_w w (g v))
+optional_is w g f a b None n p = rw a (n refl)
+optional_is w g f a b (Some x) n p = rw (b x) (p x refl)

@@ -3,7 +3,7 @@
 // return.
 #![tactic(auto)]
 
-ghost use Rattle.std.specs.Prelude.{◌≡◌, [], ◌∷◌, ◌<◌, ◌≤◌, length};
+ghost use Rattle.std.specs.Prelude.{◌≡◌, List, ℕ, Some, None, [], ◌∷◌, ◌<◌, ◌≤◌, length};
 ghost use Rattle.std.proofs.Math.Seq.{slice};
 ghost use Rattle.formats.specs.Number.{groups_w, number_w, little_w, zig};
 ghost use Rattle.formats.specs.Promises.Number.{top};
@@ -12,21 +12,13 @@ ghost use Rattle.formats_write.specs.Promises.Adds.{Adds};
 ghost use Rattle.formats_write.specs.Promises.Given.{optional_w, given_number, given_signed, given_text, text_w};
 ghost use Rattle.formats_write.specs.Promises.Given.{Inside};
 
-
 use formats::Span;
-fn octet(n: u64) -> u8
-    requires { n < 256 }
-    ensures { result ≡ n }
-{
-    n as u8
-}
 
 pub fn byte(out: &mut [u8], w: Option<usize>, b: u8) -> Option<usize>
     ensures { Adds out.old w out.new result (b ∷ []) }
 {
-    let Some(at) = w else {
-        return None;
-    };
+    let at = w?;
+    // By an index: a proof loses what `out` holds where `get_mut` and `?` write.
     if at < out.len() {
         out[at] = b;
         return Some(at + 1);
@@ -40,9 +32,9 @@ fn groups(k: u32, out: &mut [u8], w: Option<usize>, n: u64) -> Option<usize>
     ensures { Adds out.old w out.new result (groups_w k n) }
 {
     if n < 128 {
-        return byte(out, w, octet(n));
+        return byte(out, w, n as u8);
     }
-    let q = byte(out, w, octet(128 + n % 128));
+    let q = byte(out, w, (128 + n % 128) as u8);
     groups(k - 1, out, q, n / 128)
 }
 
@@ -65,7 +57,7 @@ fn little(k: u32, out: &mut [u8], w: Option<usize>, n: u64) -> Option<usize>
     if k == 0 {
         return w;
     }
-    let q = byte(out, w, octet(n % 256));
+    let q = byte(out, w, (n % 256) as u8);
     little(k - 1, out, q, n / 256)
 }
 
@@ -81,23 +73,16 @@ pub fn stretch(out: &mut [u8], w: Option<usize>, s: &[u8], from: usize, to: usiz
     ensures { from ≤ to → to ≤ length s.now
         → Adds out.old w out.new result (slice from to s.now) }
 {
-    let Some(at) = w else {
-        return None;
-    };
-    if to < from {
-        return None;
-    }
-    if s.len() < to {
-        return None;
-    }
+    let at = w?;
+    let bytes = s.get(from..to)?;
     if out.len() < at {
         return None;
     }
-    let n = to - from;
+    let n = bytes.len();
     if out.len() - at < n {
         return None;
     }
-    slices::copy(out, at, &s[from..to]);
+    slices::copy(out, at, bytes);
     Some(at + n)
 }
 
@@ -113,53 +98,51 @@ pub fn text(out: &mut [u8], w: Option<usize>, s: &[u8], from: usize, to: usize) 
     stretch(out, q, s, from, to)
 }
 
-pub fn optional_number(out: &mut [u8], w: Option<usize>, v: Option<u64>) -> Option<usize>
-    ensures { Adds out.old w out.new result (optional_w number_w (given_number v)) }
+// A byte that says whether a value is there, and the value as `write` puts it.
+fn optional<T, F: FnOnce(&mut [u8], Option<usize>, T) -> Option<usize>>(
+    out: &mut [u8],
+    w: Option<usize>,
+    v: Option<T>,
+    write: F,
+) -> Option<usize>
+    requires { F.IsAlwaysCallable write }
+    ensures absent { v ≡ None → Adds out.old w out.new result (0 ∷ []) }
+    ensures present { (x : _) → v ≡ Some x → (y : List ℕ)
+        → ((o : _) (q : _) (r : _) (n : _) → F.post write o q x r n → Adds o.now q n.now r y)
+        → Adds out.old w out.new result (1 ∷ y) }
 {
     match v {
         None => byte(out, w, 0),
-        Some(n) => {
+        Some(x) => {
             let q = byte(out, w, 1);
-            number(out, q, n)
+            write(out, q, x)
         }
     }
+}
+
+pub fn optional_number(out: &mut [u8], w: Option<usize>, v: Option<u64>) -> Option<usize>
+    ensures { Adds out.old w out.new result (optional_w number_w (given_number v)) }
+{
+    optional(out, w, v, number)
 }
 
 pub fn optional_signed(out: &mut [u8], w: Option<usize>, v: Option<i64>) -> Option<usize>
     ensures { Adds out.old w out.new result
         (optional_w (λ z. number_w (zig z)) (given_signed v)) }
 {
-    match v {
-        None => byte(out, w, 0),
-        Some(z) => {
-            let q = byte(out, w, 1);
-            signed(out, q, z)
-        }
-    }
+    optional(out, w, v, signed)
 }
 
 // A float that may be missing, given by its 64 bits.
 pub fn optional_float(out: &mut [u8], w: Option<usize>, v: Option<u64>) -> Option<usize>
     ensures { Adds out.old w out.new result (optional_w (little_w 8) (given_number v)) }
 {
-    match v {
-        None => byte(out, w, 0),
-        Some(n) => {
-            let q = byte(out, w, 1);
-            float(out, q, n)
-        }
-    }
+    optional(out, w, v, float)
 }
 
 pub fn optional_text(out: &mut [u8], w: Option<usize>, s: &[u8], v: Option<Span>) -> Option<usize>
     ensures { Inside s.now v → Adds out.old w out.new result
         (optional_w text_w (given_text s.now v)) }
 {
-    match v {
-        None => byte(out, w, 0),
-        Some(t) => {
-            let q = byte(out, w, 1);
-            text(out, q, s, t.from, t.to)
-        }
-    }
+    optional(out, w, v, |out, q, t: Span| text(out, q, s, t.from, t.to))
 }

@@ -4,6 +4,3 @@ use Rattle.formats.proofs.more.Given as goal
 
 abbrev pub invariant-loop-p : goal.invariant-loop-p
 invariant-loop-p l = Rest l.s l.at l.low l.p l.n l.unit l.left
-
-abbrev pub decreases-loop-p : goal.decreases-loop-p
-decreases-loop-p l = l.left

@@ -1,12 +1,8 @@
 -- `formats::number` meets its contract.
-use Rattle.formats.proofs.Numbers.{at_end, front_good, front_more}
+use native.Mathlib.Omega.{arith}
+use Rattle.std.proofs.lemmas.Grind.{common_steps}
+use Rattle.formats.proofs.Numbers.{front_more}
 use Rattle.formats.proofs.number.Goals as goal
 
-pub returns-then-s-at : goal.returns-then-s-at
-returns-then-s-at c = search at_end
-
-pub returns-then-b-lt128 : goal.returns-then-b-lt128
-returns-then-b-lt128 c = search front_good
-
 pub returns : goal.returns
-returns c = search front_more
+returns c = grind (arith, common_steps, front_more, c.in_ok-b.ensures, c.type_inv.s c.args.at)

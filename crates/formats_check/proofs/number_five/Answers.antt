@@ -2,5 +2,5 @@
 use Rattle.formats_check.specs.Laws.Five.{one_got}
 use Rattle.formats_check.proofs.number_five.Goals as goal
 
-pub returns : goal.returns
-returns c = search one_got
+pub returns-in-Some : goal.returns-in-Some
+returns-in-Some c = one_got {n = c.in-Some.found.0} {q = c.in-Some.found.1} c.five.ensures c.in-Some.is

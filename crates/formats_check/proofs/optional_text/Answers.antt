@@ -1,15 +1,14 @@
 -- `formats_check::optional_text` meets its contract.
-use Rattle.formats_check.specs.Laws.Checked.{optional_absent, optional_end, optional_given, optional_other}
+use mathlib.Core.Path.{◌≡◌, refl}
+use Prim.Native.Nat.{◌<◌}
+use lib.ListN.{length, get_or}
+use native.Mathlib.Omega.{arith}
+use Rattle.std.proofs.lemmas.Grind.{common_steps}
+use Rattle.formats_check.specs.Laws.Checked.{optional_given}
 use Rattle.formats_check.proofs.optional_text.Goals as goal
 
-pub returns-then-s-at : goal.returns-then-s-at
-returns-then-s-at c = search optional_end
-
-pub returns-then-c-eq0 : goal.returns-then-c-eq0
-returns-then-c-eq0 c = search optional_absent
-
-pub returns-then-c-eq1 : goal.returns-then-c-eq1
-returns-then-c-eq1 c = search optional_given
-
-pub returns : goal.returns
-returns c = search optional_other
+pub returns-in-1 : goal.returns-in-1
+returns-in-1 c =
+    let inside : c.args.at < length c.args.s.now = grind (arith, common_steps, c.in_ok-get.ensures) in
+    let one : get_or c.args.s.now c.args.at 0 ≡ 1 = grind (arith, common_steps, c.in_ok-get.ensures) in
+    optional_given _ inside refl one c.text.ensures

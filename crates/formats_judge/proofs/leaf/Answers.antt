@@ -1,44 +1,39 @@
--- `formats_judge::leaf` meets its contract.
-use Rattle.formats.proofs.Parts.{begins, count_within}
-use Rattle.formats_judge.proofs.Leaves.{leaf_0, leaf_1, leaf_6, leaf_6_bad, leaf_7, leaf_7_bad, leaf_bad, leaf_2}
-use Rattle.formats_judge.proofs.Leaves.{leaf_3, leaf_4, leaf_4_over, leaf_5}
+-- `leaf` meets its contract.
+use Rattle.formats.proofs.Parts.{begins}
+use Rattle.formats_judge.proofs.Leaves.{leaf_1, leaf_2, leaf_3, leaf_4, leaf_4_over, leaf_5, leaf_6, leaf_6_bad}
+use Rattle.formats_judge.proofs.Leaves.{leaf_7, leaf_7_bad, leaf_bad}
 use Rattle.formats_judge.proofs.leaf.Goals as goal
 
-pub returns-then-kind-eq-NEVER : goal.returns-then-kind-eq-NEVER
-returns-then-kind-eq-NEVER c = search leaf_0
+pub returns-in_err-q-in-6 : goal.returns-in_err-q-in-6
+returns-in_err-q-in-6 c = rw c.from_residual.ensures (search (leaf_6_bad, c.in_err-q-in-6.was))
 
-pub returns-then-kind-eq-EMPTY : goal.returns-then-kind-eq-EMPTY
-returns-then-kind-eq-EMPTY c = search leaf_1
+pub returns-in_err-q-in-7 : goal.returns-in_err-q-in-7
+returns-in_err-q-in-7 c = rw c.from_residual-in_err-q-in-7.ensures (search (leaf_7_bad, c.in_err-q-in-7.was))
 
-pub returns-in_default : goal.returns-in_default
-returns-in_default c = search leaf_6_bad
+pub returns-in_err-n-in_default : goal.returns-in_err-n-in_default
+returns-in_err-n-in_default c =
+    rw c.from_residual-in_err-n-in_default.ensures (search (leaf_bad, begins, c.in_default, c.in_err-n-in_default.was))
 
-pub returns-then-kind-eq-FLOAT : goal.returns-then-kind-eq-FLOAT
-returns-then-kind-eq-FLOAT c = search leaf_6
+pub returns-in-1 : goal.returns-in-1
+returns-in-1 c = search leaf_1
 
-pub returns-in_default-given : goal.returns-in_default-given
-returns-in_default-given c = search leaf_7_bad
+pub returns-in_ok-q-in-6 : goal.returns-in_ok-q-in-6
+returns-in_ok-q-in-6 c = search (leaf_6, c.in_ok-q-in-6.was)
 
-pub returns-then-kind-eq-CONSTANT : goal.returns-then-kind-eq-CONSTANT
-returns-then-kind-eq-CONSTANT c = search leaf_7
+pub returns-in_ok-q-in-7 : goal.returns-in_ok-q-in-7
+returns-in_ok-q-in-7 c = search (leaf_7, c.in_ok-q-in-7.was)
 
-pub returns-in_default-number : goal.returns-in_default-number
-returns-in_default-number c = search (leaf_bad, begins)
+pub returns-in-2 : goal.returns-in-2
+returns-in-2 c = search (leaf_2, c.in_ok-n-in_default.was)
 
-pub returns-then-kind-eq-NUMBER : goal.returns-then-kind-eq-NUMBER
-returns-then-kind-eq-NUMBER c = search leaf_2
+pub returns-in-3 : goal.returns-in-3
+returns-in-3 c = search (leaf_3, c.in_ok-n-in_default.was)
 
-pub returns-then-kind-eq-SIGNED : goal.returns-then-kind-eq-SIGNED
-returns-then-kind-eq-SIGNED c = search leaf_3
+pub returns-in-4 : goal.returns-in-4
+returns-in-4 c = search (leaf_4_over, c.in_ok-n-in_default.was)
 
-pub returns-then-a-n : goal.returns-then-a-n
-returns-then-a-n c = search leaf_4_over
+pub returns-in-4-2 : goal.returns-in-4-2
+returns-in-4-2 c = search (leaf_4, c.in_ok-n-in_default.was)
 
-pub returns-then-kind-eq-SMALL : goal.returns-then-kind-eq-SMALL
-returns-then-kind-eq-SMALL c = search leaf_4
-
-pub bytes-requires : goal.bytes-requires
-bytes-requires c = count_within c.args.s.now c.args.at _ _ _ c.number.ensures c.in-Some-number.is
-
-pub returns : goal.returns
-returns c = search (leaf_5, begins)
+pub returns-in_default-kind : goal.returns-in_default-kind
+returns-in_default-kind c = search (leaf_5, begins, c.in_default, c.in_default-kind, c.in_ok-n-in_default.was)

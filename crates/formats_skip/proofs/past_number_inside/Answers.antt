@@ -1,92 +1,19 @@
 -- `past_number_inside` meets its contract.
-use mathlib.Core.Path.{refl}
-use Rattle.formats_skip.specs.Laws.Number.{near_first, near_next, near_end, high_first, high_next}
+use mathlib.Core.Path.{◌≡◌}
+use Prim.Native.Nat.{◌+◌}
+use native.Mathlib.Omega.{arith}
+use Rattle.formats_skip.specs.Laws.Number.{scan_start, scan_on, scan_low, near_end}
 use Rattle.formats_skip.proofs.past_number_inside.Goals as goal
 
+pub loop-k-init : goal.loop-k-init
+loop-k-init c = let here : c.args.at + 0 ≡ c.args.at = omega arith in rw here scan_start
+
 pub returns-then-s-at-lt128 : goal.returns-then-s-at-lt128
-returns-then-s-at-lt128 c = search near_first
+returns-then-s-at-lt128 c = record { passes = search scan_low; near = omega arith }
 
-pub returns-then-s-at-lt128-2 : goal.returns-then-s-at-lt128-2
-returns-then-s-at-lt128-2 c = search (near_next 1 2 refl refl, high_first)
-
-pub returns-then-s-at-lt128-3 : goal.returns-then-s-at-lt128-3
-returns-then-s-at-lt128-3 c = search (near_next 2 3 refl refl, high_next 1 2 refl refl, high_first)
-
-pub returns-then-s-at-lt128-4 : goal.returns-then-s-at-lt128-4
-returns-then-s-at-lt128-4 c =
-    search (near_next 3 4 refl refl, high_next 2 3 refl refl, high_next 1 2 refl refl, high_first) depth 7
-
-pub returns-then-s-at-lt128-5 : goal.returns-then-s-at-lt128-5
-returns-then-s-at-lt128-5 c =
-    search (
-      near_next 4 5 refl refl,
-      high_next 3 4 refl refl,
-      high_next 2 3 refl refl,
-      high_next 1 2 refl refl,
-      high_first,
-    ) depth 8
-
-pub returns-then-s-at-lt128-6 : goal.returns-then-s-at-lt128-6
-returns-then-s-at-lt128-6 c =
-    search (
-      near_next 5 6 refl refl,
-      high_next 4 5 refl refl,
-      high_next 3 4 refl refl,
-      high_next 2 3 refl refl,
-      high_next 1 2 refl refl,
-      high_first,
-    ) depth 9
-
-pub returns-then-s-at-lt128-7 : goal.returns-then-s-at-lt128-7
-returns-then-s-at-lt128-7 c =
-    search (
-      near_next 6 7 refl refl,
-      high_next 5 6 refl refl,
-      high_next 4 5 refl refl,
-      high_next 3 4 refl refl,
-      high_next 2 3 refl refl,
-      high_next 1 2 refl refl,
-      high_first,
-    ) depth 10
-
-pub returns-then-s-at-lt128-8 : goal.returns-then-s-at-lt128-8
-returns-then-s-at-lt128-8 c =
-    search (
-      near_next 7 8 refl refl,
-      high_next 6 7 refl refl,
-      high_next 5 6 refl refl,
-      high_next 4 5 refl refl,
-      high_next 3 4 refl refl,
-      high_next 2 3 refl refl,
-      high_next 1 2 refl refl,
-      high_first,
-    ) depth 11
-
-pub returns-then-s-at-lt128-9 : goal.returns-then-s-at-lt128-9
-returns-then-s-at-lt128-9 c =
-    search (
-      near_next 8 9 refl refl,
-      high_next 7 8 refl refl,
-      high_next 6 7 refl refl,
-      high_next 5 6 refl refl,
-      high_next 4 5 refl refl,
-      high_next 3 4 refl refl,
-      high_next 2 3 refl refl,
-      high_next 1 2 refl refl,
-      high_first,
-    ) depth 12
+pub loop-k-preserved : goal.loop-k-preserved
+loop-k-preserved c =
+    let next : c.args.at + (c.loop-k.k + 1) ≡ c.args.at + c.loop-k.k + 1 = omega arith in rw next (search scan_on)
 
 pub returns : goal.returns
-returns c =
-    search (
-      near_end,
-      high_next 8 9 refl refl,
-      high_next 7 8 refl refl,
-      high_next 6 7 refl refl,
-      high_next 5 6 refl refl,
-      high_next 4 5 refl refl,
-      high_next 3 4 refl refl,
-      high_next 2 3 refl refl,
-      high_next 1 2 refl refl,
-      high_first,
-    ) depth 12
+returns c = let last : c.loop-k.k ≡ 9 = omega arith in near_end (rw last at c.loop-k.invariant)

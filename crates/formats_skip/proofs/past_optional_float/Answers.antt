@@ -1,12 +1,5 @@
 -- `past_optional_float` meets its contract.
-use Rattle.formats_skip.specs.Laws.Passes.{optional_out, optional_some, optional_none}
 use Rattle.formats_skip.proofs.past_optional_float.Goals as goal
 
-pub returns-then-s-at : goal.returns-then-s-at
-returns-then-s-at c = search optional_out
-
-pub returns-then-s-at-eq1 : goal.returns-then-s-at-eq1
-returns-then-s-at-eq1 c = search optional_some
-
 pub returns : goal.returns
-returns c = search optional_none
+returns c = c.past_optional.ensures _ (λ t p r e. e)

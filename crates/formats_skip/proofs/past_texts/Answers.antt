@@ -1,12 +1,16 @@
 -- `past_texts` meets its contract.
-use Rattle.formats_skip.specs.Laws.Passes.{list_start, list_on, list_end}
+use mathlib.Core.Path.{◌≡◌}
+use Prim.Native.Nat.{◌+◌, ◌-◌, ◌<◌, ◌≤◌}
+use native.Mathlib.Omega.{arith}
+use Rattle.formats_skip.specs.Laws.Passes.{list_on, list_end}
 use Rattle.formats_skip.proofs.past_texts.Goals as goal
 
-pub loop-left-init : goal.loop-left-init
-loop-left-init c = list_start
-
-pub loop-left-preserved : goal.loop-left-preserved
-loop-left-preserved c = search list_on
+pub loop-preserved : goal.loop-preserved
+loop-preserved c =
+    let more : 0 < c.number-n.result.value - c.loop.counter = omega arith in
+    let one : c.number-n.result.value - (c.loop.counter + 1) ≡ c.number-n.result.value - c.loop.counter - 1 = omega arith in
+    rw one (list_on c.loop.invariant more c.past_text-p.ensures)
 
 pub returns : goal.returns
-returns c = search list_end
+returns c = let none : c.number-n.result.value - c.loop.counter ≤ 0 = omega arith in
+    list_end c.loop.invariant c.number-n.ensures none

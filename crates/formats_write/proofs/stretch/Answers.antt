@@ -1,15 +1,14 @@
 -- `stretch` meets its contract.
+use mathlib.Core.Path.{◌≡◌}
+use Prim.Native.Nat.{◌-◌}
+use lib.ListN.{take, drop}
+use native.Mathlib.Omega.{arith}
+use Rattle.std.proofs.lemmas.Grind.{common_steps}
 use Rattle.formats_write.proofs.Laws
 use Rattle.formats_write.proofs.stretch.Goals as goal
 
-pub returns-in_default : goal.returns-in_default
-returns-in_default c = λ h k. search (Laws.was_full)
-
-pub returns-then-out-at : goal.returns-then-out-at
-returns-then-out-at c = λ h k. search (Laws.stretch_past)
-
-pub returns-then-out-at-2 : goal.returns-then-out-at-2
-returns-then-out-at-2 c = λ h k. search (Laws.stretch_out)
-
 pub returns : goal.returns
-returns c = λ h k. search (Laws.stretch_in)
+returns c = λ h k.
+    let cut : c.in_ok-bytes.bytes.now ≡ take (c.args.to - c.args.from) (drop c.args.from c.args.s.now) =
+    grind (arith, common_steps, c.in_ok-bytes.ensures) in
+    search (Laws.stretch_in, c.in_ok-at.was)
