@@ -6,7 +6,6 @@ mod Stops
 mod Ones
 mod Finding
 mod Trips
-mod Signed
 mod Typing
 mod Walking
 mod Short

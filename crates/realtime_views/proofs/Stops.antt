@@ -4,6 +4,7 @@ use mathlib.Core.Bool.{cond}
 use Prim.Native.Nat.{ℕ, ◌+◌, ◌≤◌, ◌<◌}
 use mathlib.Core.Path.{◌≡◌, refl, sym, ap, subst, ◌∙◌}
 use mathlib.Core.List.{List}
+use mathlib.Core.Logic.{◌⊎◌, inl, inr}
 use mathlib.Core.Option.{none, some}
 use native.Mathlib.Omega.{arith}
 use lib.ListN.{length, take, drop, length-take}
@@ -15,6 +16,7 @@ use Rattle.realtime.specs.Schema.{field_rows, feed, stop_time_update, stop_time_
 use Rattle.realtime_read.specs.Laws.Passing.{Passed}
 use Rattle.realtime_read.specs.Promises.Steps.{Lies, Stepped}
 use Rattle.realtime_read.specs.declared.Step.{Step}
+use Rattle.realtime_read.specs.Laws.Steps.{step_is}
 use Rattle.realtime_views.specs.Promises.Fold.{inside}
 use Rattle.realtime_views.specs.Promises.Reading.{Lens, Reads}
 use Rattle.realtime_views.specs.Promises.Last.{Single, taking}
@@ -22,7 +24,6 @@ use Rattle.realtime_views.specs.Promises.Numbers.{plain, spans, sequence, stop, 
 use Rattle.realtime_views.specs.Promises.Numbers.{value_of, no_number, no_numbers, no_span, from_stop, EventReads}
 use Rattle.realtime_views.specs.Promises.Numbers.{EventsRead, StopReads}
 use Rattle.realtime_views.specs.declared.TextPart.{TextPart}
-use Rattle.realtime_views.specs.declared.Number.{Number}
 use Rattle.realtime_views.specs.declared.EventNumbers.{EventNumbers}
 use Rattle.realtime_views.specs.declared.StopUpdate.{StopUpdate}
 use Rattle.realtime_views.proofs.Reader.{Reading, begins, says, on_number, on_text, past_message, taken, passed}
@@ -91,7 +92,7 @@ unfolding feed field_rows
 departure_event f u p e = typed f u 3 stop_time_event p refl e
 
 -- the loop over an event, over b
-pub record Events (s : List ℕ) (from : ℕ) (b : EventNumbers) (at : ℕ) (e i : Number) : Type 0 where
+pub record Events (s : List ℕ) (from : ℕ) (b : EventNumbers) (at : ℕ) (e i : Option ℕ) : Type 0 where
   pub delay : Reading (plain value_of) (taking delay) feed stop_time_event s from b.delay at e
   pub time : Reading (plain value_of) (taking time) feed stop_time_event s from b.time at i
 
@@ -100,7 +101,7 @@ pub event_starts : {s : List ℕ} {from : ℕ} (b : EventNumbers) → from ≤ l
 event_starts b h =
     record { delay = begins (record { inside = h; within = tt }); time = begins (record { inside = h; within = tt }) }
 
-module _ {s : List ℕ} {from : ℕ} {b : EventNumbers} {at : ℕ} {e i : Number} (R : Events s from b at e i) where
+module _ {s : List ℕ} {from : ℕ} {b : EventNumbers} {at : ℕ} {e i : Option ℕ} (R : Events s from b at e i) where
   pub event_ends : length s ≤ at → EventReads s from b (record { delay = e; time = i })
   event_ends h = record { delay = comes_to_end R.delay h; time = comes_to_end R.time h }
 
@@ -123,7 +124,7 @@ module _ {s : List ℕ} {from : ℕ} {b : EventNumbers} {at : ℕ} {e i : Number
           over : Passed feed stop_time_event s at f a.at
           over = number_passed s h k g z q r feed stop_time_event
 
-          pub event_delay : f ≡ 1 → Events s from b a.at (record { given = 1; value = m }) i
+          pub event_delay : f ≡ 1 → Events s from b a.at (Some m) i
           unfolding feed field_rows
           event_delay v =
               record {
@@ -131,7 +132,7 @@ module _ {s : List ℕ} {from : ℕ} {b : EventNumbers} {at : ℕ} {e i : Number
                 time = passes_on R.time over (taking_skips time (λ j. omega arith));
               }
 
-          pub event_time : (f ≡ 1 → ⊥) → f ≡ 2 → Events s from b a.at e (record { given = 1; value = m })
+          pub event_time : (f ≡ 1 → ⊥) → f ≡ 2 → Events s from b a.at e (Some m)
           unfolding feed field_rows
           event_time u v =
               record {
@@ -255,6 +256,11 @@ module _ {s : List ℕ} {from at q : ℕ} {p : TextPart} {k : ℕ} {a d : EventN
     arrival = within_breaks R.arrival S;
     departure = within_breaks R.departure S;
   }
+
+  pub stops_last : {x : Step} {r : StopUpdate} → Stepped feed stop_time_update s at x
+      → (x ≡ Step.Broken) ⊎ (x ≡ Step.End) → r ≡ from_stop q p k a d → StopReads s from r
+  stops_last S (inl h) e = stops_break (step_is S h) e
+  stops_last S (inr h) e = stops_end (step_is S h) e
 
   module _ {f m n : ℕ} (S : Stepped feed stop_time_update s at (Step.Number f m n)) where
     numbered : {q' k' : ℕ} → Reading (plain (λ n. n)) (taking sequence) feed stop_time_update s from 0 n q'

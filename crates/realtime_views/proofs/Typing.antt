@@ -1,9 +1,10 @@
 -- What the typed answers of the scalars say is what the trees say. Assumes nothing.
-use Rattle.std.specs.Prelude.{Some, None}
+use Rattle.std.specs.Prelude.{Option as Answer, Some, None}
+use Rattle.std.specs.Option.{unwrap_or}
 use Prim.Native.Nat.{ℕ, ◌+◌, ◌≤◌}
 use mathlib.Core.Path.{◌≡◌, refl, sym, ap, subst, ◌∙◌}
 use mathlib.Core.List.{List, [], ◌∷◌}
-use mathlib.Core.Bool.{Bool, true, false, cond}
+use mathlib.Core.Bool.{Bool}
 use mathlib.Core.Option.{Option, none, some, map}
 use native.Mathlib.Omega.{arith}
 use lib.Dec.{eqb}
@@ -23,7 +24,8 @@ use Rattle.realtime_views.specs.Promises.Scalars.{scalar_at, OneReads, OneReadsI
 use Rattle.realtime_views.specs.Laws.Last.{leaf, taking_last}
 use Rattle.realtime_views.specs.Promises.Last.{taking}
 use Rattle.realtime_views.specs.Promises.Numbers.{or_zero_at, single_text, single_number, plain, spans, value_of}
-use Rattle.realtime_views.specs.Promises.Numbers.{no_number, no_span, from_event, EventsRead, NumberReads}
+use Rattle.realtime_views.specs.Promises.Numbers.{no_number, no_span, from_delay, from_event, from_time}
+use Rattle.realtime_views.specs.Promises.Numbers.{EventsRead, NumberReads}
 use Rattle.realtime_views.specs.Promises.Numbers.{LastNumber, StopReads}
 use Rattle.realtime.specs.Typed.{uint32, int32, int64, bool, enum, number_in, text_in, or_zero}
 use Rattle.basics.specs.Options.{some_and}
@@ -36,7 +38,6 @@ use Rattle.realtime_views.specs.Promises.Views.{StopRead, SequenceRead}
 use Rattle.realtime_views.specs.declared.Scalar.{Scalar}
 use Rattle.realtime_views.specs.declared.Scalars.{Scalars}
 use Rattle.realtime_views.specs.declared.TextPart.{TextPart}
-use Rattle.realtime_views.specs.declared.Number.{Number}
 use Rattle.realtime_views.specs.declared.EventNumbers.{EventNumbers}
 use Rattle.realtime_views.specs.declared.Header.{Header}
 use Rattle.realtime_views.specs.declared.Trip.{Trip}
@@ -157,13 +158,19 @@ leaf_zero k (some (count n)) = refl
 leaf_zero k (some (words x)) = refl
 
 -- the number of the last scalar, 0 where it is none
-pub last_number : {k : ℕ} {s : List ℕ} {from : ℕ} {x y : Scalar} → OneReads k s from Scalar.Nothing x → x ≡ y
-    → LastNumber k s from (or_zero (number_in (said s y)))
-last_number {k} {s} {from} {x} {y} O e t p = record {
+or_zero_is : (s : List ℕ) (x : Scalar) → unwrap_or (to_timestamp x) 0 ≡ or_zero (number_in (said s x))
+or_zero_is s (Scalar.Number n) = refl
+or_zero_is s (Scalar.Text i l) = refl
+or_zero_is s Scalar.Nothing = refl
+
+pub last_number : {k : ℕ} {s : List ℕ} {from : ℕ} {x : Scalar} {o : Answer ℕ} {n : ℕ}
+    → OneReads k s from Scalar.Nothing x → o ≡ to_timestamp x → n ≡ unwrap_or o 0 → LastNumber k s from n
+last_number {k} {s} {from} {x} O e h t p = record {
   made = record {
     of = λ m q.
-        ap (λ o. or_zero (number_in o))
-        (ap (said s) (sym e) ∙ (O.of t (ap is_scalar p)).of m q ∙ taking_last (scalar_at k) none m
+        h ∙ ap (λ o. unwrap_or o 0) e ∙ or_zero_is s x
+        ∙ ap (λ o. or_zero (number_in o))
+        ((O.of t (ap is_scalar p)).of m q ∙ taking_last (scalar_at k) none m
         ∙ leaf_is k (last k m))
         ∙ sym (leaf_zero k (last k m)) ∙ sym (taking_last (or_zero_at k) 0 m);
   };
@@ -184,15 +191,13 @@ value_given : (o : Option ℕ) → eqb (enum (or_zero o)) 1 ≡ some_and (λ n. 
 value_given none = refl
 value_given (some n) = refl
 
-delay_view : (b : Bool) (n : ℕ)
-    → view_delay (cond b (Some (int32 n)) None) ≡ map int32 (cond b (some n) none)
-delay_view true n = refl
-delay_view false n = refl
+delay_view : (n : Answer ℕ) → view_delay (from_delay n) ≡ map int32 (value_of n)
+delay_view (Some n) = refl
+delay_view None = refl
 
-time_view : (b : Bool) (n : ℕ) → view_time (cond b (Some (int64 n)) None) ≡
-    map int64 (cond b (some n) none)
-time_view true n = refl
-time_view false n = refl
+time_view : (n : Answer ℕ) → view_time (from_time n) ≡ map int64 (value_of n)
+time_view (Some n) = refl
+time_view None = refl
 
 zero_of : (t k : ℕ) (s : List ℕ) {x : List ℕ} (i l : ℕ) → i + l ≤ length s → x ≡ take (i + l) s → (m : Tree)
     → tree feed t (take l (drop i s)) ≡ some m → {r : ℕ}
@@ -205,7 +210,7 @@ module _ (s : List ℕ) {x : List ℕ} (i l : ℕ) (h : i + l ≤ length s) (e :
       → part_in s r ≡ text_in (last k m)
   text_of k Q = made_of s i l h e Q m q ∙ taking_last (single_text k) [] m ∙ leaf_text k (last k m)
 
-  given_of : (j k : ℕ) {r : Number}
+  given_of : (j k : ℕ) {r : Answer ℕ}
       → Reads (plain value_of) (inside j (taking (single_number k))) feed stop_time_update x i no_number r
       → value_of r ≡ number_in (last k (sub j m))
   given_of j k Q =
@@ -214,9 +219,8 @@ module _ (s : List ℕ) {x : List ℕ} (i l : ℕ) (h : i + l ≤ length s) (e :
 
   event_of : (j : ℕ) {r : EventNumbers} → EventsRead j x i r → view_event (from_event r) ≡ event (sub j m)
   event_of j {r} E = λ z. record {
-    delay = (delay_view (eqb r.delay.given 1) r.delay.value ∙ ap (map int32) (given_of j 1 E.delay))
-        z;
-    time = (time_view (eqb r.time.given 1) r.time.value ∙ ap (map int64) (given_of j 2 E.time)) z;
+    delay = (delay_view r.delay ∙ ap (map int32) (given_of j 1 E.delay)) z;
+    time = (time_view r.time ∙ ap (map int64) (given_of j 2 E.time)) z;
   }
 
 pub stop_read : (s : List ℕ) {x : List ℕ} (i l : ℕ) {r : StopUpdate} → i + l ≤ length s → x ≡ take (i + l) s

@@ -7,7 +7,7 @@ use mathlib.Core.Option.{Option, none, some, map}
 use native.Mathlib.Omega.{arith}
 use lib.Bits.{bit_xor}
 use lib.ListN.{length, drop, length-drop, drop_of_length-le}
-use Rattle.wire.specs.Wire.{Read, broken, digits, varint, many}
+use Rattle.wire.specs.Wire.{broken, digits, varint, many}
 use Rattle.wire.specs.Laws.Wire.{reader_varint, moves}
 use Rattle.wire.specs.Laws.Fields.{many_step}
 use Rattle.wire.specs.Laws.At.{number_read, number_broken}

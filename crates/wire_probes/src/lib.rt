@@ -15,13 +15,13 @@ pub extern "C" fn probes_field_end(s: &[u8], at: usize) -> usize
     ensures { result ≡ field_end s.now at }
 {
     let here = Cursor { at };
-    match here.key(s) {
-        None => 0,
-        Some((number, wire, next)) => match next.skip(s, number, wire, 16) {
-            None => 0,
-            Some(after) => after.at,
-        },
-    }
+    let Some((number, wire, next)) = here.key(s) else {
+        return 0;
+    };
+    let Some(after) = next.skip(s, number, wire, 16) else {
+        return 0;
+    };
+    after.at
 }
 
 // The exclusive or of the numbers that s consists of; 0 where one is broken.
@@ -33,13 +33,11 @@ pub extern "C" fn probes_xor_numbers(s: &[u8]) -> u64
     let mut at = 0;
     while at < s.len() {
         let here = Cursor { at };
-        match here.number(s) {
-            None => return 0,
-            Some((value, next)) => {
-                acc = acc ^ value;
-                at = next.at;
-            }
-        }
+        let Some((value, next)) = here.number(s) else {
+            return 0;
+        };
+        acc ^= value;
+        at = next.at;
     }
     acc
 }

@@ -1,7 +1,7 @@
 -- Law. A message that gained fields has the tree that it had.
 use Rattle.std.specs.Prelude.{ℕ, ◌≡◌, refl, List, [], ◌++◌, length}
 use Rattle.std.proofs.Common.{sym, ap, ◌∙◌, arith, length-append, take_at, drop_at, le-leb}
-use Rattle.wire.specs.Wire.{read, varint, key, bytes, length_delimited, LEN, value, field}
+use Rattle.wire.specs.Wire.{read, varint, key, bytes, length_delimited, LEN, field}
 use Rattle.wire.specs.Laws.Wire.{longer, reader_varint, reader_key}
 use Rattle.wire.specs.Laws.Values.{value_2}
 use Rattle.realtime.specs.Tree.{Schema, tree, add_field}

@@ -15,22 +15,19 @@ overflow_mul-k c = omega (arith, c.if-field-ge-FIELDS.false)
 pub overflow_shr-k : goal.overflow_shr-k
 overflow_shr-k c = omega (arith, c.if-field-ge-FIELDS.false)
 
-pub returns-then-k-eq-UNLISTED : goal.returns-then-k-eq-UNLISTED
-returns-then-k-eq-UNLISTED c = none_of _ (coded c.args.message c.args.field c.row_of.ensures c.if-field-ge-FIELDS.false)
-    c.if-k-eq-UNLISTED.true
+pub returns-in-0 : goal.returns-in-0
+returns-in-0 c = none_of _ (coded c.args.message c.args.field c.row_of.ensures c.if-field-ge-FIELDS.false)
+    c.in-0.is
 
-pub returns-then-k-eq-NUMBER : goal.returns-then-k-eq-NUMBER
-returns-then-k-eq-NUMBER c = number_of _ (coded c.args.message c.args.field c.row_of.ensures c.if-field-ge-FIELDS.false)
-    c.if-k-eq-NUMBER.true
+pub returns-in-1 : goal.returns-in-1
+returns-in-1 c = number_of _ (coded c.args.message c.args.field c.row_of.ensures c.if-field-ge-FIELDS.false)
+    c.in-1.is
 
-pub returns-then-k-eq-TEXT : goal.returns-then-k-eq-TEXT
-returns-then-k-eq-TEXT c = text_of _ (coded c.args.message c.args.field c.row_of.ensures c.if-field-ge-FIELDS.false)
-    c.if-k-eq-TEXT.true
+pub returns-in-2 : goal.returns-in-2
+returns-in-2 c = text_of _ (coded c.args.message c.args.field c.row_of.ensures c.if-field-ge-FIELDS.false)
+    c.in-2.is
 
-pub overflow_sub-result : goal.overflow_sub-result
-overflow_sub-result c = omega (arith, c.if-k-eq-UNLISTED.false, c.if-k-eq-NUMBER.false, c.if-k-eq-TEXT.false)
-
-pub returns : goal.returns
-returns c =
+pub returns-in_default : goal.returns-in_default
+returns-in_default c =
     message_of _ (coded c.args.message c.args.field c.row_of.ensures c.if-field-ge-FIELDS.false)
-    c.if-k-eq-UNLISTED.false c.if-k-eq-NUMBER.false c.if-k-eq-TEXT.false
+    (omega arith) (omega arith) (omega arith)

@@ -1,11 +1,7 @@
 -- `realtime_views::last_sequence` meets its contract: a reading of one field by the bytes of keys. Assumes nothing.
-use Rattle.realtime_views.proofs.Reader.{begins}
 use Rattle.realtime_views.proofs.Short.{sequences_end, next_sequence, past_relationship, past_part}
 use Rattle.realtime_views.proofs.Short.{number_less, text_less}
 use Rattle.realtime_views.proofs.last_sequence.Goals as goal
-
-pub loop-at-init : goal.loop-at-init
-loop-at-init c = begins (record { inside = c.requires; within = tt })
 
 pub loop-at-smaller-then-b-eq-SEQUENCE_KEY : goal.loop-at-smaller-then-b-eq-SEQUENCE_KEY
 loop-at-smaller-then-b-eq-SEQUENCE_KEY c = search number_less

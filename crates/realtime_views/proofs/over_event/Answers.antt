@@ -1,11 +1,8 @@
 -- `realtime_views::over_event` meets its contract: a reading of each of its two numbers, in one walk. Assumes nothing.
-use Rattle.realtime_views.proofs.Stops.{event_starts, event_ends, event_no_key, event_no_number}
+use Rattle.realtime_views.proofs.Stops.{event_ends, event_no_key, event_no_number}
 use Rattle.realtime_views.proofs.Stops.{event_delay, event_time, event_number, event_no_other, event_other}
 use Rattle.realtime_views.proofs.Wires.{number_less, other_less}
 use Rattle.realtime_views.proofs.over_event.Goals as goal
-
-pub loop-at-init : goal.loop-at-init
-loop-at-init c = event_starts c.args.before c.requires
 
 pub returns-in_default : goal.returns-in_default
 returns-in_default c = search event_no_key

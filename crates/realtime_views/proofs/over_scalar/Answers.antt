@@ -1,11 +1,8 @@
 -- `realtime_views::over_scalar` meets its contract: a reading of one field, for each type. Assumes nothing.
-use Rattle.realtime_views.proofs.Ones.{ones_start, ones_end, no_key, broken_text, own_text, other_text}
+use Rattle.realtime_views.proofs.Ones.{ones_end, no_key, broken_text, own_text, other_text}
 use Rattle.realtime_views.proofs.Ones.{broken_number, own_number, other_number, broken_value, past_value}
 use Rattle.realtime_views.proofs.Wires.{number_less, text_less, other_less}
 use Rattle.realtime_views.proofs.over_scalar.Goals as goal
-
-pub loop-at-init : goal.loop-at-init
-loop-at-init c = ones_start c.requires
 
 pub returns-in_default : goal.returns-in_default
 returns-in_default c = search no_key

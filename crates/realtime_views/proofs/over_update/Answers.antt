@@ -1,21 +1,15 @@
 -- `realtime_views::over_update` meets its contract: two readings in one walk. Assumes nothing.
-use Rattle.realtime_views.proofs.Trips.{updates_start, updates_end, updates_no_key, updates_no_text}
+use Rattle.realtime_views.proofs.Trips.{updates_end, updates_no_key, updates_no_text}
 use Rattle.realtime_views.proofs.Trips.{updates_ready, updates_trip, updates_text, updates_no_number}
 use Rattle.realtime_views.proofs.Trips.{updates_delay, updates_number, updates_no_other, updates_other}
-use Rattle.realtime_views.proofs.Wires.{number_less, text_less, text_inside, other_less}
+use Rattle.realtime_views.proofs.Wires.{number_less, text_less, other_less}
 use Rattle.realtime_views.proofs.over_update.Goals as goal
-
-pub loop-at-init : goal.loop-at-init
-loop-at-init c = updates_start c.requires
 
 pub returns-in_default : goal.returns-in_default
 returns-in_default c = search updates_no_key
 
 pub returns-in_default-text : goal.returns-in_default-text
 returns-in_default-text c = search updates_no_text
-
-pub part-requires : goal.part-requires
-part-requires c = search text_inside
 
 pub over_message-trip-requires : goal.over_message-trip-requires
 over_message-trip-requires c = search updates_ready

@@ -1,11 +1,6 @@
 -- `realtime_views::scalar_in` meets its contract, in the bytes up to the message's end. Assumes nothing.
-use Rattle.realtime_views.proofs.Typing.{scalar_ready, scalar_read_in}
+use Rattle.realtime_views.proofs.Typing.{scalar_read_in}
 use Rattle.realtime_views.proofs.scalar_in.Goals as goal
-
-pub over_scalar_in-requires : goal.over_scalar_in-requires
-over_scalar_in-requires c =
-    let a = c.args in
-    scalar_ready a.s.now a.start a.len c.requires c.part.ensures
 
 pub returns : goal.returns
 returns c =

@@ -1,11 +1,6 @@
 -- `realtime_views::sequence_at` meets its contract, in the bytes up to the update's end. Assumes nothing.
-use Rattle.realtime_views.proofs.Typing.{starts_in, sequence_read}
+use Rattle.realtime_views.proofs.Typing.{sequence_read}
 use Rattle.realtime_views.proofs.sequence_at.Goals as goal
-
-pub last_sequence-requires : goal.last_sequence-requires
-last_sequence-requires c =
-    let a = c.args in
-    starts_in a.s.now a.start a.len c.requires c.part-update.ensures
 
 pub returns : goal.returns
 returns c =

@@ -1,11 +1,6 @@
 -- `realtime_views::stop_of` meets its contract, in the bytes up to the update's end. Assumes nothing.
-use Rattle.realtime_views.proofs.Typing.{starts_in, stop_read}
+use Rattle.realtime_views.proofs.Typing.{stop_read}
 use Rattle.realtime_views.proofs.stop_of.Goals as goal
-
-pub over_stop-requires : goal.over_stop-requires
-over_stop-requires c =
-    let a = c.args in
-    starts_in a.s.now a.start a.len c.requires c.part.ensures
 
 pub returns : goal.returns
 returns c =

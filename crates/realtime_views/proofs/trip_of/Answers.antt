@@ -1,18 +1,10 @@
 -- `realtime_views::trip_of` meets its contract: the descriptor is what is merged at 3 and 1, the delay at 3. Assumes
 -- nothing.
-use Prim.Native.Nat.{◌+◌}
-use native.Mathlib.Omega.{arith}
-use lib.ListN.{length, length-take}
-use mathlib.Core.Path.{refl, ap}
+use mathlib.Core.Path.{refl}
 use mathlib.Core.List.{[], ◌∷◌}
 use Rattle.realtime_views.proofs.Reader.{lasting}
 use Rattle.realtime_views.proofs.Typing.{merged_read, trip_read}
 use Rattle.realtime_views.proofs.trip_of.Goals as goal
-
-pub over_updates-d-requires : goal.over_updates-d-requires
-over_updates-d-requires c =
-    let a = c.args in
-    omega (arith, ap length c.part.ensures, length-take (a.start + a.len) a.s.now, c.requires)
 
 pub returns : goal.returns
 returns c =

@@ -1,5 +1,5 @@
 -- Promise. What is last in a stop_time_update, field by field, as the code keeps it: in plain words.
-use Rattle.std.specs.Prelude.{ℕ, ◌+◌, ◌≤◌, ◌≡◌, refl, List, [], Bool, cond, ◌||◌, eqb, take, drop, Option, Some, None, ℤ}
+use Rattle.std.specs.Prelude.{ℕ, ◌+◌, ◌≤◌, ◌≡◌, refl, List, [], Bool, ◌||◌, eqb, take, drop, Option, Some, None, ℤ}
 use Rattle.std.proofs.Math.Option.{Option as LogicOption, none, some}
 use Rattle.std.proofs.Common.{arith}
 use Rattle.realtime.specs.Tree.{a_number}
@@ -12,7 +12,6 @@ use Rattle.realtime.specs.Typed.{uint32, int32, int64, enum}
 use Rattle.realtime_views.specs.declared.TextPart.{TextPart}
 use Rattle.realtime_views.specs.declared.Event.{Event}
 use Rattle.realtime_views.specs.declared.StopUpdate.{StopUpdate}
-use Rattle.realtime_views.specs.declared.Number.{Number}
 use Rattle.realtime_views.specs.declared.EventNumbers.{EventNumbers}
 
 -- answers without a position, and the place of a text
@@ -57,11 +56,12 @@ abbrev pub time : Single (LogicOption ℕ)
 time = single_number 2
 
 -- a number that may be absent
-abbrev pub value_of : Number → LogicOption ℕ
-value_of n = cond (eqb n.given 1) (some n.value) none
+abbrev pub value_of : Option ℕ → LogicOption ℕ
+value_of (Some n) = some n
+value_of None = none
 
-abbrev pub no_number : Number
-no_number = record { given = 0; value = 0 }
+abbrev pub no_number : Option ℕ
+no_number = None
 
 abbrev pub no_numbers : EventNumbers
 no_numbers = record { delay = no_number; time = no_number }
@@ -70,11 +70,13 @@ abbrev pub no_span : TextPart
 no_span = record { start = 0; len = 0 }
 
 -- the typed answers
-abbrev pub from_delay : Number → Option ℤ
-from_delay n = cond (eqb n.given 1) (Some (int32 n.value)) None
+abbrev pub from_delay : Option ℕ → Option ℤ
+from_delay (Some n) = Some (int32 n)
+from_delay None = None
 
-abbrev pub from_time : Number → Option ℤ
-from_time n = cond (eqb n.given 1) (Some (int64 n.value)) None
+abbrev pub from_time : Option ℕ → Option ℤ
+from_time (Some n) = Some (int64 n)
+from_time None = None
 
 abbrev pub from_event : EventNumbers → Event
 from_event e = record { delay = from_delay e.delay; time = from_time e.time }

@@ -1,9 +1,7 @@
 -- `wire_probes::probes_xor_numbers` meets its contract. Assumes nothing.
 use Prim.Native.Nat.{◌-◌}
-use Rattle.wire_probes.proofs.Numbers.{Passed, xor_ends, xor_breaks, xor_more, xor_less}
-use borrow.Author.Rules.{rules}
+use Rattle.wire_probes.proofs.Numbers.{Passed}
 use lib.ListN.{length}
-use mathlib.Core.Path.{refl, sym, ◌∙◌}
 use Rattle.wire_probes.proofs.probes_xor_numbers.Given as goal
 
 abbrev pub invariant-loop-at : goal.invariant-loop-at

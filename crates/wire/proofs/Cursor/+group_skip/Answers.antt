@@ -1,35 +1,31 @@
 -- The cycle {group, skip}. The measure is the depth left, twice, and one more in `group`; the loop of `group` goes
 -- by the bytes left.
 -- The answers stand in the call of each member's `spec`, with no signature of their own. Assumes nothing.
-use borrow.Author.Rules.{rules}
-use Prim.Native.Nat.{ℕ, ◌<◌, ◌+◌, ◌-◌}
-use mathlib.Core.Path.{◌≡◌, refl, sym, ap, ◌∙◌}
+use mathlib.Core.Path.{sym, ap, ◌∙◌}
 use native.Mathlib.Omega.{arith}
 use native.Mathlib.Nat.{pos_of_ne-zero}
-use lib.ListN.{length, drop}
-use Rattle.wire.specs.Wire.{in_group, value}
 use Rattle.wire.specs.Promises.Places.{past_number, past_text}
 use Rattle.wire.specs.Laws.At.{field_less, key_read, key_broken, skipped_read, skipped_broken}
 use Rattle.wire.proofs.Skip.{skip_0, skip_1, skip_2, skip_5, skip_else, skip_deep, skip_group, group_broken}
 use Rattle.wire.proofs.Skip.{group_ends, group_other, group_inner, group_more}
 use Rattle.wire.proofs.Cursor.+group_skip.Goals as goal
 
-pub group-returns-in-None : goal.group-returns-in-None
-group-returns-in-None t c =
+pub group-returns-in_err-n : goal.group-returns-in_err-n
+group-returns-in_err-n t c =
     let a = c.args in
     let l = c.loop-n in
     let s = a.s.now in
-    group_broken s a.self.at l.at a.number a.depth l.invariant
-    (key_broken s l.at (sym c.in-None.is ∙ c.key.ensures))
+    c.from_residual.ensures ∙ group_broken s a.self.at l.here.at a.number a.depth l.invariant
+    (key_broken s l.here.at (sym c.in_err-n.was ∙ c.key.ensures))
 
 pub group-returns-then-n-number : goal.group-returns-then-n-number
 group-returns-then-n-number t c =
     let a = c.args in
     let l = c.loop-n in
     let s = a.s.now in
-    let K = key_read s l.at c.in-Some.n c.in-Some.wire c.in-Some.next
-    (sym c.in-Some.is ∙ c.key.ensures) in
-    group_ends s a.self.at l.at a.number a.depth l.invariant c.in-Some.n c.in-Some.wire c.in-Some.next.at K
+    let k = c.in_ok-n in
+    let K = key_read s l.here.at k.n k.wire k.next (sym k.was ∙ c.key.ensures) in
+    group_ends s a.self.at l.here.at a.number a.depth l.invariant k.n k.wire k.next.at K
     c.if-wire-eq-EGROUP.true c.if-n-number.true
 
 pub group-returns-then-wire-eq-EGROUP : goal.group-returns-then-wire-eq-EGROUP
@@ -37,48 +33,48 @@ group-returns-then-wire-eq-EGROUP t c =
     let a = c.args in
     let l = c.loop-n in
     let s = a.s.now in
-    let K = key_read s l.at c.in-Some.n c.in-Some.wire c.in-Some.next
-    (sym c.in-Some.is ∙ c.key.ensures) in
-    group_other s a.self.at l.at a.number a.depth l.invariant c.in-Some.n c.in-Some.wire c.in-Some.next.at K
+    let k = c.in_ok-n in
+    let K = key_read s l.here.at k.n k.wire k.next (sym k.was ∙ c.key.ensures) in
+    group_other s a.self.at l.here.at a.number a.depth l.invariant k.n k.wire k.next.at K
     c.if-wire-eq-EGROUP.true c.if-n-number.false
 
 pub group-skip-requires : goal.group-skip-requires
 group-skip-requires t c = (omega arith, tt)
 
-pub group-returns-in-None-skip : goal.group-returns-in-None-skip
-group-returns-in-None-skip t c =
+pub group-returns-in_err-here : goal.group-returns-in_err-here
+group-returns-in_err-here t c =
     let a = c.args in
     let l = c.loop-n in
     let s = a.s.now in
-    let K = key_read s l.at c.in-Some.n c.in-Some.wire c.in-Some.next
-    (sym c.in-Some.is ∙ c.key.ensures) in
-    group_inner s a.self.at l.at a.number a.depth l.invariant c.in-Some.n c.in-Some.wire c.in-Some.next.at K
+    let k = c.in_ok-n in
+    let K = key_read s l.here.at k.n k.wire k.next (sym k.was ∙ c.key.ensures) in
+    c.from_residual-in_err-here.ensures ∙ group_inner s a.self.at l.here.at a.number a.depth l.invariant k.n k.wire k.next.at K
     c.if-wire-eq-EGROUP.false
-    (skipped_broken s c.in-Some.next.at c.in-Some.n c.in-Some.wire a.depth
-    (sym c.in-None-skip.is ∙ c.skip.ensures))
+    (skipped_broken s k.next.at k.n k.wire a.depth
+    (sym c.in_err-here.was ∙ c.skip.ensures))
 
 pub group-loop-n-smaller : goal.group-loop-n-smaller
 group-loop-n-smaller t c =
     let a = c.args in
     let l = c.loop-n in
     let s = a.s.now in
-    let K = key_read s l.at c.in-Some.n c.in-Some.wire c.in-Some.next
-    (sym c.in-Some.is ∙ c.key.ensures) in
-    let Q = skipped_read s c.in-Some.next.at c.in-Some.n c.in-Some.wire a.depth c.in-Some-skip.after
-    (sym c.in-Some-skip.is ∙ c.skip.ensures) in
-    field_less s l.at a.depth _ c.in-Some.next.at Q.0 c.in-Some-skip.after.at K Q.1
+    let k = c.in_ok-n in
+    let K = key_read s l.here.at k.n k.wire k.next (sym k.was ∙ c.key.ensures) in
+    let Q = skipped_read s k.next.at k.n k.wire a.depth c.in_ok-here.here
+    (sym c.in_ok-here.was ∙ c.skip.ensures) in
+    field_less s l.here.at a.depth _ k.next.at Q.0 c.in_ok-here.here.at K Q.1
 
 pub group-loop-n-preserved : goal.group-loop-n-preserved
 group-loop-n-preserved t c =
     let a = c.args in
     let l = c.loop-n in
     let s = a.s.now in
-    let K = key_read s l.at c.in-Some.n c.in-Some.wire c.in-Some.next
-    (sym c.in-Some.is ∙ c.key.ensures) in
-    let Q = skipped_read s c.in-Some.next.at c.in-Some.n c.in-Some.wire a.depth c.in-Some-skip.after
-    (sym c.in-Some-skip.is ∙ c.skip.ensures) in
-    group_more s a.self.at l.at a.number a.depth l.invariant c.in-Some.n c.in-Some.wire c.in-Some.next.at K
-    c.if-wire-eq-EGROUP.false Q.0 c.in-Some-skip.after.at Q.1
+    let k = c.in_ok-n in
+    let K = key_read s l.here.at k.n k.wire k.next (sym k.was ∙ c.key.ensures) in
+    let Q = skipped_read s k.next.at k.n k.wire a.depth c.in_ok-here.here
+    (sym c.in_ok-here.was ∙ c.skip.ensures) in
+    group_more s a.self.at l.here.at a.number a.depth l.invariant k.n k.wire k.next.at K
+    c.if-wire-eq-EGROUP.false Q.0 c.in_ok-here.here.at Q.1
 
 pub skip-returns-then-depth-eq0 : goal.skip-returns-then-depth-eq0
 skip-returns-then-depth-eq0 t c =

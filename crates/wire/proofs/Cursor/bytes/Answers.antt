@@ -7,7 +7,6 @@ use lib.Seq.{length-take-le}
 use lib.ListN.{length, drop, length-drop, drop_of_length-le}
 use borrow.Author.Tests.{le-leb, lt-leb}
 use Rattle.wire.specs.Wire.{bytes}
-use borrow.Author.Rules.{rules}
 use Rattle.wire.proofs.Cursor.bytes.Goals as goal
 
 pub returns-then-len-eq0 : goal.returns-then-len-eq0

@@ -1,9 +1,7 @@
 -- `Cursor::long_number` meets its contract: what is read behind the bytes passed stands at `scale`. Assumes nothing.
-use borrow.Author.Rules.{rules}
 use native.Mathlib.Omega.{arith}
-use Prim.Native.Nat.{◌-◌, ◌%◌}
-use lib.ListN.{length}
-use Rattle.wire.proofs.Number.{Reading, reading_start, reading_more, number_ends, number_breaks, number_none}
+use Prim.Native.Nat.{◌%◌}
+use Rattle.wire.proofs.Number.{reading_start, reading_more, number_ends, number_breaks, number_none}
 use Rattle.wire.proofs.Number.{digits_last, digits_over, digits_low, room_last, room_more, scaled}
 use Rattle.wire.proofs.Cursor.long_number.Goals as goal
 
@@ -13,7 +11,7 @@ loop-at-init c = reading_start _ _
 pub overflow_mul-result : goal.overflow_mul-result
 overflow_mul-result c =
     let l = c.loop-at in
-    let w = c.wide-b in
+    let w = c.from-b in
     omega (
       arith,
       room_last l.scale l.more c.if-more-eq0.true l.invariant.room,
@@ -23,7 +21,7 @@ overflow_mul-result c =
 pub overflow_add-result : goal.overflow_add-result
 overflow_add-result c =
     let l = c.loop-at in
-    let w = c.wide-b in
+    let w = c.from-b in
     omega (
       arith,
       l.invariant.small,
@@ -34,7 +32,7 @@ overflow_add-result c =
 pub returns-then-b-le1 : goal.returns-then-b-le1
 returns-then-b-le1 c =
     let l = c.loop-at in
-    let w = c.wide-b in
+    let w = c.from-b in
     number_ends _ _ l.at l.value l.scale l.more w.result l.invariant w.ensures
     c.loop-at-test.true
     (digits_last l.more w.result _ c.if-more-eq0.true c.if-b-le1.true)
@@ -42,7 +40,7 @@ returns-then-b-le1 c =
 pub returns-then-more-eq0 : goal.returns-then-more-eq0
 returns-then-more-eq0 c =
     let l = c.loop-at in
-    let w = c.wide-b in
+    let w = c.from-b in
     number_breaks _ _ l.at l.value l.scale l.more w.result l.invariant w.ensures
     c.loop-at-test.true
     (digits_over l.more w.result _ c.if-more-eq0.true c.if-b-le1.false)
@@ -50,7 +48,7 @@ returns-then-more-eq0 c =
 pub overflow_mul-result-then-b-lt128 : goal.overflow_mul-result-then-b-lt128
 overflow_mul-result-then-b-lt128 c =
     let l = c.loop-at in
-    let w = c.wide-b in
+    let w = c.from-b in
     omega (
       arith,
       room_more l.scale l.more c.if-more-eq0.false l.invariant.room,
@@ -60,7 +58,7 @@ overflow_mul-result-then-b-lt128 c =
 pub overflow_add-result-then-b-lt128 : goal.overflow_add-result-then-b-lt128
 overflow_add-result-then-b-lt128 c =
     let l = c.loop-at in
-    let w = c.wide-b in
+    let w = c.from-b in
     omega (
       arith,
       l.invariant.small,
@@ -71,7 +69,7 @@ overflow_add-result-then-b-lt128 c =
 pub returns-then-b-lt128 : goal.returns-then-b-lt128
 returns-then-b-lt128 c =
     let l = c.loop-at in
-    let w = c.wide-b in
+    let w = c.from-b in
     number_ends _ _ l.at l.value l.scale l.more w.result l.invariant w.ensures
     c.loop-at-test.true
     (digits_low l.more w.result _ c.if-more-eq0.false c.if-b-lt128.true)
@@ -79,7 +77,7 @@ returns-then-b-lt128 c =
 pub overflow_mul-value : goal.overflow_mul-value
 overflow_mul-value c =
     let l = c.loop-at in
-    let w = c.wide-b in
+    let w = c.from-b in
     omega (
       arith,
       room_more l.scale l.more c.if-more-eq0.false l.invariant.room,
@@ -89,7 +87,7 @@ overflow_mul-value c =
 pub overflow_add-value : goal.overflow_add-value
 overflow_add-value c =
     let l = c.loop-at in
-    let w = c.wide-b in
+    let w = c.from-b in
     omega (
       arith,
       l.invariant.small,
@@ -105,7 +103,7 @@ overflow_mul-scale c =
 pub loop-at-preserved : goal.loop-at-preserved
 loop-at-preserved c =
     let l = c.loop-at in
-    let w = c.wide-b in
+    let w = c.from-b in
     reading_more _ _ l.at l.value l.scale l.more w.result l.invariant w.ensures
     c.loop-at-test.true c.if-more-eq0.false c.if-b-lt128.false
 

@@ -1,10 +1,7 @@
 -- `Cursor::long_number` meets its contract: what is read behind the bytes passed stands at `scale`. Assumes nothing.
-use borrow.Author.Rules.{rules}
-use native.Mathlib.Omega.{arith}
-use Prim.Native.Nat.{◌-◌, ◌%◌}
+use Prim.Native.Nat.{◌-◌}
 use lib.ListN.{length}
-use Rattle.wire.proofs.Number.{Reading, reading_start, reading_more, number_ends, number_breaks, number_none}
-use Rattle.wire.proofs.Number.{digits_last, digits_over, digits_low, room_last, room_more, scaled}
+use Rattle.wire.proofs.Number.{Reading}
 use Rattle.wire.proofs.Cursor.long_number.Given as goal
 
 abbrev pub invariant-loop-at : goal.invariant-loop-at

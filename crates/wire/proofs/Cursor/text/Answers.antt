@@ -2,19 +2,17 @@
 use mathlib.Core.Path.{sym, ◌∙◌}
 use Rattle.wire.specs.Wire.{length_delimited}
 use Rattle.wire.specs.Laws.At.{number_read, number_broken}
-use borrow.Author.Rules.{rules}
 use Rattle.wire.proofs.Cursor.text.Goals as goal
 
-pub returns-in-None : goal.returns-in-None
+pub returns-in_err-value : goal.returns-in_err-value
 unfolding length_delimited
-returns-in-None c =
+returns-in_err-value c =
     let a = c.args in
-    rw (number_broken a.s.now a.self.at (sym c.in-None.is ∙ c.number.ensures))
+    rw (number_broken a.s.now a.self.at (sym c.in_err-value.was ∙ c.number.ensures)) c.from_residual.ensures
 
-pub returns-in-Some : goal.returns-in-Some
+pub returns : goal.returns
 unfolding length_delimited
-returns-in-Some c =
+returns c =
     let a = c.args in
-    let R = number_read a.s.now a.self.at _ _
-    (sym c.in-Some.is ∙ c.number.ensures) in
+    let R = number_read a.s.now a.self.at _ _ (sym c.in_ok-value.was ∙ c.number.ensures) in
     rw R.same c.bytes.ensures
