@@ -71,11 +71,13 @@ pub fn write_dated(keys: &mut [u8], n: usize, message: &[u8], t: Trip) -> usize
         (dated_key (part_in message.now t.id) (part_in message.now t.date))
         keys.new result }
 {
-    let id = t.id;
-    let date = t.date;
-    let p = add(keys, KEY_BYTES * n, slices::part(message, id.start, id.len));
+    let p = add(
+        keys,
+        KEY_BYTES * n,
+        slices::part(message, t.id.start, t.id.len),
+    );
     let q = add_byte(keys, p, b'@');
-    add(keys, q, slices::part(message, date.start, date.len)) - KEY_BYTES * n
+    add(keys, q, slices::part(message, t.date.start, t.date.len)) - KEY_BYTES * n
 }
 
 // feed:route, and nothing where there is no route: 16 + 1 + 64 bytes at most.
@@ -113,12 +115,10 @@ fn write_head(keys: &mut [u8], at: usize, feed: &[u8], message: &[u8], t: Trip) 
         (head_of feed.now (part_in message.now t.route) (maybe (view_direction t.direction)))
         keys.new result }
 {
-    let route = t.route;
-    let direction = t.direction;
     let a = add(keys, at, b"#r=");
-    let b = write_route(keys, a, feed, message, route);
+    let b = write_route(keys, a, feed, message, t.route);
     let c = add(keys, b, b"&d=");
-    write_direction(keys, c, direction)
+    write_direction(keys, c, t.direction)
 }
 
 // &sd= and a date, &st= and a time: 40 bytes at most.
@@ -146,7 +146,5 @@ pub fn write_incomplete(keys: &mut [u8], n: usize, feed: &[u8], message: &[u8], 
         keys.new result }
 {
     let p = write_head(keys, KEY_BYTES * n, feed, message, t);
-    let date = t.date;
-    let time = t.time;
-    write_tail(keys, p, message, date, time) - KEY_BYTES * n
+    write_tail(keys, p, message, t.date, t.time) - KEY_BYTES * n
 }

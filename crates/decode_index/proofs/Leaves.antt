@@ -30,7 +30,8 @@ use Rattle.decode_index.specs.Message.{message_tree}
 use Rattle.decode_index.specs.Promises.Message.{JudgedMessage, AllFit, with_entities, Indexed}
 use Rattle.decode_index.specs.Leaving.{trips}
 use Rattle.decode_index.specs.Promises.Leaving.{Old, Begun, Leaves}
-use Rattle.decode_index.specs.declared.Left.{Left}
+use Rattle.decode_index.specs.declared.TooMany.{TooMany}
+use Rattle.std.specs.Prelude.{Result, Ok, Err}
 use Rattle.decode_index.proofs.Entities.{whole, message_is, held_length}
 
 -- ---- the index before the entities
@@ -100,6 +101,17 @@ slots_calm s o keys marks (j ∷ l) f = (f.0.calm, slots_calm s o keys marks l f
 
 -- ---- the whole
 
+-- an answer is one pair alone
+module _ {m p n q : ℕ} (e : ◌≡◌ {A = Result (ℕ × ℕ) TooMany} (Ok (m, p)) (Ok (n, q))) where
+  same_pair : ◌≡◌ {A = ℕ × ℕ} (m, p) (n, q)
+  same_pair = cc
+
+  same_slots : m ≡ n
+  same_slots = ap (λ x. x.0) same_pair
+
+  same_next : p ≡ q
+  same_next = ap (λ x. x.1) same_pair
+
 module _ {name s o keys₀ marks₀ order₀ keys marks order : List ℕ} {at n p m : ℕ} {h : Header}
     (J : JudgedMessage s) (O : Old o at) (H : HeaderRead feed s h)
     (B : Begun o at h.differential keys₀ marks₀ order₀ n p)
@@ -113,7 +125,7 @@ module _ {name s o keys₀ marks₀ order₀ keys marks order : List ℕ} {at n 
   unfolding leaves
   left_is v q k = ap (with_entities name s) (B.of v q k s ∙ ap (λ b. cond b (puts texts v []) []) flag)
 
-  pub leaves_many : 2048 < m → Leaves name s o at keys marks order Left.ManyTrips
+  pub leaves_many : 2048 < m → Leaves name s o at keys marks order (Err TooMany.Trips)
   leaves_many g = record {
     sound = λ e. absurd (let z : ◌≡◌ {A = ℕ} 0 1 = cc in omega arith);
     fit = λ e. absurd (let z : ◌≡◌ {A = ℕ} 0 1 = cc in omega arith);
@@ -153,7 +165,7 @@ module _ {name s o keys₀ marks₀ order₀ keys marks order : List ℕ} {at n 
           ap any_crowded (sym (held_is v q k))
           ∙ sym (crowded_held s o keys marks (take m order) (slots_calm s o keys marks (take m order) fits)) ∙ sym C
 
-      pub leaves_crowded : c ≡ true → Leaves name s o at keys marks order Left.ManyUpdates
+      pub leaves_crowded : c ≡ true → Leaves name s o at keys marks order (Err TooMany.Updates)
       leaves_crowded t = record {
         sound = λ e. absurd (let z : ◌≡◌ {A = ℕ} 0 1 = cc in omega arith);
         fit = λ e. absurd (let z : ◌≡◌ {A = ℕ} 0 1 = cc in omega arith);
@@ -162,15 +174,15 @@ module _ {name s o keys₀ marks₀ order₀ keys marks order : List ℕ} {at n 
         of = λ v q k. sym (rw (short v q k, crowds v q k, t) refl);
       }
 
-      pub leaves_trips : c ≡ false → Leaves name s o at keys marks order (Left.Trips m p)
+      pub leaves_trips : c ≡ false → Leaves name s o at keys marks order (Ok (m, p))
       leaves_trips t =
           let S = O.stands in
           let calm : any_crowded (held s o (index keys marks order m)) ≡ false =
           ap any_crowded (held_is S.trips S.end S.here) ∙ crowds S.trips S.end S.here ∙ t in
           record {
-            sound = λ {n = i} e. let z : m ≡ i = cc in rw z at I.sound;
-            fit = λ {n = i} e. let z : m ≡ i = cc in rw z at fits;
-            calm = λ {n = i} e. let z : m ≡ i = cc in rw z at calm;
-            passes = λ {next = q} e. let z : p ≡ q = cc in rw z at B.passes;
+            sound = λ {n = i} e. rw (same_slots e) at I.sound;
+            fit = λ {n = i} e. rw (same_slots e) at fits;
+            calm = λ {n = i} e. rw (same_slots e) at calm;
+            passes = λ {next = q} e. rw (same_next e) at B.passes;
             of = λ v q k. ap trips (held_is v q k) ∙ sym (rw (short v q k, crowds v q k, t) refl);
           }

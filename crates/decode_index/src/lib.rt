@@ -32,31 +32,26 @@ pub fn apply_entities(
 {
     let mut walk = realtime_views::entities(message);
     let mut m = n;
-    loop {
-        match realtime_views::next_entity(message, walk) {
-            Item::Done => return m,
-            Item::At {
-                start: at,
-                len,
-                walk: rest,
-            } => {
-                m = decode_keys::apply(keys, marks, order, m, feed, message, at, len);
-                if m > MOST_TRIPS {
-                    return m;
-                }
-                walk = rest;
-            }
+    while let Item::At {
+        start: at,
+        len,
+        walk: rest,
+    } = realtime_views::next_entity(message, walk)
+    {
+        m = decode_keys::apply(keys, marks, order, m, feed, message, at, len);
+        if m > MOST_TRIPS {
+            return m;
         }
+        walk = rest;
     }
+    m
 }
 
-// What a message leaves: the index in its first slots, so many, and the place past the old trips; or more than 2,048
-// trips, or a record with more than 128 updates.
-#[derive(Drop)]
-pub enum Left {
-    ManyTrips,
-    ManyUpdates,
-    Trips(usize, usize),
+// What a message may not leave: more than 2,048 trips, or a record with more than 128 updates.
+#[derive(Clone, Copy, PartialEq, Eq)]
+pub enum TooMany {
+    Trips,
+    Updates,
 }
 
 // The index before the entities: the old trips where the message says what has changed, else none.
@@ -82,7 +77,8 @@ fn begin(
     }
 }
 
-// What a judged message leaves of a feed's trips, the old ones of which stand in `old` at `at`.
+// What a judged message leaves of a feed's trips, the old ones of which stand in `old` at `at`: how many slots of the
+// index are in use, and the place past the old trips.
 pub fn leave(
     keys: &mut [u8],
     marks: &mut [u32],
@@ -91,7 +87,7 @@ pub fn leave(
     message: &[u8],
     old: &[u8],
     at: usize,
-) -> Left
+) -> Result<(usize, usize), TooMany>
     requires lent { Lent keys.old marks.old order.old }
     requires feed_len_bound { (length feed.now ≤ most_feed) × (length message.now ≤ most_message) }
     requires judged_message { JudgedMessage message.now }
@@ -103,10 +99,10 @@ pub fn leave(
     let begun = begin(keys, marks, order, h.differential, old, at);
     let m = apply_entities(keys, marks, order, begun.slots, feed, message);
     if m > MOST_TRIPS {
-        return Left::ManyTrips;
+        return Err(TooMany::Trips);
     }
     if decode_updates::any_crowded(marks, order, m, message) {
-        return Left::ManyUpdates;
+        return Err(TooMany::Updates);
     }
-    Left::Trips(m, begun.next)
+    Ok((m, begun.next))
 }

@@ -35,71 +35,6 @@ pub fn file_key(
     decode_slots::settle(keys, marks, order, n, long, from, to)
 }
 
-// The key of an entity: by its raw trip id.
-fn file_base(
-    keys: &mut [u8],
-    marks: &mut [u32],
-    order: &mut [u32],
-    n: usize,
-    message: &[u8],
-    t: Trip,
-    from: u32,
-    to: u32,
-) -> usize
-    requires fact { Open keys.old marks.old order.old n }
-    requires short { Short message.now t }
-    ensures { Filed keys.old marks.old order.old n
-        (part_in message.now t.id) from to keys.new marks.new order.new result }
-{
-    let id = t.id;
-    file_key(keys, marks, order, n, message, id.start, id.len, from, to)
-}
-
-// By its raw trip id and its date.
-fn file_dated(
-    keys: &mut [u8],
-    marks: &mut [u32],
-    order: &mut [u32],
-    n: usize,
-    message: &[u8],
-    t: Trip,
-    from: u32,
-    to: u32,
-) -> usize
-    requires fact { Open keys.old marks.old order.old n }
-    requires short { Short message.now t }
-    ensures { Filed keys.old marks.old order.old n
-        (dated_key (part_in message.now t.id) (part_in message.now t.date)) from to
-        keys.new marks.new order.new result }
-{
-    let len = decode::write_dated(keys, n, message, t);
-    decode_slots::settle(keys, marks, order, n, len, from, to)
-}
-
-// And without a trip id.
-fn file_incomplete(
-    keys: &mut [u8],
-    marks: &mut [u32],
-    order: &mut [u32],
-    n: usize,
-    feed: &[u8],
-    message: &[u8],
-    t: Trip,
-    from: u32,
-    to: u32,
-) -> usize
-    requires fact { Open keys.old marks.old order.old n }
-    requires feed_len_bound { length feed.now ≤ most_feed }
-    requires short { Short message.now t }
-    ensures { Filed keys.old marks.old order.old n
-        (head_of feed.now (part_in message.now t.route) (maybe (view_direction t.direction))
-        ++ tail_of (part_in message.now t.date) (part_in message.now t.time)) from to
-        keys.new marks.new order.new result }
-{
-    let len = decode::write_incomplete(keys, n, feed, message, t);
-    decode_slots::settle(keys, marks, order, n, len, from, to)
-}
-
 // Every key of an entity goes into the index with its place, the dated one before its base.
 fn file_trip(
     keys: &mut [u8],
@@ -123,16 +58,22 @@ fn file_trip(
         if t.route.len == 0 {
             return n;
         }
-        return file_incomplete(keys, marks, order, n, feed, message, t, from, to);
+        let len = decode::write_incomplete(keys, n, feed, message, t);
+        return decode_slots::settle(keys, marks, order, n, len, from, to);
     }
     if t.date.len == 0 {
-        return file_base(keys, marks, order, n, message, t, from, to);
+        return file_key(
+            keys, marks, order, n, message, t.id.start, t.id.len, from, to,
+        );
     }
-    let m = file_dated(keys, marks, order, n, message, t, from, to);
+    let len = decode::write_dated(keys, n, message, t);
+    let m = decode_slots::settle(keys, marks, order, n, len, from, to);
     if m > MOST_TRIPS {
         return m;
     }
-    file_base(keys, marks, order, m, message, t, from, to)
+    file_key(
+        keys, marks, order, m, message, t.id.start, t.id.len, from, to,
+    )
 }
 
 // An entity is applied: its keys go into the index with its place; a deleted one is passed over.

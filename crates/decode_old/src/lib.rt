@@ -39,12 +39,20 @@ fn file_entry(
         keys.new marks.new order.new result.slots result.next }
 {
     let key = formats_read::text(old, at);
-    let start = key.from;
-    let end = key.to;
-    let next = decode_skip::past_trip(old, end);
-    let from = old_place(end);
+    let next = decode_skip::past_trip(old, key.to);
+    let from = old_place(key.to);
     let to = old_place(next);
-    let slots = decode_keys::file_key(keys, marks, order, n, old, start, end - start, from, to);
+    let slots = decode_keys::file_key(
+        keys,
+        marks,
+        order,
+        n,
+        old,
+        key.from,
+        key.to - key.from,
+        from,
+        to,
+    );
     Passed { slots, next }
 }
 
@@ -56,14 +64,12 @@ pub fn join(keys: &mut [u8], marks: &mut [u32], order: &mut [u32], old: &[u8], a
         result.slots result.next }
 {
     let count = formats_read::number(old, at);
+    let mut n = 0;
     let mut p = count.next;
-    let mut left = count.value;
-    let mut n: usize = 0;
-    while 0 < left {
+    for _ in 0..count.value {
         let passed = file_entry(keys, marks, order, n, old, p);
         n = passed.slots;
         p = passed.next;
-        left -= 1;
     }
     Passed { slots: n, next: p }
 }

@@ -3,3 +3,4 @@ mod Reading
 mod Asking
 mod Outcomes
 mod Listing
+mod Options

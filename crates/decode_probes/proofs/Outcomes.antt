@@ -20,7 +20,8 @@ use Rattle.decode_slots.specs.Places.{held}
 use Rattle.decode_index.specs.Message.{message_tree}
 use Rattle.decode_index.specs.Leaving.{leaving}
 use Rattle.decode_index.specs.Promises.Leaving.{Leaves, view_left}
-use Rattle.decode_index.specs.declared.Left.{Left}
+use Rattle.decode_index.specs.declared.TooMany.{TooMany}
+use Rattle.std.specs.Prelude.{Result, Ok, Err}
 use Rattle.decode_probes.specs.Answers.{question_of}
 use Rattle.decode_probes.specs.Indexing.{IndexOutcome, refused, left, answered, are_old, judged_question}
 use Rattle.decode_probes.specs.Indexing.{message_question, old_trips, outcome, question, seven_of, sized}
@@ -65,8 +66,9 @@ module _ (keys marks order : ℕ) (feed s o : List ℕ) where
         ∙ unless_asked_holds q x n ∙ ap (λ q. unless_asked q x) e
 
     -- NONE HAS: what the index says is what the message leaves
-    module _ (z : q ≡ 0) {keys' marks' order' : List ℕ} {r : Left} (L : Leaves feed s o 0 keys' marks' order' r) where
-      answers_left : (l : Left) → r ≡ l
+    module _ (z : q ≡ 0) {keys' marks' order' : List ℕ} {r : Result (ℕ × ℕ) TooMany}
+        (L : Leaves feed s o 0 keys' marks' order' r) where
+      answers_left : (l : Result (ℕ × ℕ) TooMany) → r ≡ l
           → seven_of (view_left (λ n. held s o (index keys' marks' order' n)) l) ≡ outcome
           (sized keys marks order) feed s o
       answers_left l g =
@@ -75,16 +77,14 @@ module _ (keys marks order : ℕ) (feed s o : List ℕ) where
           ap seven_of (ap (view_left (λ n. held s o (index keys' marks' order' n))) (sym g)
           ∙ L.of (old_trips o) S.end S.here) ∙ (λ j. unless_asked ((sym z ∙ e) j) x)
 
-      pub answers_many_trips : r ≡ Left.ManyTrips → refused 7 ≡ outcome (sized keys marks order) feed s o
-      answers_many_trips g = answers_left Left.ManyTrips g
+      pub answers_many : (x : TooMany) → r ≡ Err x → refused 7 ≡ outcome (sized keys marks order) feed s o
+      answers_many TooMany.Trips g = answers_left (Err TooMany.Trips) g
+      answers_many TooMany.Updates g = answers_left (Err TooMany.Updates) g
 
-      pub answers_many_updates : r ≡ Left.ManyUpdates → refused 7 ≡ outcome (sized keys marks order) feed s o
-      answers_many_updates g = answers_left Left.ManyUpdates g
-
-      pub answers_trips : (n : ℕ) {next : ℕ} → r ≡ Left.Trips n next
+      pub answers_trips : (n : ℕ) {next : ℕ} → r ≡ Ok (n, next)
           → answered (λ n. held s o (index keys' marks' order' n)) (16 + n) ≡ outcome (sized keys marks order)
           feed s o
       answers_trips n {next} g =
           let i : 16 + n - 16 ≡ n = omega arith in
           (λ j. cond (le-ltb (16 + n) 16 (omega arith) j) (refused (16 + n))
-          (left (held s o (index keys' marks' order' (i j))))) ∙ answers_left (Left.Trips n next) g
+          (left (held s o (index keys' marks' order' (i j))))) ∙ answers_left (Ok (n, next)) g

@@ -24,6 +24,12 @@ unbroken Verdict.Text = true
 unbroken Verdict.Time = true
 unbroken Verdict.Fine = true
 
+pub other_unbroken : (v : Verdict) → (v ≡ Verdict.Broken → ⊥) → unbroken v ≡ true
+other_unbroken Verdict.Broken h = absurd (h refl)
+other_unbroken Verdict.Text h = refl
+other_unbroken Verdict.Time h = refl
+other_unbroken Verdict.Fine h = refl
+
 chosen : (b c : Bool) → unbroken (cond b (cond c Verdict.Fine Verdict.Time) Verdict.Text) ≡ true
 chosen true true = refl
 chosen true false = refl

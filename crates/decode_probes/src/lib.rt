@@ -29,8 +29,10 @@ ghost use Rattle.decode_probes.specs.Answers.{stop_numbers, stop_numbers_of, no_
 ghost use Rattle.decode_probes.specs.Promises.Answers.{is_whole};
 ghost use Rattle.basics.specs.Options.{is_some};
 
-use decode::sizes::{KEYS_LENGTH, MARKS_LENGTH, MOST_FEED, MOST_MESSAGE, MOST_OLD, MOST_UPDATES, ORDER_LENGTH, UPDATES_LENGTH};
-use decode_index::Left;
+use decode::sizes::{
+    KEYS_LENGTH, MARKS_LENGTH, MOST_FEED, MOST_MESSAGE, MOST_OLD, MOST_UPDATES, ORDER_LENGTH,
+    UPDATES_LENGTH,
+};
 use realtime::Verdict;
 use realtime_read::{FEED_ENTITY, FEED_MESSAGE, ID_LIMIT, STOP_TIME_UPDATE};
 use realtime_views::{Event, Header, StopUpdate, TextPart, Trip};
@@ -62,89 +64,12 @@ pub extern "C" fn trips_judge(s: &[u8]) -> u32
 fn is_whole(s: &[u8], message: u64) -> bool
     ensures { result ≡ is_whole (tree feed message s.now) }
 {
-    match realtime_read::judge(s, message, ID_LIMIT) {
-        Verdict::Broken => false,
-        Verdict::Text => true,
-        Verdict::Time => true,
-        Verdict::Fine => true,
-    }
-}
-
-fn has_timestamp(t: Option<u64>) -> bool
-    ensures { result ≡ is_some (view_timestamp t) }
-{
-    match t {
-        Some(_) => true,
-        None => false,
-    }
-}
-
-fn timestamp_or_zero(t: Option<u64>) -> u64
-    ensures { result ≡ or_zero (view_timestamp t) }
-{
-    match t {
-        Some(n) => n,
-        None => 0,
-    }
-}
-
-fn has_direction(d: Option<u32>) -> bool
-    ensures { result ≡ is_some (view_direction d) }
-{
-    match d {
-        Some(_) => true,
-        None => false,
-    }
-}
-
-fn direction_or_zero(d: Option<u32>) -> u32
-    ensures { result ≡ or_zero (view_direction d) }
-{
-    match d {
-        Some(n) => n,
-        None => 0,
-    }
-}
-
-fn has_delay(d: Option<i32>) -> bool
-    ensures { result ≡ is_some (view_delay d) }
-{
-    match d {
-        Some(_) => true,
-        None => false,
-    }
-}
-
-fn delay_or_zero(d: Option<i32>) -> i32
-    ensures { result ≡ or_nought (view_delay d) }
-{
-    match d {
-        Some(n) => n,
-        None => 0,
-    }
-}
-
-fn has_time(t: Option<i64>) -> bool
-    ensures { result ≡ is_some (view_time t) }
-{
-    match t {
-        Some(_) => true,
-        None => false,
-    }
-}
-
-fn time_or_zero(t: Option<i64>) -> i64
-    ensures { result ≡ or_nought (view_time t) }
-{
-    match t {
-        Some(n) => n,
-        None => 0,
-    }
+    !matches!(realtime_read::judge(s, message, ID_LIMIT), Verdict::Broken)
 }
 
 // The header of a message.
 #[repr(C)]
-#[derive(Drop)]
+#[derive(Default, Drop)]
 pub struct HeaderNumbers {
     pub differential: bool,
     pub timed: bool,
@@ -154,11 +79,10 @@ pub struct HeaderNumbers {
 fn header_numbers(h: Header) -> HeaderNumbers
     ensures { result ≡ header_numbers (view_header h) }
 {
-    let timestamp = h.timestamp;
     HeaderNumbers {
         differential: h.differential,
-        timed: has_timestamp(timestamp),
-        timestamp: timestamp_or_zero(timestamp),
+        timed: h.timestamp.is_some(),
+        timestamp: h.timestamp.unwrap_or(0),
     }
 }
 
@@ -169,16 +93,12 @@ pub extern "C" fn trips_header(s: &[u8]) -> HeaderNumbers
     if is_whole(s, FEED_MESSAGE) {
         return header_numbers(realtime_views::header_of(s));
     }
-    HeaderNumbers {
-        differential: false,
-        timed: false,
-        timestamp: 0,
-    }
+    HeaderNumbers::default()
 }
 
 // The numbers of an entity's trip.
 #[repr(C)]
-#[derive(Drop)]
+#[derive(Default, Drop)]
 pub struct TripNumbers {
     pub cancelled: bool,
     pub directed: bool,
@@ -190,14 +110,12 @@ pub struct TripNumbers {
 fn trip_numbers(t: Trip) -> TripNumbers
     ensures { result ≡ trip_numbers t.cancelled (view_direction t.direction) (view_delay t.delay) }
 {
-    let direction = t.direction;
-    let delay = t.delay;
     TripNumbers {
         cancelled: t.cancelled,
-        directed: has_direction(direction),
-        direction: direction_or_zero(direction),
-        delayed: has_delay(delay),
-        delay: delay_or_zero(delay),
+        directed: t.direction.is_some(),
+        direction: t.direction.unwrap_or(0),
+        delayed: t.delay.is_some(),
+        delay: t.delay.unwrap_or(0),
     }
 }
 
@@ -208,13 +126,7 @@ pub extern "C" fn trips_trip(e: &[u8]) -> TripNumbers
     if is_whole(e, FEED_ENTITY) {
         return trip_numbers(realtime_views::trip_of(e, 0, e.len()));
     }
-    TripNumbers {
-        cancelled: false,
-        directed: false,
-        direction: 0,
-        delayed: false,
-        delay: 0,
-    }
+    TripNumbers::default()
 }
 
 // Whether a text of s is x.
@@ -233,17 +145,14 @@ pub extern "C" fn trips_texts(e: &[u8], time: &[u8], date: &[u8], route: &[u8]) 
 {
     if is_whole(e, FEED_ENTITY) {
         let t = realtime_views::trip_of(e, 0, e.len());
-        let a = t.time;
-        let b = t.date;
-        let c = t.route;
-        return reads(e, a, time) & reads(e, b, date) & reads(e, c, route);
+        return reads(e, t.time, time) & reads(e, t.date, date) & reads(e, t.route, route);
     }
     false
 }
 
 // The numbers of a stop time update.
 #[repr(C)]
-#[derive(Clone, Copy)]
+#[derive(Clone, Copy, Default)]
 pub struct EventNumbers {
     pub delayed: bool,
     pub delay: i32,
@@ -252,7 +161,7 @@ pub struct EventNumbers {
 }
 
 #[repr(C)]
-#[derive(Drop)]
+#[derive(Default, Drop)]
 pub struct StopNumbers {
     pub sequence: u32,
     pub skipped: bool,
@@ -263,13 +172,11 @@ pub struct StopNumbers {
 fn event_numbers(e: Event) -> EventNumbers
     ensures { result ≡ event_numbers (view_event e) }
 {
-    let delay = e.delay;
-    let time = e.time;
     EventNumbers {
-        delayed: has_delay(delay),
-        delay: delay_or_zero(delay),
-        timed: has_time(time),
-        time: time_or_zero(time),
+        delayed: e.delay.is_some(),
+        delay: e.delay.unwrap_or(0),
+        timed: e.time.is_some(),
+        time: e.time.unwrap_or(0),
     }
 }
 
@@ -292,18 +199,7 @@ pub extern "C" fn trips_stop(u: &[u8]) -> StopNumbers
     if is_whole(u, STOP_TIME_UPDATE) {
         return stop_numbers(realtime_views::stop_of(u, 0, u.len()));
     }
-    let none = EventNumbers {
-        delayed: false,
-        delay: 0,
-        timed: false,
-        time: 0,
-    };
-    StopNumbers {
-        sequence: 0,
-        skipped: false,
-        arrival: none,
-        departure: none,
-    }
+    StopNumbers::default()
 }
 
 // Whether the stop id of a stop time update is this.
@@ -314,8 +210,7 @@ pub extern "C" fn trips_stop_text(u: &[u8], stop: &[u8]) -> bool
 {
     if is_whole(u, STOP_TIME_UPDATE) {
         let r = realtime_views::stop_of(u, 0, u.len());
-        let place = r.stop;
-        return reads(u, place, stop);
+        return reads(u, r.stop, stop);
     }
     false
 }
@@ -353,20 +248,14 @@ fn judge_old(old: &[u8]) -> Option<(usize, u32)>
 fn is_unfailed(j: Option<(usize, u32)>) -> bool
     ensures { result ≡ unfailed j }
 {
-    match j {
-        None => false,
-        Some((_, x)) => x == 0,
-    }
+    matches!(j, Some((_, 0)))
 }
 
 // Whether old begins with trips that a feed may have.
 fn are_old(old: &[u8]) -> bool
     ensures { result ≡ are_old old.now }
 {
-    if old.len() > MOST_OLD {
-        return false;
-    }
-    is_unfailed(judge_old(old))
+    old.len() <= MOST_OLD && is_unfailed(judge_old(old))
 }
 
 fn is_sized(keys: usize, marks: usize, order: usize) -> bool
@@ -427,8 +316,7 @@ pub extern "C" fn trips_index(
         return q as usize;
     }
     match decode_index::leave(keys, marks, order, feed, s, old, 0) {
-        Left::ManyTrips => 7,
-        Left::ManyUpdates => 7,
-        Left::Trips(n, _) => FOUND + n,
+        Ok((n, _)) => FOUND + n,
+        Err(_) => 7,
     }
 }

@@ -28,10 +28,8 @@ pub fn past_update(s: &[u8], at: usize) -> usize
     ensures { Passes stop_update s.now at result }
 {
     let a = formats_skip::past_text(s, at);
-    if a <= s.len() {
-        if NUMBERS <= s.len() - a {
-            return past_numbers(s, a);
-        }
+    if a <= s.len() && NUMBERS <= s.len() - a {
+        return past_numbers(s, a);
     }
     let b = formats_skip::past_optional_number(s, a);
     let c = formats_skip::past_optional_number(s, b);
@@ -54,10 +52,8 @@ pub fn past_updates(s: &[u8], at: usize) -> usize
 {
     let n = formats_read::number(s, at);
     let mut p = n.next;
-    let mut left = n.value;
-    while 0 < left {
+    for _ in 0..n.value {
         p = past_numbered(s, p);
-        left -= 1;
     }
     p
 }
@@ -104,10 +100,8 @@ pub fn past_trips(s: &[u8], at: usize) -> usize
 {
     let n = formats_read::number(s, at);
     let mut p = n.next;
-    let mut left = n.value;
-    while 0 < left {
+    for _ in 0..n.value {
         p = past_entry(s, p);
-        left -= 1;
     }
     p
 }

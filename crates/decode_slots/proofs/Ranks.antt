@@ -11,7 +11,8 @@ use Rattle.slices.specs.Lists.{lex_of}
 use Rattle.std.specs.declared.cmp.Ordering.{Ordering}
 use Rattle.std.specs.declared.cmp.Ordering.TheVariants.{Less, Equal, Greater}
 use Rattle.maps.specs.Map.{Ordered, is_less, by_order, above, ascending}
-use Rattle.maps.specs.Promises.Order.{is_more}
+use Rattle.std.specs.Ordering.{is_gt, is_eq}
+use Rattle.maps.specs.Promises.Order.{is_more, is_same}
 use Rattle.maps.specs.Order.{texts}
 use Rattle.maps.proofs.Laws.Order.{texts_order}
 use Rattle.maps.proofs.Laws.Map.{Lawful, is_less_means, rest_ascending}
@@ -19,6 +20,16 @@ use Rattle.basics.specs.Laws.Booleans.{both_true}
 use Rattle.decode_slots.specs.Index.{Place, slot_key, slot_entry, slotted, index}
 use Rattle.decode_slots.specs.Promises.Index.{SoundIndex, rank_of}
 use Rattle.decode_slots.specs.Laws.Slots.{index_length}
+
+pub gt_is_more : (o : Ordering) → is_gt o ≡ is_more o
+gt_is_more Less = refl
+gt_is_more Equal = refl
+gt_is_more Greater = refl
+
+pub eq_is_same : (o : Ordering) → is_eq o ≡ is_same o
+eq_is_same Less = refl
+eq_is_same Equal = refl
+eq_is_same Greater = refl
 
 pub is_more_means : (o : Ordering) → is_more o ≡ true → o ≡ Greater
 is_more_means Less e = absurd (let z : ◌≡◌ {A = ℕ} 0 1 = cc in omega arith)

@@ -1,4 +1,5 @@
-// A sorted index in lent slices: keys, each with a place, found by halving.
+// A sorted index in lent slices: keys, each with a place, found by halving. The host lends the three slices, and each
+// contract says what becomes of each of them, so they stay parameters of their own.
 #![tactic(auto)]
 
 ghost use Rattle.std.specs.Prelude.{◌≡◌, ◌+◌, ◌*◌, ◌≤◌, ◌<◌, ◌&&◌, ltb, length, get_or, set};
@@ -10,27 +11,19 @@ ghost use Rattle.decode.specs.Sizes.{most_trips, key_bytes, marks_length, order_
 ghost use Rattle.decode_slots.specs.Index.{slot_key, index};
 ghost use Rattle.decode_slots.specs.Promises.Index.{key_in, SoundIndex, Settled, rank_of, remarked};
 
-use std::cmp::Ordering;
 use decode::sizes::KEY_BYTES;
+use std::cmp::Ordering;
 
 pub fn is_more(o: Ordering) -> bool
     ensures { result ≡ is_more o }
 {
-    match o {
-        Ordering::Less => false,
-        Ordering::Equal => false,
-        Ordering::Greater => true,
-    }
+    o.is_gt()
 }
 
 pub fn is_same(o: Ordering) -> bool
     ensures { result ≡ is_same o }
 {
-    match o {
-        Ordering::Less => false,
-        Ordering::Equal => true,
-        Ordering::Greater => false,
-    }
+    o.is_eq()
 }
 
 // The order of the key that stands in slot n, `len` long, and the key of a slot.
@@ -60,6 +53,7 @@ fn probe(lo: usize, hi: usize, n: usize) -> usize
 }
 
 // How many keys stand before the key in slot n: found by halving.
+// By hand, since std's search begins in the middle, and would compare eleven keys where this compares the last.
 fn rank(keys: &[u8], marks: &[u32], order: &[u32], n: usize, len: usize) -> usize
     requires sound_index { SoundIndex keys.now marks.now order.now n }
     requires n_le_most_trips { (n ≤ most_trips) × (len ≤ key_bytes) }
@@ -71,7 +65,7 @@ fn rank(keys: &[u8], marks: &[u32], order: &[u32], n: usize, len: usize) -> usiz
     while lo < hi {
         let mid = probe(lo, hi, n);
         let slot = slices::word(order, mid);
-        if is_more(key_order(keys, marks, n, len, slot)) {
+        if key_order(keys, marks, n, len, slot).is_gt() {
             lo = mid + 1;
         } else {
             hi = mid;
@@ -87,10 +81,7 @@ fn stands(keys: &[u8], marks: &[u32], order: &[u32], n: usize, len: usize, r: us
     ensures { result ≡ (ltb r n && is_same (lex_of (key_in keys.now n len)
         (slot_key keys.now marks.now (get_or order.now r 0)))) }
 {
-    if r >= n {
-        return false;
-    }
-    is_same(key_order(keys, marks, n, len, slices::word(order, r)))
+    r < n && key_order(keys, marks, n, len, slices::word(order, r)).is_eq()
 }
 
 // The place of a slot.

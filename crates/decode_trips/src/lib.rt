@@ -25,55 +25,31 @@ struct Last {
     end: usize,
 }
 
-fn place(w: Option<usize>) -> usize
-    ensures { result ≡ place_of w }
-{
-    match w {
-        Some(p) => p,
-        None => 0,
-    }
-}
+// The longest record that is copied.
+const MOST_COPIED: usize = 1024;
 
-// Whether the record of a place was written last, and is short.
-fn is_last(last: Last, from: usize, to: usize) -> bool
-    ensures { IsLast last from to result }
-{
-    if from != last.from {
-        return false;
+impl Last {
+    // Whether the record of a place was written last, and is short.
+    fn is(self, from: usize, to: usize) -> bool
+        ensures { IsLast self from to result }
+    {
+        from == self.from && to == self.to && self.end.saturating_sub(self.start) <= MOST_COPIED
     }
-    if to != last.to {
-        return false;
-    }
-    if last.end < last.start {
-        return true;
-    }
-    last.end - last.start <= 1024
 }
 
 // What stands in the output from `from` up to `to`, once more: through a local array.
 fn again(out: &mut [u8], w: Option<usize>, from: usize, to: usize) -> Option<usize>
     ensures { Again out.old w out.new result from to }
 {
-    let Some(at) = w else {
-        return None;
-    };
-    if to < from {
-        return None;
-    }
-    if out.len() < to {
+    let at = w?;
+    if to < from || out.len() < to {
         return None;
     }
     let n = to - from;
-    if 1024 < n {
+    if MOST_COPIED < n || out.len() < at || out.len() - at < n {
         return None;
     }
-    if out.len() < at {
-        return None;
-    }
-    if out.len() - at < n {
-        return None;
-    }
-    let mut block = [0u8; 1024];
+    let mut block = [0u8; MOST_COPIED];
     slices::copy(&mut block, 0, &out[from..to]);
     slices::copy(out, at, &block[..n]);
     Some(at + n)
@@ -96,7 +72,7 @@ fn write_next(
     ensures { Adds out.old w out.new result
         (write trip (held_at message.now old.now (from, to))) }
 {
-    if is_last(last, from, to) {
+    if last.is(from, to) {
         return again(out, w, last.start, last.end);
     }
     decode_write::write_held(out, w, message, old, from, to)
@@ -132,8 +108,8 @@ fn write_entry(
     let to = slices::word(marks, 3 * slot + 2);
     let q = formats_write::text(out, w, keys, key, key + len);
     let r = write_next(out, q, message, old, from, to, last);
-    let start = place(q);
-    let end = place(r);
+    let start = q.unwrap_or(0);
+    let end = r.unwrap_or(0);
     Entered {
         put: r,
         last: Last {
@@ -163,9 +139,7 @@ fn put_entries(
         (many_w (write trip_entry) (held message.now old.now
         (index keys.now marks.now order.now n))) }
 {
-    let Some(at) = w else {
-        return None;
-    };
+    let at = w?;
     if out.len() < at {
         return None;
     }
@@ -176,14 +150,10 @@ fn put_entries(
         start: 0,
         end: 0,
     };
-    let mut i: usize = 0;
-    while i < n {
-        let slot = slices::word(order, i);
-        let e = write_entry(out, q, keys, marks, slot, message, old, last);
-        q = e.put;
-        let l = e.last;
-        last = l;
-        i += 1;
+    for &slot in &order[..n] {
+        let entered = write_entry(out, q, keys, marks, slot as usize, message, old, last);
+        q = entered.put;
+        last = entered.last;
     }
     q
 }

@@ -6,7 +6,7 @@ use mathlib.Core.List.{List, ◌∷◌}
 use native.Mathlib.Omega.{arith}
 use lib.Dec.{ltb}
 use lib.ListN.{length, get_or, take, drop, length-take, drop_of_length-le}
-use lib.Seq.{drop-cons, get_or-take}
+use lib.Seq.{drop-cons}
 use borrow.Author.Tests.{lt-ltb, le-ltb, ltb-true, ltb-false}
 use native.Mathlib.Numerals.{add-one}
 use Rattle.basics.specs.Lists.{All}
@@ -71,17 +71,13 @@ unfolding crowded_at
 seeking h R = record { most = omega arith; room = h; readable = R; same = refl; known = refl }
 
 module _ {s marks order : List ℕ} {n i from to : ℕ} (K : Seeking s marks order n i from to) where
-  pub seeks_none : n ≤ i → false ≡ crowded_in s marks (take n order)
+  pub seeks_none : length (take n order) ≤ i → false ≡ crowded_in s marks (take n order)
   unfolding crowded_in
-  seeks_none h =
-      let z : length (take n order) ≤ i = omega (arith, length-take n order) in
-      sym (K.same ∙ ap (crowded_in s marks) (drop_of_length-le (take n order) z))
+  seeks_none h = sym (K.same ∙ ap (crowded_in s marks) (drop_of_length-le (take n order) h))
 
-  module _ (h : i < n) {slot : ℕ} (e : slot ≡ get_or order i 0) where
+  module _ (h : i < length (take n order)) {slot : ℕ} (e : slot ≡ get_or (take n order) i 0) where
     next : drop i (take n order) ≡ slot ∷ drop (i + 1) (take n order)
-    next =
-        drop-cons (take n order) i 0 (omega (arith, length-take n order, K.room))
-        ∙ rw (get_or-take, ← e, add-one)
+    next = drop-cons (take n order) i 0 h ∙ rw (← e, add-one)
 
     pub slot_below : slot < 2049
     slot_below = (rw next at K.readable).0.0
@@ -103,7 +99,7 @@ module _ {s marks order : List ℕ} {n i from to : ℕ} (K : Seeking s marks ord
 
       pub seeks_on : {b : Bool} → b ≡ crowded_at s (a, z) → b ≡ false → Seeking s marks order n (i + 1) a z
       seeks_on q t = record {
-        most = omega arith;
+        most = omega (arith, length-take n order);
         room = K.room;
         readable = (rw next at K.readable).1;
         same = after (sym t ∙ q);

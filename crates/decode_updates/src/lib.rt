@@ -1,4 +1,5 @@
-// The updates of a trip record in ascending order of sequence, and whether a record of the index has too many.
+// The updates of a trip record in ascending order of sequence, and whether a record of the index has too many. An
+// update is three words of `updates`, its sequence and its place, since the host lends them as words.
 #![tactic(auto)]
 
 ghost use Rattle.std.specs.Prelude.{◌≡◌, ◌+◌, ◌*◌, ◌≤◌, false, ◌&&◌, ltb, eqb, length, take, get_or};
@@ -15,6 +16,7 @@ use decode::sizes::{BEYOND, MOST_UPDATES, UPDATES_LENGTH};
 use realtime_views::Item;
 
 // How many updates stand before a sequence: found by halving.
+// By hand, since an update is three words of `updates`, and std searches elements.
 fn rank(updates: &[u32], n: usize, sequence: u32) -> usize
     requires { Lined updates.now n }
     ensures { result ≡ rank_of numbers sequence (laid n updates.now) }
@@ -37,10 +39,8 @@ fn place_of(updates: &[u32], n: usize, sequence: u32) -> usize
     requires { Lined updates.now n }
     ensures { result ≡ rank_of numbers sequence (laid n updates.now) }
 {
-    if n > 0 {
-        if updates[3 * (n - 1)] < sequence {
-            return n;
-        }
+    if n > 0 && updates[3 * (n - 1)] < sequence {
+        return n;
     }
     rank(updates, n, sequence)
 }
@@ -50,10 +50,7 @@ fn is_at(updates: &[u32], n: usize, r: usize, sequence: u32) -> bool
     requires { (n ≤ most_lines) × (length updates.now ≡ updates_length) }
     ensures { result ≡ (ltb r n && eqb (get_or updates.now (3 * r) 0) sequence) }
 {
-    if r >= n {
-        return false;
-    }
-    updates[3 * r] == sequence
+    r < n && updates[3 * r] == sequence
 }
 
 // Three numbers go in at rank r.
@@ -91,23 +88,20 @@ pub fn updates_of(updates: &mut [u32], message: &[u8], start: usize, len: usize)
     let end = start + len;
     let mut walk = realtime_views::merged_items(start);
     let mut n: usize = 0;
-    loop {
-        match realtime_views::next_update(slices::part(message, 0, end), walk) {
-            Item::Done => return n,
-            Item::At {
-                start: at,
-                len: size,
-                walk: rest,
-            } => {
-                let sequence = realtime_views::sequence_at(message, at, size);
-                n = note(updates, n, sequence, at as u32, (at + size) as u32);
-                if n > MOST_UPDATES {
-                    return n;
-                }
-                walk = rest;
-            }
+    while let Item::At {
+        start: at,
+        len: size,
+        walk: rest,
+    } = realtime_views::next_update(slices::part(message, 0, end), walk)
+    {
+        let sequence = realtime_views::sequence_at(message, at, size);
+        n = note(updates, n, sequence, at as u32, (at + size) as u32);
+        if n > MOST_UPDATES {
+            return n;
         }
+        walk = rest;
     }
+    n
 }
 
 // How many updates an entity has, at their sequences or not: counted up to the first above 128.
@@ -119,17 +113,14 @@ fn count_updates(message: &[u8], start: usize, len: usize) -> usize
     let mut walk = realtime_views::merged_items(start);
     let mut n: usize = 0;
     while n <= MOST_UPDATES {
-        match realtime_views::next_update(slices::part(message, 0, end), walk) {
-            Item::Done => return n,
-            Item::At {
-                start: _,
-                len: _,
-                walk: rest,
-            } => {
-                walk = rest;
-                n += 1;
-            }
-        }
+        let Item::At { walk: rest, .. } = realtime_views::next_update(
+            slices::part(message, 0, end),
+            walk,
+        ) else {
+            return n;
+        };
+        walk = rest;
+        n += 1;
     }
     n
 }
@@ -156,10 +147,8 @@ fn place_crowded(message: &[u8], other_from: usize, other_to: usize, from: usize
     if from >= BEYOND {
         return false;
     }
-    if from == other_from {
-        if to == other_to {
-            return false;
-        }
+    if from == other_from && to == other_to {
+        return false;
     }
     is_crowded(message, from, to - from)
 }
@@ -174,9 +163,8 @@ pub fn any_crowded(marks: &[u32], order: &[u32], n: usize, message: &[u8]) -> bo
 {
     let mut from = BEYOND;
     let mut to = BEYOND;
-    let mut i: usize = 0;
-    while i < n {
-        let slot = slices::word(order, i);
+    for &slot in &order[..n] {
+        let slot = slot as usize;
         let a = slices::word(marks, 3 * slot + 1);
         let e = slices::word(marks, 3 * slot + 2);
         if place_crowded(message, from, to, a, e) {
@@ -184,7 +172,6 @@ pub fn any_crowded(marks: &[u32], order: &[u32], n: usize, message: &[u8]) -> bo
         }
         from = a;
         to = e;
-        i += 1;
     }
     false
 }

@@ -83,13 +83,8 @@ fn add_number(out: &mut [u8], at: usize, n: u64) -> usize
 fn put_number(out: &mut [u8], w: Option<usize>, n: u64) -> Option<usize>
     ensures { Adds out.old w out.new result (number_w n) }
 {
-    let Some(at) = w else {
-        return None;
-    };
-    if out.len() < 10 {
-        return formats_write::number(out, w, n);
-    }
-    if out.len() - 10 < at {
+    let at = w?;
+    if out.len() < 10 || out.len() - 10 < at {
         return formats_write::number(out, w, n);
     }
     Some(add_number(out, at, n))
@@ -107,38 +102,7 @@ fn put_text(out: &mut [u8], w: Option<usize>, message: &[u8], t: TextPart) -> Op
 fn put_flag(out: &mut [u8], w: Option<usize>, b: bool) -> Option<usize>
     ensures { Adds out.old w out.new result (number_w (bit b)) }
 {
-    if b {
-        return formats_write::byte(out, w, 1);
-    }
-    formats_write::byte(out, w, 0)
-}
-
-// What was read, as what is written.
-fn from_delay(d: Option<i32>) -> Option<i64>
-    ensures { given_signed result ≡ maybe (view_delay d) }
-{
-    match d {
-        Some(z) => Some(z as i64),
-        None => None,
-    }
-}
-
-fn from_time(t: Option<i64>) -> Option<i64>
-    ensures { given_signed result ≡ maybe (view_time t) }
-{
-    match t {
-        Some(z) => Some(z),
-        None => None,
-    }
-}
-
-fn from_direction(d: Option<u32>) -> Option<u64>
-    ensures { given_number result ≡ maybe (view_direction d) }
-{
-    match d {
-        Some(n) => Some(n as u64),
-        None => None,
-    }
+    formats_write::byte(out, w, u8::from(b))
 }
 
 fn put_signed(out: &mut [u8], w: Option<usize>, v: Option<i64>) -> Option<usize>
@@ -156,44 +120,39 @@ fn put_signed(out: &mut [u8], w: Option<usize>, v: Option<i64>) -> Option<usize>
 fn put_delay(out: &mut [u8], w: Option<usize>, d: Option<i32>) -> Option<usize>
     ensures { Adds out.old w out.new result (optional_w signed_w (maybe (view_delay d))) }
 {
-    put_signed(out, w, from_delay(d))
-}
-
-fn put_time(out: &mut [u8], w: Option<usize>, t: Option<i64>) -> Option<usize>
-    ensures { Adds out.old w out.new result (optional_w signed_w (maybe (view_time t))) }
-{
-    put_signed(out, w, from_time(t))
+    put_signed(out, w, d.map(i64::from))
 }
 
 fn put_direction(out: &mut [u8], w: Option<usize>, d: Option<u32>) -> Option<usize>
     ensures { Adds out.old w out.new result (optional_w number_w (maybe (view_direction d))) }
 {
-    formats_write::optional_number(out, w, from_direction(d))
+    formats_write::optional_number(out, w, d.map(u64::from))
 }
 
 // Delay and time of an arrival or a departure.
 fn put_event(out: &mut [u8], w: Option<usize>, e: Event) -> Option<usize>
     ensures { Adds out.old w out.new result (event_w (view_event e)) }
 {
-    let delay = e.delay;
-    let time = e.time;
-    let q = put_delay(out, w, delay);
-    put_time(out, q, time)
+    let q = put_delay(out, w, e.delay);
+    put_signed(out, q, e.time)
 }
 
 // A stop update that was read, at its sequence.
-fn put_update(out: &mut [u8], w: Option<usize>, sequence: u32, message: &[u8], u: StopUpdate) -> Option<usize>
+fn put_update(
+    out: &mut [u8],
+    w: Option<usize>,
+    sequence: u32,
+    message: &[u8],
+    u: StopUpdate,
+) -> Option<usize>
     requires { PartInside (length message.now) u.stop }
     ensures { Adds out.old w out.new result
         (write (number32 & stop_update) (sequence, update_of (view_stop message.now u))) }
 {
-    let stop = u.stop;
-    let arrival = u.arrival;
-    let departure = u.departure;
-    let w1 = put_number(out, w, sequence as u64);
-    let w2 = put_text(out, w1, message, stop);
-    let w3 = put_event(out, w2, arrival);
-    let w4 = put_event(out, w3, departure);
+    let w1 = put_number(out, w, u64::from(sequence));
+    let w2 = put_text(out, w1, message, u.stop);
+    let w3 = put_event(out, w2, u.arrival);
+    let w4 = put_event(out, w3, u.departure);
     put_flag(out, w4, u.skipped)
 }
 
@@ -219,40 +178,45 @@ fn put_head(out: &mut [u8], w: Option<usize>, message: &[u8], t: Trip) -> Option
     requires { TextsLie (length message.now) t }
     ensures { Adds out.old w out.new result (head_w (view_trip message.now t)) }
 {
-    let delay = t.delay;
-    let date = t.date;
-    let route = t.route;
-    let direction = t.direction;
-    let time = t.time;
-    let w1 = put_delay(out, w, delay);
+    let w1 = put_delay(out, w, t.delay);
     let w2 = put_flag(out, w1, t.cancelled);
-    let w3 = put_text(out, w2, message, date);
-    let w4 = put_text(out, w3, message, route);
-    let w5 = put_direction(out, w4, direction);
-    put_text(out, w5, message, time)
+    let w3 = put_text(out, w2, message, t.date);
+    let w4 = put_text(out, w3, message, t.route);
+    let w5 = put_direction(out, w4, t.direction);
+    put_text(out, w5, message, t.time)
 }
 
 // The updates of the first n lines.
-fn put_updates(out: &mut [u8], w: Option<usize>, updates: &[u32], n: usize, message: &[u8]) -> Option<usize>
+fn put_updates(
+    out: &mut [u8],
+    w: Option<usize>,
+    updates: &[u32],
+    n: usize,
+    message: &[u8],
+) -> Option<usize>
     requires n_le_most_updates { (n ≤ most_updates) × (length updates.now ≡ updates_length) }
     requires all { All (λ x. Readable stop_time_update message.now x.1) (laid n updates.now) }
     ensures { Adds out.old w out.new result
         (many_w (write (number32 & stop_update)) (updates_at message.now (laid n updates.now))) }
 {
     let mut q = w;
-    let mut i: usize = 0;
-    while i < n {
+    for i in 0..n {
         let sequence = updates[3 * i];
         let from = slices::word(updates, 3 * i + 1);
         let to = slices::word(updates, 3 * i + 2);
         q = write_update(out, q, sequence, message, from, to);
-        i += 1;
     }
     q
 }
 
 // The record of the message's entity that stands from `from` up to `to`.
-fn write_record(out: &mut [u8], w: Option<usize>, message: &[u8], from: usize, to: usize) -> Option<usize>
+fn write_record(
+    out: &mut [u8],
+    w: Option<usize>,
+    message: &[u8],
+    from: usize,
+    to: usize,
+) -> Option<usize>
     requires message_len_bound { length message.now ≤ most_message }
     requires readable { Readable feed_entity message.now (from, to)
         × (crowded (record_at message.now (from, to)) ≡ false) }
@@ -269,7 +233,14 @@ fn write_record(out: &mut [u8], w: Option<usize>, message: &[u8], from: usize, t
 }
 
 // The record at a place: made from the message, or copied from the old overlay.
-pub fn write_held(out: &mut [u8], w: Option<usize>, message: &[u8], old: &[u8], from: usize, to: usize) -> Option<usize>
+pub fn write_held(
+    out: &mut [u8],
+    w: Option<usize>,
+    message: &[u8],
+    old: &[u8],
+    from: usize,
+    to: usize,
+) -> Option<usize>
     requires message_len_bound { length message.now ≤ most_message }
     requires fit { Fit message.now old.now (from, to)
         × (crowded (held_at message.now old.now (from, to)) ≡ false) }
@@ -282,19 +253,11 @@ pub fn write_held(out: &mut [u8], w: Option<usize>, message: &[u8], old: &[u8], 
     formats_write::stretch(out, w, old, from - BEYOND, to - BEYOND)
 }
 
-// Whether '@' is in the bytes of s from `from` up to `to`.
-fn has_at(message: &[u8], from: usize, to: usize) -> bool
-    requires { (from ≤ to) × (to ≤ length message.now) }
-    ensures { result ≡ has_byte 64 (take (to - from) (drop from message.now)) }
+// Whether '@' is in a text.
+fn has_at(text: &[u8]) -> bool
+    ensures { result ≡ has_byte 64 text.now }
 {
-    let mut i = from;
-    while i < to {
-        if message[i] == b'@' {
-            return true;
-        }
-        i += 1;
-    }
-    false
+    text.contains(&b'@')
 }
 
 // Whether it is in a slot's key.
@@ -302,9 +265,8 @@ fn key_has_at(keys: &[u8], marks: &[u32], slot: usize) -> bool
     requires { KeyLies keys.now marks.now slot }
     ensures { result ≡ has_byte 64 (slot_key keys.now marks.now slot) }
 {
-    let start = KEY_BYTES * slot;
     let len = slices::word(marks, 3 * slot);
-    has_at(keys, start, start + len)
+    has_at(slices::part(keys, KEY_BYTES * slot, len))
 }
 
 // How many of the first n slots have a key without '@'.
@@ -314,12 +276,10 @@ fn count_plain(keys: &[u8], marks: &[u32], order: &[u32], n: usize) -> usize
     ensures { result ≡ plain_keys (index keys.now marks.now order.now n) }
 {
     let mut count: usize = 0;
-    let mut i: usize = 0;
-    while i < n {
-        if !key_has_at(keys, marks, slices::word(order, i)) {
+    for &slot in &order[..n] {
+        if !key_has_at(keys, marks, slot as usize) {
             count += 1;
         }
-        i += 1;
     }
     count
 }
@@ -330,7 +290,7 @@ pub fn count_left(feed: &[u8], keys: &[u8], marks: &[u32], order: &[u32], n: usi
     ensures { (s o : List ℕ) → result ≡ count_without_at feed.now
         (held s o (index keys.now marks.now order.now n)) }
 {
-    if has_at(feed, 0, feed.len()) {
+    if has_at(feed) {
         return 0;
     }
     count_plain(keys, marks, order, n)

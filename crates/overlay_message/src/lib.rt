@@ -29,7 +29,6 @@ ghost use Rattle.overlay_open.specs.Promises.Held.{Open};
 ghost use Rattle.overlay_message.specs.Promises.Message.{Leads, Ready};
 ghost use Rattle.overlay_message.specs.Promises.Message.{feed_after, timestamp_after};
 
-use decode_index::Left;
 use overlay_feeds::Parts;
 use overlay_frame::{FeedSpot, NO_FEED};
 
@@ -44,7 +43,12 @@ fn signed_code(n: u64) -> u64
 }
 
 // The message's timestamp, else the old one.
-fn put_timestamp(out: &mut [u8], w: Option<usize>, given: Option<u64>, known: Option<i64>) -> Option<usize>
+fn put_timestamp(
+    out: &mut [u8],
+    w: Option<usize>,
+    given: Option<u64>,
+    known: Option<i64>,
+) -> Option<usize>
     ensures { Adds out.old w out.new result
         (optional_w signed_w (timestamp_after (view_timestamp given) (given_signed known))) }
 {
@@ -174,9 +178,8 @@ fn change(
 {
     let front = overlay_feeds::read_front(home, body);
     match decode_index::leave(keys, marks, order, feed, message, home, front.trips) {
-        Left::ManyTrips => None,
-        Left::ManyUpdates => None,
-        Left::Trips(n, vehicles) => {
+        Err(_) => None,
+        Ok((n, vehicles)) => {
             let p = overlay_feeds::read_back(home, front, vehicles);
             let to = overlay_frame::behind(known, p.end, from);
             write_state(

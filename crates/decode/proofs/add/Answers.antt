@@ -1,5 +1,4 @@
 -- `decode::add` writes a text. Assumes nothing.
-use borrow.Author.Rules.{rules}
 use Rattle.decode.proofs.Writing.{added_text}
 use Rattle.decode.proofs.add.Goals as goal
 

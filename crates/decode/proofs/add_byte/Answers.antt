@@ -1,5 +1,4 @@
 -- `decode::add_byte` meets its contract.
-use borrow.Author.Rules.{rules}
 use Rattle.decode.proofs.Writing.{added_byte}
 use Rattle.decode.proofs.add_byte.Goals as goal
 

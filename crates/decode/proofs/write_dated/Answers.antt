@@ -1,5 +1,4 @@
 -- `decode::write_dated` writes the raw trip id and the date. Assumes nothing.
-use borrow.Author.Rules.{rules}
 use native.Mathlib.Omega.{arith}
 use Rattle.decode.specs.Laws.Written.{written_whole}
 use Rattle.decode.proofs.Writing.{span_length, joined, keyed_dated}

@@ -1,5 +1,4 @@
 -- `decode::write_direction` writes a direction in decimal. Assumes nothing.
-use borrow.Author.Rules.{rules}
 use native.Mathlib.Omega.{arith}
 use Rattle.decode.specs.Laws.Written.{none, written_whole}
 use Rattle.decode.proofs.write_direction.Goals as goal

@@ -1,5 +1,4 @@
 -- `decode::write_head` writes route and direction. Assumes nothing.
-use borrow.Author.Rules.{rules}
 use native.Mathlib.Omega.{arith}
 use Rattle.decode.specs.Laws.Written.{then, written_whole}
 use Rattle.decode.proofs.Writing.{prefixed_short}

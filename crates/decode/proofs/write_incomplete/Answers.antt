@@ -1,5 +1,4 @@
 -- `decode::write_incomplete` writes the key of an entity without a trip id. Assumes nothing.
-use borrow.Author.Rules.{rules}
 use native.Mathlib.Omega.{arith}
 use Rattle.decode.specs.Laws.Written.{then, written_whole}
 use Rattle.decode.proofs.Writing.{keyed, spans_head, spans_whole}

@@ -1,5 +1,4 @@
 -- `decode::write_key` writes the key. Assumes nothing.
-use borrow.Author.Rules.{rules}
 use native.Mathlib.Omega.{arith}
 use Rattle.decode.proofs.Writing.{span_length, keyed}
 use Rattle.decode.proofs.write_key.Goals as goal

@@ -1,5 +1,4 @@
 -- `decode::write_route` writes a route with the feed in front. Assumes nothing.
-use borrow.Author.Rules.{rules}
 use native.Mathlib.Omega.{arith}
 use Rattle.decode.specs.Laws.Written.{written_whole}
 use Rattle.decode.proofs.Writing.{span_length, joined, routed, unrouted}

@@ -1,5 +1,4 @@
 -- `decode::write_tail` writes date and time. Assumes nothing.
-use borrow.Author.Rules.{rules}
 use native.Mathlib.Omega.{arith}
 use Rattle.decode.specs.Laws.Written.{then, written_whole}
 use Rattle.decode.proofs.Writing.{span_length, tail_read}

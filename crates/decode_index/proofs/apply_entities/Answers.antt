@@ -1,12 +1,9 @@
 -- `decode_index::apply_entities`: with what is left, the index gives that of the whole message. The measure: the bytes
 -- behind the walk. Assumes nothing.
-use borrow.Author.Rules.{rules}
 use mathlib.Core.Path.{sym, ◌∙◌}
 use native.Mathlib.Omega.{arith}
-use Rattle.decode_slots.specs.Index.{index}
 use Rattle.realtime_views.specs.Laws.Walks.{found}
-use Rattle.realtime_views.specs.Promises.Walks.{ahead}
-use Rattle.decode_index.proofs.Entities.{Going, starts, done, entity_inside, entity_read, on, over}
+use Rattle.decode_index.proofs.Entities.{starts, done, entity_inside, entity_read, on, over}
 use Rattle.decode_index.proofs.apply_entities.Goals as goal
 
 pub loop-at-init : goal.loop-at-init
@@ -17,8 +14,8 @@ loop-at-init c =
 pub next_entity-requires : goal.next_entity-requires
 next_entity-requires c = c.loop-at.invariant.walk
 
-pub returns-in-Done : goal.returns-in-Done
-returns-in-Done c = done c.loop-at.invariant c.next_entity.ensures c.in-Done.is
+pub returns : goal.returns
+returns c = done c.loop-at.invariant c.next_entity.ensures c.in_default.is
 
 pub apply-m-requires-clause-fact : goal.apply-m-requires-clause-fact
 apply-m-requires-clause-fact c =

@@ -1,12 +1,8 @@
 -- `decode_index::apply_entities`: with what is left, the index gives that of the whole message. The measure: the bytes
 -- behind the walk. Assumes nothing.
-use borrow.Author.Rules.{rules}
-use mathlib.Core.Path.{sym, ◌∙◌}
-use native.Mathlib.Omega.{arith}
 use Rattle.decode_slots.specs.Index.{index}
-use Rattle.realtime_views.specs.Laws.Walks.{found}
 use Rattle.realtime_views.specs.Promises.Walks.{ahead}
-use Rattle.decode_index.proofs.Entities.{Going, starts, done, entity_inside, entity_read, on, over}
+use Rattle.decode_index.proofs.Entities.{Going}
 use Rattle.decode_index.proofs.apply_entities.Given as goal
 
 abbrev pub invariant-loop-at : goal.invariant-loop-at

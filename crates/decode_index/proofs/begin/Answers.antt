@@ -1,5 +1,4 @@
 -- `decode_index::begin`: the old trips join, or there are none. Assumes nothing.
-use borrow.Author.Rules.{rules}
 use Rattle.decode_slots.specs.Laws.Slots.{sound_none}
 use Rattle.decode_index.proofs.Leaves.{begun_none, begun_old}
 use Rattle.decode_index.proofs.begin.Goals as goal

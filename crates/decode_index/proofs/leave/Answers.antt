@@ -1,5 +1,4 @@
 -- `decode_index::leave`: the index is what the message leaves. Assumes nothing.
-use borrow.Author.Rules.{rules}
 use native.Mathlib.Omega.{arith}
 use Rattle.decode_index.proofs.Leaves.{leaves_many, readable_slots, leaves_crowded, leaves_trips}
 use Rattle.decode_index.proofs.leave.Goals as goal

@@ -1,5 +1,4 @@
 -- `decode_keys::apply`: a deleted entity is passed over, another goes by its keys. Assumes nothing.
-use borrow.Author.Rules.{rules}
 use Rattle.decode_keys.proofs.Applying.{short, applies_none, applies_trip}
 use Rattle.decode_keys.proofs.apply.Goals as goal
 

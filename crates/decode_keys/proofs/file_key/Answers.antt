@@ -1,5 +1,4 @@
 -- `decode_keys::file_key`: the key is written, and goes in. Assumes nothing.
-use borrow.Author.Rules.{rules}
 use Rattle.decode_keys.proofs.Filing.{still, filed}
 use Rattle.decode_keys.proofs.file_key.Goals as goal
 

@@ -1,5 +1,4 @@
 -- `decode_old::file_entry`: the key goes in with the place behind it. Assumes nothing.
-use borrow.Author.Rules.{rules}
 use Rattle.decode_old.proofs.Joining.{entry_small, key_short, files}
 use Rattle.decode_old.proofs.file_entry.Goals as goal
 

@@ -1,5 +1,5 @@
 -- `decode_probes::trips_header` meets its contract. Assumes nothing.
-use mathlib.Core.Path.{sym, ap, ◌∙◌}
+use mathlib.Core.Path.{◌≡◌, sym, ap, ◌∙◌}
 use Rattle.realtime.specs.Schema.{feed_message}
 use Rattle.realtime.specs.Views.{header}
 use Rattle.decode_probes.specs.Answers.{header_numbers, no_header}
@@ -14,5 +14,11 @@ returns-then-is_whole c =
 
 pub returns : goal.returns
 returns c =
-    of_broken no_header (λ m. header_numbers (header m)) feed_message c.args.s.now
+    let d = c.default.ensures in
+    let none : c.default.result ≡ no_header = λ j. record {
+      differential = d.0 j;
+      timed = d.1.0 j;
+      timestamp = d.1.1 j;
+    } in
+    none ∙ of_broken no_header (λ m. header_numbers (header m)) feed_message c.args.s.now
     (sym c.is_whole.ensures ∙ c.if-is_whole.false)

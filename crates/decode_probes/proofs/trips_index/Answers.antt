@@ -5,7 +5,7 @@ use lib.ListN.{length}
 use Rattle.decode_slots.specs.Index.{index}
 use Rattle.decode_slots.specs.Places.{held}
 use Rattle.decode_probes.proofs.Asking.{ready}
-use Rattle.decode_probes.proofs.Outcomes.{answers_refused, answers_many_trips, answers_many_updates}
+use Rattle.decode_probes.proofs.Outcomes.{answers_refused, answers_many}
 use Rattle.decode_probes.proofs.Outcomes.{answers_trips}
 use Rattle.decode_slots.specs.Promises.Index.{Lent}
 use Rattle.decode_probes.proofs.trips_index.Goals as goal
@@ -58,30 +58,21 @@ overflow_add-result c =
     record {
       fits = omega (
         arith,
-        (c.leave.ensures.sound c.in-Trips.is).counted,
+        (c.leave.ensures.sound c.in-Ok.is).counted,
       );
     }
 
-pub returns-in-ManyTrips : goal.returns-in-ManyTrips
-returns-in-ManyTrips c =
+pub returns-in-Err : goal.returns-in-Err
+returns-in-Err c =
     let a = c.args in
-    answers_many_trips (length a.keys.now) (length a.marks.now) (length a.order.now)
+    answers_many (length a.keys.now) (length a.marks.now) (length a.order.now)
     a.feed.now a.s.now a.old.now
-    c.first_question-q.ensures c.if-q-ne0.false c.leave.ensures
-    c.in-ManyTrips.is
+    c.first_question-q.ensures c.if-q-ne0.false c.leave.ensures c.in-Err.field-0 c.in-Err.is
 
-pub returns-in-ManyUpdates : goal.returns-in-ManyUpdates
-returns-in-ManyUpdates c =
-    let a = c.args in
-    answers_many_updates (length a.keys.now) (length a.marks.now) (length a.order.now)
-    a.feed.now a.s.now a.old.now
-    c.first_question-q.ensures c.if-q-ne0.false c.leave.ensures
-    c.in-ManyUpdates.is
-
-pub returns-in-Trips : goal.returns-in-Trips
-returns-in-Trips c =
+pub returns-in-Ok : goal.returns-in-Ok
+returns-in-Ok c =
     let a = c.args in
     answers_trips (length a.keys.now) (length a.marks.now) (length a.order.now)
     a.feed.now a.s.now a.old.now
     c.first_question-q.ensures c.if-q-ne0.false c.leave.ensures
-    c.in-Trips.n c.in-Trips.is
+    c.in-Ok.n c.in-Ok.is

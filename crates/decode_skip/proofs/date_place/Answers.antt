@@ -1,6 +1,5 @@
 -- `date_place` meets its contract.
 use Rattle.formats_skip.specs.Laws.Leads.{lead_here, lead_small, lead_optional_signed}
-use borrow.Author.Rules.{rules}
 use Rattle.decode_skip.proofs.date_place.Goals as goal
 
 pub returns : goal.returns

@@ -1,6 +1,5 @@
 -- `past_numbers` meets its contract.
 use Rattle.formats_skip.specs.Laws.Passes.{any_small, optional_signed_then, near_passes}
-use borrow.Author.Rules.{rules}
 use Rattle.decode_skip.proofs.past_numbers.Goals as goal
 
 pub returns : goal.returns

@@ -1,6 +1,5 @@
 -- `past_trip` meets its contract.
 use Rattle.formats_skip.specs.Laws.Leads.{lead_end}
-use borrow.Author.Rules.{rules}
 use Rattle.decode_skip.proofs.past_trip.Goals as goal
 
 pub returns : goal.returns

@@ -1,14 +1,12 @@
 -- `past_trips` meets its contract.
-use Rattle.decode.specs.Trip.{trip_entry}
-use Rattle.formats_skip.specs.Laws.Passes.{Passing, list_start, list_on, list_end}
-use borrow.Author.Rules.{rules}
+use Rattle.decode_skip.proofs.Counting.{counting, counting_on, counted}
 use Rattle.decode_skip.proofs.past_trips.Goals as goal
 
-pub loop-left-init : goal.loop-left-init
-loop-left-init c = list_start
+pub loop-init : goal.loop-init
+loop-init c = counting
 
-pub loop-left-preserved : goal.loop-left-preserved
-loop-left-preserved c = search list_on
+pub loop-preserved : goal.loop-preserved
+loop-preserved c = search counting_on
 
 pub returns : goal.returns
-returns c = search list_end
+returns c = search counted

@@ -1,6 +1,5 @@
 -- `past_update` meets its contract.
 use Rattle.formats_skip.specs.Laws.Passes.{any_small, text_then, optional_signed_then}
-use borrow.Author.Rules.{rules}
 use Rattle.decode_skip.proofs.past_update.Goals as goal
 
 pub returns-then-s-a-ge-NUMBERS : goal.returns-then-s-a-ge-NUMBERS

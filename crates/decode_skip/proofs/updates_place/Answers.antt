@@ -1,6 +1,5 @@
 -- `updates_place` meets its contract.
 use Rattle.formats_skip.specs.Laws.Leads.{lead_here, lead_small, lead_text, lead_optional_number, lead_optional_signed}
-use borrow.Author.Rules.{rules}
 use Rattle.decode_skip.proofs.updates_place.Goals as goal
 
 pub returns : goal.returns

@@ -1,5 +1,4 @@
 -- `decode_slots::key_order` meets its contract.
-use borrow.Author.Rules.{rules}
 use Rattle.decode_slots.proofs.key_order.Goals as goal
 
 pub returns : goal.returns

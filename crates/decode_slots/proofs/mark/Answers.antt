@@ -1,5 +1,4 @@
 -- `decode_slots::mark` meets its contract.
-use borrow.Author.Rules.{rules}
 use native.Mathlib.Omega.{arith}
 use lib.ListN.{length-set}
 use Rattle.decode_slots.proofs.mark.Goals as goal

@@ -1,15 +1,14 @@
 -- `decode_slots::rank`: the rank lies between `lo` and `hi`. Assumes nothing.
 use mathlib.Core.Path.{◌≡◌}
 use mathlib.Core.Bool.{true, false}
-use Prim.Native.Nat.{◌-◌, ◌≤◌, ◌<◌}
+use Prim.Native.Nat.{◌<◌}
 use native.Mathlib.Omega.{arith}
 use lib.ListN.{get_or}
 use Rattle.slices.specs.Lists.{lex_of}
 use Rattle.maps.specs.Promises.Order.{is_more}
-use Rattle.maps.specs.Order.{texts}
-use Rattle.decode_slots.specs.Index.{slot_key, index}
-use Rattle.decode_slots.specs.Promises.Index.{key_in, rank_of}
-use Rattle.decode_slots.proofs.Ranks.{rank_within, rank_more, rank_else, slot_below}
+use Rattle.decode_slots.specs.Index.{slot_key}
+use Rattle.decode_slots.specs.Promises.Index.{key_in}
+use Rattle.decode_slots.proofs.Ranks.{rank_within, rank_more, rank_else, slot_below, gt_is_more}
 use Rattle.decode_slots.proofs.rank.Goals as goal
 
 pub loop-lo-init : goal.loop-lo-init
@@ -40,12 +39,13 @@ key_order-requires c =
       slot_in_bounds_2 = omega (arith, S.keyed);
     }
 
-pub loop-lo-preserved-then-is_more : goal.loop-lo-preserved-then-is_more
-loop-lo-preserved-then-is_more c =
+pub loop-lo-preserved-then-is_gt : goal.loop-lo-preserved-then-is_gt
+loop-lo-preserved-then-is_gt c =
     let a = c.args in
     let k = key_in a.keys.now a.n a.len in
     let mid = c.probe-mid.result in
     let in_range = c.probe-mid.ensures in
+    let g = gt_is_more c.key_order.result in
     let e : is_more (lex_of k (slot_key a.keys.now a.marks.now (get_or a.order.now mid 0))) ≡ true = cc in
     let h = rank_more a.keys.now a.marks.now a.order.now a.n c.requires.sound_index k mid (omega arith) e in
     (omega arith, omega arith, omega arith)
@@ -56,6 +56,7 @@ loop-lo-preserved c =
     let k = key_in a.keys.now a.n a.len in
     let mid = c.probe-mid.result in
     let in_range = c.probe-mid.ensures in
+    let g = gt_is_more c.key_order.result in
     let e : is_more (lex_of k (slot_key a.keys.now a.marks.now (get_or a.order.now mid 0))) ≡ false = cc in
     let h = rank_else a.keys.now a.marks.now a.order.now a.n c.requires.sound_index k mid (omega arith) e in
     (omega arith, omega arith, omega arith)

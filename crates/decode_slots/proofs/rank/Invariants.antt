@@ -1,15 +1,8 @@
 -- `decode_slots::rank`: the rank lies between `lo` and `hi`. Assumes nothing.
-use mathlib.Core.Path.{◌≡◌}
-use mathlib.Core.Bool.{true, false}
-use Prim.Native.Nat.{◌-◌, ◌≤◌, ◌<◌}
-use native.Mathlib.Omega.{arith}
-use lib.ListN.{get_or}
-use Rattle.slices.specs.Lists.{lex_of}
-use Rattle.maps.specs.Promises.Order.{is_more}
+use Prim.Native.Nat.{◌-◌, ◌≤◌}
 use Rattle.maps.specs.Order.{texts}
-use Rattle.decode_slots.specs.Index.{slot_key, index}
+use Rattle.decode_slots.specs.Index.{index}
 use Rattle.decode_slots.specs.Promises.Index.{key_in, rank_of}
-use Rattle.decode_slots.proofs.Ranks.{rank_within, rank_more, rank_else, slot_below}
 use Rattle.decode_slots.proofs.rank.Given as goal
 
 abbrev pub invariant-loop-lo : goal.invariant-loop-lo

@@ -1,5 +1,4 @@
 -- `decode_slots::settle`: over the place of the key's slot, or into the next slot. Assumes nothing.
-use borrow.Author.Rules.{rules}
 use native.Mathlib.Omega.{arith}
 use Rattle.decode_slots.specs.Promises.Index.{key_in}
 use Rattle.decode_slots.proofs.Ranks.{slot_below, rank_within}

@@ -1,5 +1,4 @@
 -- `decode_slots::stands` looks at the key at rank r. Assumes nothing.
-use borrow.Author.Rules.{rules}
 use mathlib.Core.Path.{ap, ◌∙◌}
 use Prim.Native.Nat.{◌<◌}
 use native.Mathlib.Omega.{arith}
@@ -8,11 +7,11 @@ use Rattle.slices.specs.Lists.{lex_of}
 use Rattle.maps.specs.Promises.Order.{is_same}
 use Rattle.decode_slots.specs.Index.{slot_key}
 use Rattle.decode_slots.specs.Promises.Index.{key_in}
-use Rattle.decode_slots.proofs.Ranks.{slot_below}
+use Rattle.decode_slots.proofs.Ranks.{slot_below, eq_is_same}
 use Rattle.decode_slots.proofs.stands.Goals as goal
 
-pub returns-then-r-n : goal.returns-then-r-n
-returns-then-r-n c = rw (le-ltb c.args.r c.args.n (omega arith))
+pub returns-else-r-n : goal.returns-else-r-n
+returns-else-r-n c = rw (le-ltb c.args.r c.args.n (omega arith))
 
 pub word-requires : goal.word-requires
 word-requires c = omega (arith, c.requires.sound_index.ordered)
@@ -30,9 +29,10 @@ key_order-requires c =
       slot_in_bounds_2 = omega (arith, S.keyed);
     }
 
-pub returns : goal.returns
-returns c =
+pub returns-then-r-n : goal.returns-then-r-n
+returns-then-r-n c =
     let a = c.args in
-    rw (lt-ltb a.r a.n (omega arith)) (c.is_same.ensures ∙ ap is_same c.key_order.ensures ∙ ap
+    rw (lt-ltb a.r a.n (omega arith))
+    (c.is_eq.ensures ∙ eq_is_same c.key_order.result ∙ ap is_same c.key_order.ensures ∙ ap
     (λ j. is_same (lex_of (key_in a.keys.now a.n a.len) (slot_key a.keys.now a.marks.now j)))
     c.word.ensures)

@@ -1,6 +1,6 @@
 -- Promise. The working index: when its slices hold one, where a key ranks in it, and what they hold when a key is
 -- put.
-use Rattle.std.specs.Prelude.{ℕ, suc, ◌+◌, ◌*◌, ◌≤◌, ◌<◌, ◌≡◌, true, List, [], ◌∷◌, ◌++◌, length, get_or, take, drop, set}
+use Rattle.std.specs.Prelude.{ℕ, suc, ◌+◌, ◌*◌, ◌≤◌, ◌<◌, ◌≡◌, true, List, [], ◌∷◌, length, get_or, take, drop, set}
 use Rattle.decode.specs.Sizes.{most_trips, key_bytes, keys_length, marks_length, order_length}
 use Rattle.basics.specs.Lists.{All}
 use Rattle.maps.specs.Map.{Ordered, by_order, put, ascending}

@@ -1,7 +1,8 @@
 -- `decode_trips::write_entry` meets its contract.
-use borrow.Author.Rules.{rules}
 use Rattle.decode_write.specs.Laws.Records.{slot_fits, slot_calm}
 use Rattle.decode_trips.specs.Laws.Entries.{key_ready, entry_put}
+use mathlib.Core.Path.{◌∙◌}
+use Rattle.decode_trips.specs.Laws.Again.{place_or_zero}
 use Rattle.decode_trips.proofs.write_entry.Goals as goal
 
 pub write_next-r-requires-clause-message_len_bound : goal.write_next-r-requires-clause-message_len_bound
@@ -24,4 +25,5 @@ pub returns : goal.returns
 returns c =
     entry_put c.requires.good_slot c.requires.ready c.word-len.ensures c.text-q.ensures
     c.word-from.ensures c.word-to.ensures c.write_next-r.ensures
-    c.place-start.ensures c.place-end.ensures
+    (c.unwrap_or-start.ensures ∙ place_or_zero c.text-q.result)
+    (c.unwrap_or-end.ensures ∙ place_or_zero c.write_next-r.result)

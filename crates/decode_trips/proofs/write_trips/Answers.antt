@@ -1,5 +1,4 @@
 -- `decode_trips::write_trips` meets its contract. Assumes nothing.
-use borrow.Author.Rules.{rules}
 use native.Mathlib.Omega.{arith}
 use Rattle.decode_write.specs.Laws.Slots.{good_slots, trips_adds}
 use Rattle.decode_trips.proofs.write_trips.Goals as goal

@@ -1,6 +1,7 @@
 -- Law. The record that was written last, in an output that is written on.
 use Rattle.std.specs.Prelude.{ℕ, ◌+◌, ◌-◌, ◌≤◌, ◌<◌, ◌≡◌, refl, Bool, true, false, List, ◌++◌, leb, length, take, drop, replicate, Option, Some, None}
 use Rattle.std.proofs.Common.{sym, ap, ◌∙◌, arith, length-append, length-drop, length-take-le, take-take, take_at, drop_at, leb-true, leb-false}
+use Rattle.std.specs.Option.{unwrap_or}
 use Rattle.std.proofs.Math.Seq.{slice, length-slice}
 use Rattle.std.proofs.lemmas.List.{take-append-le}
 use Rattle.slices.specs.Lists.{pasted}
@@ -13,6 +14,10 @@ use Rattle.decode_slots.specs.Places.{is_new, held_at}
 use Rattle.decode_index.specs.Promises.Message.{Fit}
 use Rattle.decode_trips.specs.declared.Last.{Last}
 use Rattle.decode_trips.specs.Promises.Again.{place_of, Ready, IsLast, Again}
+
+pub place_or_zero : (w : Option ℕ) → unwrap_or w 0 ≡ place_of w
+place_or_zero None = refl
+place_or_zero (Some p) = refl
 
 -- from a place that lies inside, to one that is known
 record Arrived (l : List ℕ) (w : Option ℕ) (m : List ℕ) (e : ℕ) (y : List ℕ) : Type 0 where

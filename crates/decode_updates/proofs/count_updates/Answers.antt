@@ -1,11 +1,7 @@
 -- `decode_updates::count_updates`: those so far and those that are left. Assumes nothing.
-use borrow.Author.Rules.{rules}
-use Prim.Native.Nat.{◌+◌}
 use native.Mathlib.Omega.{arith}
-use lib.ListN.{take}
-use Rattle.realtime_views.specs.Promises.Walks.{ahead}
 use Rattle.realtime_views.specs.Laws.Turns.{walks, less}
-use Rattle.decode_updates.proofs.Counting.{Counting, counting, counted, counts_on, counts_many}
+use Rattle.decode_updates.proofs.Counting.{counting, counted, counts_on, counts_many}
 use Rattle.decode_updates.proofs.count_updates.Goals as goal
 
 pub loop-n-init : goal.loop-n-init
@@ -17,10 +13,10 @@ part-requires c = omega (arith, c.requires)
 pub next_update-requires : goal.next_update-requires
 next_update-requires c = walks c.loop-n.invariant.walked c.part.ensures
 
-pub returns-in-Done : goal.returns-in-Done
-returns-in-Done c =
+pub returns-in_default : goal.returns-in_default
+returns-in_default c =
     counted c.loop-n.invariant c.part.ensures c.next_update.ensures
-    c.in-Done.is c.loop-n-test.true
+    c.in_default.is c.loop-n-test.true
 
 pub loop-n-smaller : goal.loop-n-smaller
 loop-n-smaller c =

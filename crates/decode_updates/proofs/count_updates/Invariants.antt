@@ -1,11 +1,8 @@
 -- `decode_updates::count_updates`: those so far and those that are left. Assumes nothing.
-use borrow.Author.Rules.{rules}
 use Prim.Native.Nat.{◌+◌}
-use native.Mathlib.Omega.{arith}
 use lib.ListN.{take}
 use Rattle.realtime_views.specs.Promises.Walks.{ahead}
-use Rattle.realtime_views.specs.Laws.Turns.{walks, less}
-use Rattle.decode_updates.proofs.Counting.{Counting, counting, counted, counts_on, counts_many}
+use Rattle.decode_updates.proofs.Counting.{Counting}
 use Rattle.decode_updates.proofs.count_updates.Given as goal
 
 abbrev pub invariant-loop-n : goal.invariant-loop-n

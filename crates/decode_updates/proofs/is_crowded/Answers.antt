@@ -1,6 +1,5 @@
 -- `decode_updates::is_crowded`: no more than 128 are no more at their sequences; of others the updates themselves tell.
 -- Assumes nothing.
-use borrow.Author.Rules.{rules}
 use Rattle.decode_updates.proofs.Counting.{crowded_counted}
 use Rattle.decode_updates.proofs.Crowding.{crowded_listed}
 use Rattle.decode_updates.proofs.is_crowded.Goals as goal

@@ -1,5 +1,4 @@
 -- `decode_updates::line` puts three numbers in, one after the other. Assumes nothing.
-use borrow.Author.Rules.{rules}
 use mathlib.Core.Path.{ap, ◌∙◌}
 use Prim.Native.Nat.{◌+◌, ◌*◌}
 use Rattle.slices.specs.Promises.Inserted.{inserted}

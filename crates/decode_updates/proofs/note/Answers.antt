@@ -1,5 +1,4 @@
 -- `decode_updates::note`: over an old update's place, or between the others. Assumes nothing.
-use borrow.Author.Rules.{rules}
 use native.Mathlib.Omega.{arith}
 use Rattle.decode_updates.proofs.Noting.{rank_most, notes_over, notes_into}
 use Rattle.decode_updates.proofs.note.Goals as goal

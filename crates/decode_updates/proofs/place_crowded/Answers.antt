@@ -1,8 +1,6 @@
 -- `decode_updates::place_crowded`: an old record is not asked, nor one that is known. Assumes nothing.
 use native.Mathlib.Omega.{arith}
 use Rattle.decode_updates.proofs.Crowding.{place_old, place_known, place_reads, place_new}
-use Rattle.realtime.specs.Schema.{feed_entity}
-use Rattle.decode_slots.specs.Promises.Places.{Readable}
 use borrow.Author.Rules.{rules}
 use Rattle.decode_updates.proofs.place_crowded.Goals as goal
 

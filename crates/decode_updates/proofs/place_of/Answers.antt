@@ -1,5 +1,4 @@
 -- `decode_updates::place_of`: behind the last, or found by halving. Assumes nothing.
-use borrow.Author.Rules.{rules}
 use Rattle.decode_updates.proofs.Noting.{rank_all}
 use Rattle.decode_updates.proofs.place_of.Goals as goal
 

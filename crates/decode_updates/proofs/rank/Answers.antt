@@ -1,9 +1,6 @@
 -- `decode_updates::rank`: the rank lies between `lo` and `hi`. Assumes nothing.
-use Prim.Native.Nat.{◌+◌, ◌-◌, ◌/◌, ◌≤◌}
+use Prim.Native.Nat.{◌+◌, ◌-◌, ◌/◌}
 use native.Mathlib.Omega.{arith}
-use Rattle.maps.specs.Order.{numbers}
-use Rattle.decode_slots.specs.Promises.Index.{rank_of}
-use Rattle.decode_updates.specs.Line.{laid}
 use Rattle.decode_updates.proofs.Noting.{rank_most, rank_down, rank_up}
 use Rattle.decode_updates.proofs.rank.Goals as goal
 

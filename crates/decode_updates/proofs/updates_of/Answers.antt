@@ -1,11 +1,7 @@
 -- `decode_updates::updates_of`: what is left of the updates, noted over those so far. Assumes nothing.
-use borrow.Author.Rules.{rules}
-use Prim.Native.Nat.{◌+◌, ◌≤◌}
 use native.Mathlib.Omega.{arith}
-use lib.ListN.{take}
-use Rattle.realtime_views.specs.Promises.Walks.{ahead}
 use Rattle.realtime_views.specs.Laws.Turns.{walks, there, less}
-use Rattle.decode_updates.proofs.Listing.{Listing, listing, listed, lists_on, lists_many}
+use Rattle.decode_updates.proofs.Listing.{listing, listed, lists_on, lists_many}
 use Rattle.decode_updates.proofs.updates_of.Goals as goal
 
 pub loop-at-init : goal.loop-at-init
@@ -21,13 +17,13 @@ part-requires c = omega (arith, c.requires.len_in_bounds.0)
 pub next_update-requires : goal.next_update-requires
 next_update-requires c = walks c.loop-at.invariant.0.walked c.part.ensures
 
-pub shape_of-updates-in-Done : goal.shape_of-updates-in-Done
-shape_of-updates-in-Done c = omega (arith, c.loop-at.invariant.0.lined.long, c.requires.updates_len)
+pub shape_of-updates : goal.shape_of-updates
+shape_of-updates c = omega (arith, c.loop-at.invariant.0.lined.long, c.requires.updates_len)
 
-pub returns-in-Done : goal.returns-in-Done
-returns-in-Done c =
+pub returns : goal.returns
+returns c =
     listed c.loop-at.invariant.0 c.part.ensures c.next_update.ensures
-    c.in-Done.is c.loop-at.invariant.1
+    c.in_default.is c.loop-at.invariant.1
 
 pub sequence_at-sequence-requires : goal.sequence_at-sequence-requires
 sequence_at-sequence-requires c =

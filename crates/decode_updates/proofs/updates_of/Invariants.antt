@@ -1,11 +1,8 @@
 -- `decode_updates::updates_of`: what is left of the updates, noted over those so far. Assumes nothing.
-use borrow.Author.Rules.{rules}
 use Prim.Native.Nat.{◌+◌, ◌≤◌}
-use native.Mathlib.Omega.{arith}
 use lib.ListN.{take}
 use Rattle.realtime_views.specs.Promises.Walks.{ahead}
-use Rattle.realtime_views.specs.Laws.Turns.{walks, there, less}
-use Rattle.decode_updates.proofs.Listing.{Listing, listing, listed, lists_on, lists_many}
+use Rattle.decode_updates.proofs.Listing.{Listing}
 use Rattle.decode_updates.proofs.updates_of.Given as goal
 
 abbrev pub invariant-loop-at : goal.invariant-loop-at

@@ -1,5 +1,4 @@
 -- `decode_write::add_five` meets its contract. Assumes nothing.
-use borrow.Author.Rules.{rules}
 use native.Mathlib.Omega.{arith}
 use lib.ListN.{length-set}
 use Rattle.decode_write.specs.Laws.Groups.{five_groups}

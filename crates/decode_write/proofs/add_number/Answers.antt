@@ -1,5 +1,4 @@
 -- `decode_write::add_number` meets its contract. Assumes nothing.
-use borrow.Author.Rules.{rules}
 use Rattle.decode_write.specs.Laws.Groups.{first_group}
 use Rattle.decode_write.proofs.add_number.Goals as goal
 

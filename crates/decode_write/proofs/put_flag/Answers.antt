@@ -1,10 +1,16 @@
 -- `decode_write::put_flag` meets its contract. Assumes nothing.
-use borrow.Author.Rules.{rules}
-use Rattle.decode_write.specs.Laws.Written.{flag_yes, flag_no}
+use mathlib.Core.Path.{◌≡◌, refl, ap, ◌∙◌}
+use mathlib.Core.Bool.{Bool, true, false}
+use mathlib.Core.List.{[], ◌∷◌}
+use mir.Val.{bool_byte}
+use Rattle.formats.specs.Number.{number_w}
+use Rattle.formats_write.specs.Laws.Adds.{same}
+use Rattle.decode.specs.Record.{bit}
 use Rattle.decode_write.proofs.put_flag.Goals as goal
 
-pub returns-then-b : goal.returns-then-b
-returns-then-b c = search (flag_yes)
+flag_w : (b : Bool) → (bool_byte b ∷ []) ≡ number_w (bit b)
+flag_w true = refl
+flag_w false = refl
 
 pub returns : goal.returns
-returns c = search (flag_no)
+returns c = same c.byte.ensures (ap (λ n. n ∷ []) c.from.ensures ∙ flag_w c.args.b)

@@ -1,5 +1,4 @@
 -- `decode_write::put_head` meets its contract. Assumes nothing.
-use borrow.Author.Rules.{rules}
 use Rattle.realtime_views.specs.Promises.Views.{view_trip}
 use Rattle.decode_write.specs.Laws.Written.{head_adds}
 use Rattle.decode_write.proofs.put_head.Goals as goal

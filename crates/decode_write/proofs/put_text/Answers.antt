@@ -1,5 +1,4 @@
 -- `decode_write::put_text` meets its contract. Assumes nothing.
-use borrow.Author.Rules.{rules}
 use Rattle.decode_write.specs.Laws.Written.{text_adds}
 use Rattle.decode_write.proofs.put_text.Goals as goal
 

@@ -1,10 +1,7 @@
 -- `decode_write::put_updates`: the updates of the lines behind it are written. Assumes nothing.
-use borrow.Author.Rules.{rules}
 use Prim.Native.Nat.{◌-◌, ◌≤◌}
-use native.Mathlib.Omega.{arith}
 use Rattle.formats_write.specs.Promises.Adds.{Adds}
-use Rattle.formats_write.specs.Laws.Adds.{none}
-use Rattle.decode_write.specs.Laws.Written.{updates_w, updates_more, update_readable, updates_done}
+use Rattle.decode_write.specs.Laws.Written.{updates_w}
 use Rattle.decode_write.proofs.put_updates.Given as goal
 
 abbrev pub invariant-loop-i : goal.invariant-loop-i

@@ -1,5 +1,4 @@
 -- `decode_write::write_held` meets its contract. Assumes nothing.
-use borrow.Author.Rules.{rules}
 use native.Mathlib.Omega.{arith}
 use Rattle.decode_write.specs.Laws.Records.{new_readable, new_calm, new_adds, old_beyond, old_adds}
 use Rattle.decode_write.proofs.write_held.Goals as goal

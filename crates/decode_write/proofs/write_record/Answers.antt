@@ -1,5 +1,4 @@
 -- `decode_write::write_record` meets its contract. Assumes nothing.
-use borrow.Author.Rules.{rules}
 use Rattle.decode_write.specs.Laws.Records.{texts_lie, few_updates, updates_readable, record_adds}
 use Rattle.decode_write.proofs.write_record.Goals as goal
 

@@ -1,5 +1,4 @@
 -- `decode_write::write_update` meets its contract. Assumes nothing.
-use borrow.Author.Rules.{rules}
 use Rattle.decode_write.specs.Laws.Written.{read_update_adds}
 use Rattle.decode_write.proofs.write_update.Goals as goal
 

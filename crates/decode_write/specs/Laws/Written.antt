@@ -1,5 +1,5 @@
 -- Law. What is written for a stop update and for a trip's record, part by part.
-use Rattle.std.specs.Prelude.{ℕ, zero, suc, ◌+◌, ◌-◌, ◌*◌, ◌≤◌, ◌<◌, ◌≡◌, refl, Bool, true, false, List, [], ◌∷◌, ◌++◌, ◌⊎◌, length, get_or, take, drop, Option}
+use Rattle.std.specs.Prelude.{ℕ, zero, suc, ◌+◌, ◌-◌, ◌*◌, ◌≤◌, ◌<◌, ◌≡◌, refl, Bool, true, false, List, [], ◌∷◌, ◌++◌, ◌⊎◌, length, get_or, take, drop, ℤ, Option, Some, None}
 use Rattle.std.proofs.Math.Path.{sym, ap}
 use Rattle.std.proofs.Common.{subst, ◌∙◌, append_assoc, arith, add-one, length-drop, get_or-drop, length-take-le}
 use Rattle.std.proofs.Math.Seq.{slice}
@@ -12,14 +12,14 @@ use Rattle.formats.specs.Format.{◌&◌, write}
 use Rattle.formats_write.specs.Laws.Adds.{then, same}
 use Rattle.formats_write.specs.Laws.Slices.{slice_is}
 use Rattle.formats_write.specs.Promises.Adds.{Adds}
-use Rattle.formats_write.specs.Promises.Given.{optional_w, text_w}
+use Rattle.formats_write.specs.Promises.Given.{given_signed, optional_w, text_w}
 use Rattle.realtime_views.specs.declared.TextPart.{TextPart}
 use Rattle.formats_read.specs.Laws.Progress.{one_more}
 use Rattle.realtime.specs.Views.{StopView, TripView}
 use Rattle.realtime.specs.Schema.{stop_time_update}
 use Rattle.realtime.specs.Schema as schema
 use Rattle.realtime_views.specs.declared.StopUpdate as read
-use Rattle.realtime_views.specs.Promises.Views.{PartInside, part_in, StopRead, view_stop}
+use Rattle.realtime_views.specs.Promises.Views.{PartInside, part_in, StopRead, view_stop, view_time}
 use Rattle.decode.specs.Record.{bit, update_in}
 use Rattle.decode_slots.specs.Index.{Place}
 use Rattle.decode_slots.specs.Places.{or_end, update_at}
@@ -56,6 +56,10 @@ flag_no b a e = rw e a
 pub given_adds : {A : Type 0} {l m : List ℕ} {r q : Option ℕ} (w : A → List ℕ) {u v : Unit {0} ⊎ A}
     → Adds l r m q (optional_w w u) → u ≡ v → Adds l r m q (optional_w w v)
 given_adds w a e = same a (ap (optional_w w) e)
+
+pub time_given : (t : Option ℤ) → given_signed t ≡ maybe (view_time t)
+time_given None = refl
+time_given (Some z) = refl
 
 -- a stop update at its sequence
 pub update_adds : {l₀ l₁ l₂ l₃ l₄ l₅ : List ℕ} {r₀ r₁ r₂ r₃ r₄ r₅ : Option ℕ} (n : ℕ) (u : StopView)

@@ -1,5 +1,5 @@
 -- Law. The state after a message, by what the index says of its trips and where its feed's body goes.
-use Rattle.std.specs.Prelude.{ℕ, ◌≤◌, ◌≡◌, refl, Bool, true, false, cond, List, [], ◌∷◌, length, Option, None}
+use Rattle.std.specs.Prelude.{ℕ, ◌≤◌, ◌≡◌, refl, Bool, true, false, cond, List, [], ◌∷◌, length, Option, None, Result, Ok, Err}
 use Rattle.std.proofs.Common.{sym, subst, ◌∙◌, arith, le-ltb}
 use Rattle.std.proofs.Math.Path.{ap, ap₂}
 use Rattle.std.proofs.Math.Bool.{◌&&◌}
@@ -21,7 +21,7 @@ use Rattle.decode.specs.Trip.{updates_of}
 use Rattle.decode_slots.specs.Index.{index}
 use Rattle.decode_slots.specs.Places.{or_end, held, crowded}
 use Rattle.decode_index.specs.Leaving.{trips, leaving}
-use Rattle.decode_index.specs.declared.Left.{Left}
+use Rattle.decode_index.specs.declared.TooMany.{TooMany}
 use Rattle.decode_index.proofs.Laws.Seven.{is_trips, leaving_seven, leaving_yes}
 use Rattle.decode_index.specs.Promises.Leaving.{Leaves, Old, view_left}
 use Rattle.decode_write.specs.Promises.Slots.{Writable}
@@ -112,8 +112,8 @@ module _ {o h f : List ℕ} {end from body count : ℕ} {known : Bool} (K : Read
 
   -- ---- what the index says
 
-  module _ {s keys marks order : List ℕ} {left : Left} (L : Leaves f s h p.trips keys marks order left) where
-    pub writable : {n v : ℕ} → left ≡ Left.Trips n v → Writable s h keys marks order n
+  module _ {s keys marks order : List ℕ} {left : Result (ℕ × ℕ) TooMany} (L : Leaves f s h p.trips keys marks order left) where
+    pub writable : {n v : ℕ} → left ≡ Ok (n, v) → Writable s h keys marks order n
     writable e = record { sound = L.sound e; fit = L.fit e; calm = L.calm e }
 
     module _ {t : Tree} (is : tree schema.feed feed_message s ≡ some t) where
@@ -125,10 +125,10 @@ module _ {o h f : List ℕ} {end from body count : ℕ} {known : Bool} (K : Read
           L.of (trips_of was) front.till front.trips_here
           ∙ ap₂ (λ m T. leaving (leaves f m T)) (ap or_end is) (puts_itself texts_order (trips_of was) up)
 
-      left_trips : {n v : ℕ} → left ≡ Left.Trips n v → leaving after ≡ trips (held s h (index keys marks order n))
+      left_trips : {n v : ℕ} → left ≡ Ok (n, v) → leaving after ≡ trips (held s h (index keys marks order n))
       left_trips d = sym left_is ∙ ap (view_left (λ n. held s h (index keys marks order n))) d
 
-      held_is : {n v : ℕ} → left ≡ Left.Trips n v → held s h (index keys marks order n) ≡ after
+      held_is : {n v : ℕ} → left ≡ Ok (n, v) → held s h (index keys marks order n) ≡ after
       held_is {n} d =
           let x = left_trips d in
           let y : leaving after ≡ trips after = (leaving_yes after).0 (leaving_seven after ∙ ap is_trips x) in
@@ -149,14 +149,18 @@ module _ {o h f : List ℕ} {end from body count : ℕ} {known : Bool} (K : Read
         of_open K.opened (λ t is.
         over_seven (after_message f t st) (seven_is is ∙ ap is_trips (sym (left_is is)) ∙ d))
 
-    pub many_trips : {l : List ℕ} → left ≡ Left.ManyTrips → Leads l l None f s o
+    pub many_trips : {l : List ℕ} → left ≡ Err TooMany.Trips → Leads l l None f s o
     many_trips e = too_many (ap (λ x. is_trips (view_left (λ n. held s h (index keys marks order n)) x)) e)
 
-    pub many_updates : {l : List ℕ} → left ≡ Left.ManyUpdates → Leads l l None f s o
+    pub many_updates : {l : List ℕ} → left ≡ Err TooMany.Updates → Leads l l None f s o
     many_updates e = too_many (ap (λ x. is_trips (view_left (λ n. held s h (index keys marks order n)) x)) e)
 
+    pub many : {l : List ℕ} (x : TooMany) → left ≡ Err x → Leads l l None f s o
+    many TooMany.Trips e = many_trips e
+    many TooMany.Updates e = many_updates e
+
     -- the trips are written
-    pub exchanged : {l m : List ℕ} {r : Option ℕ} {n v to : ℕ} {q : Parts} → left ≡ Left.Trips n v → ReadsBack h p v q
+    pub exchanged : {l m : List ℕ} {r : Option ℕ} {n v to : ℕ} {q : Parts} → left ≡ Ok (n, v) → ReadsBack h p v q
         → to ≡ cond known q.end from
         → ((st : State) (F : Feed) (a e : ℕ) (t : Tree) → Spot o end st f from to count → PartsOf h F a e q
         → tree schema.feed feed_message s ≡ some t
