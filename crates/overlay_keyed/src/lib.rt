@@ -13,18 +13,11 @@ ghost use Rattle.overlay_noted.specs.Promises.Noting.{Unless, EntriesPut, TripsP
 ghost use Rattle.overlay_keys.specs.Promises.Piece.{bytes, Inside};
 ghost use Rattle.overlay_keyed.specs.Promises.Trips.{entry_good, plain, is_count, trips_good};
 
-
+// Whether '@' is in a text.
 fn has_at(v: &[u8]) -> bool
     ensures { result ≡ has_byte 64 v.now }
 {
-    let mut i = 0;
-    while i < v.len() {
-        if v[i] == 64 {
-            return true;
-        }
-        i += 1;
-    }
-    false
+    v.contains(&b'@')
 }
 
 // What the key from a up to e adds to the count. `marked`: the feed's id has an '@', and so every key.
@@ -45,12 +38,8 @@ fn adds(marked: bool, feed: &[u8], old: &[u8], a: usize, e: usize) -> u64
 fn trip_entry(feed: &[u8], old: &[u8], at: usize) -> Option<(usize, usize, usize)>
     ensures { Entered 137 printable (entry_good feed.now) old.now at result }
 {
-    let Some((a, e)) = formats_check::printable_at(137, old, at) else {
-        return None;
-    };
-    let Some(q) = overlay_trip::trip(old, e) else {
-        return None;
-    };
+    let (a, e) = formats_check::printable_at(137, old, at)?;
+    let q = overlay_trip::trip(old, e)?;
     if overlay_keys::key_ok(feed, old, a, e) {
         return Some((a, e, q));
     }
@@ -79,15 +68,12 @@ fn trips_from(
 {
     let mut p = at;
     let mut i = base;
-    let mut left = n;
     let mut first = true;
     let mut b: usize = 0;
     let mut d: usize = 0;
     let mut m: u64 = 0;
-    while 0 < left {
-        let Some((a, e, q)) = trip_entry(feed, old, p) else {
-            return None;
-        };
+    for _ in 0..n {
+        let (a, e, q) = trip_entry(feed, old, p)?;
         if !formats_check::follows(first, old, b, d, a, e) {
             return None;
         }
@@ -98,7 +84,6 @@ fn trips_from(
         first = false;
         b = a;
         d = e;
-        left -= 1;
     }
     if c == m {
         return Some(p);
@@ -110,15 +95,20 @@ fn trips_from(
 }
 
 // The trips of the feed whose count is c. Their places are noted from `base` on.
-pub fn trips(c: u64, feed: &[u8], old: &[u8], at: usize, noted: &mut [u32], base: usize) -> Option<usize>
+pub fn trips(
+    c: u64,
+    feed: &[u8],
+    old: &[u8],
+    at: usize,
+    noted: &mut [u32],
+    base: usize,
+) -> Option<usize>
     requires { base ≤ 6144 }
     ensures tested { Tested (list 2048 trip_entry) (trips_good feed.now c) old.now at result }
     ensures unless { Unless result None (TripsPut old.now at base noted.old
         noted.new) }
 {
-    let Some((n, p)) = formats_check::number_at(old, at) else {
-        return None;
-    };
+    let (n, p) = formats_check::number_at(old, at)?;
     if 2048 < n {
         return None;
     }

@@ -17,7 +17,7 @@ fn byte(x: u64, old: &[u8], at: usize, e: usize) -> Option<usize>
     if e <= at {
         return None;
     }
-    if formats::wide(old[at]) == x {
+    if u64::from(old[at]) == x {
         return Some(at + 1);
     }
     None
@@ -48,9 +48,7 @@ fn decimal(k: u32, n: u64, old: &[u8], at: usize, e: usize) -> Option<usize>
     if n < 10 {
         return byte(48 + n, old, at, e);
     }
-    let Some(m) = decimal(k - 1, n / 10, old, at, e) else {
-        return None;
-    };
+    let m = decimal(k - 1, n / 10, old, at, e)?;
     byte(48 + n % 10, old, m, e)
 }
 
@@ -59,16 +57,11 @@ fn direction(old: &[u8], y: usize, at: usize, e: usize) -> Option<usize>
     requires { Inside old.now at e }
     ensures { Direction old.now y at e result }
 {
-    if old.len() <= y {
-        return None;
-    }
-    let c = old[y];
+    let c = *old.get(y)?;
     if c == 0 {
         return Some(at);
     }
-    let Some((n, p)) = number_at(old, y + 1) else {
-        return None;
-    };
+    let (n, p) = number_at(old, y + 1)?;
     decimal(10, n, old, at, e)
 }
 
@@ -81,12 +74,8 @@ fn route(feed: &[u8], old: &[u8], x: usize, y: usize, at: usize, e: usize) -> Op
     if x == y {
         return Some(at);
     }
-    let Some(p) = piece(feed, old, at, e) else {
-        return None;
-    };
-    let Some(q) = byte(58, old, p, e) else {
-        return None;
-    };
+    let p = piece(feed, old, at, e)?;
+    let q = byte(58, old, p, e)?;
     piece(&old[x..y], old, q, e)
 }
 
@@ -95,15 +84,9 @@ fn head(feed: &[u8], old: &[u8], x: usize, y: usize, at: usize, e: usize) -> Opt
     requires inside_2 { Inside old.now at e }
     ensures { Head feed.now old.now x y at e result }
 {
-    let Some(p) = piece(b"#r=", old, at, e) else {
-        return None;
-    };
-    let Some(q) = route(feed, old, x, y, p, e) else {
-        return None;
-    };
-    let Some(u) = piece(b"&d=", old, q, e) else {
-        return None;
-    };
+    let p = piece(b"#r=", old, at, e)?;
+    let q = route(feed, old, x, y, p, e)?;
+    let u = piece(b"&d=", old, q, e)?;
     direction(old, y, u, e)
 }
 
@@ -113,15 +96,9 @@ fn tail(old: &[u8], b: usize, d: usize, u: usize, v: usize, at: usize, e: usize)
     requires inside_3 { Inside old.now at e }
     ensures { Tail old.now b d u v at e result }
 {
-    let Some(p) = piece(b"&sd=", old, at, e) else {
-        return None;
-    };
-    let Some(q) = piece(&old[b..d], old, p, e) else {
-        return None;
-    };
-    let Some(w) = piece(b"&st=", old, q, e) else {
-        return None;
-    };
+    let p = piece(b"&sd=", old, at, e)?;
+    let q = piece(&old[b..d], old, p, e)?;
+    let w = piece(b"&st=", old, q, e)?;
     piece(&old[u..v], old, w, e)
 }
 

@@ -22,26 +22,18 @@ use overlay_noted::note_parts;
 fn timestamp(old: &[u8], at: usize) -> Option<usize>
     ensures { Fine timestamp old.now at result }
 {
-    match number_at(old, at) {
-        Some((n, p)) => Some(p),
-        None => None,
-    }
+    let (n, p) = number_at(old, at)?;
+    Some(p)
 }
 
 fn optional_timestamp(old: &[u8], at: usize) -> Option<usize>
     ensures { Fine (optional timestamp) old.now at result }
 {
-    if old.len() <= at {
-        return None;
+    match old.get(at)? {
+        0 => Some(at + 1),
+        1 => timestamp(old, at + 1),
+        _ => None,
     }
-    let c = old[at];
-    if c == 0 {
-        return Some(at + 1);
-    }
-    if c == 1 {
-        return timestamp(old, at + 1);
-    }
-    None
 }
 
 // Trips, vehicles and alerts of the feed whose count is c, at rank r, with its entry at `entry`.
@@ -59,41 +51,47 @@ fn records(
     ensures unless { Unless result None (RecordsPut records (λ v. v) old.now at r entry
         noted.old noted.new) }
 {
-    let Some(p) = overlay_keyed::trips(c, id, old, at, noted, 2048 * r) else {
-        return None;
-    };
-    let Some(q) = overlay_records::vehicles(old, p) else {
-        return None;
-    };
+    let p = overlay_keyed::trips(c, id, old, at, noted, 2048 * r)?;
+    let q = overlay_records::vehicles(old, p)?;
     let n = formats_read::number(old, at);
     note_parts(noted, r, entry, n.value as usize, p, q);
     overlay_records::alerts(old, q)
 }
 
-fn counted(id: &[u8], old: &[u8], at: usize, noted: &mut [u32], r: usize, entry: usize) -> Option<usize>
+fn counted(
+    id: &[u8],
+    old: &[u8],
+    at: usize,
+    noted: &mut [u32],
+    r: usize,
+    entry: usize,
+) -> Option<usize>
     requires { r < 4 }
     ensures tested { Tested counted (counted_good id.now) old.now at result }
     ensures unless { Unless result None (RecordsPut counted (λ v. v.1) old.now at r entry
         noted.old noted.new) }
 {
-    let Some((c, p)) = number_at(old, at) else {
-        return None;
-    };
+    let (c, p) = number_at(old, at)?;
     if 2048 < c {
         return None;
     }
     records(c, id, old, p, noted, r, entry)
 }
 
-fn feed(id: &[u8], old: &[u8], at: usize, noted: &mut [u32], r: usize, entry: usize) -> Option<usize>
+fn feed(
+    id: &[u8],
+    old: &[u8],
+    at: usize,
+    noted: &mut [u32],
+    r: usize,
+    entry: usize,
+) -> Option<usize>
     requires { r < 4 }
     ensures tested { Tested feed (feed_good id.now) old.now at result }
     ensures unless { Unless result None (RecordsPut feed (λ v. v.1.1) old.now at r entry
         noted.old noted.new) }
 {
-    let Some(p) = optional_timestamp(old, at) else {
-        return None;
-    };
+    let p = optional_timestamp(old, at)?;
     counted(id, old, p, noted, r, entry)
 }
 
@@ -103,13 +101,9 @@ fn feed_entry(old: &[u8], at: usize, noted: &mut [u32], r: usize) -> Option<(usi
     ensures entered { Entered 16 token entry_good old.now at result }
     ensures unless { Unless result None (FeedPut old.now at r noted.old noted.new) }
 {
-    let Some((a, e)) = formats_check::text_at(2, 16, old, at) else {
-        return None;
-    };
-    match feed(&old[a..e], old, e, noted, r, at) {
-        Some(q) => Some((a, e, q)),
-        None => None,
-    }
+    let (a, e) = formats_check::text_at(2, 16, old, at)?;
+    let q = feed(&old[a..e], old, e, noted, r, at)?;
+    Some((a, e, q))
 }
 
 // n feeds one after another, ascending by id: the walk keeps the place of the last id.
@@ -121,15 +115,11 @@ fn feeds_from(n: u64, old: &[u8], at: usize, noted: &mut [u32]) -> Option<usize>
         noted.new) }
 {
     let mut p = at;
-    let mut left = n;
-    let mut r = 0;
     let mut first = true;
     let mut b: usize = 0;
     let mut d: usize = 0;
-    while 0 < left {
-        let Some((a, e, q)) = feed_entry(old, p, noted, r) else {
-            return None;
-        };
+    for r in 0..n {
+        let (a, e, q) = feed_entry(old, p, noted, r as usize)?;
         if !formats_check::follows(first, old, b, d, a, e) {
             return None;
         }
@@ -137,8 +127,6 @@ fn feeds_from(n: u64, old: &[u8], at: usize, noted: &mut [u32]) -> Option<usize>
         first = false;
         b = a;
         d = e;
-        r += 1;
-        left -= 1;
     }
     Some(p)
 }
@@ -148,9 +136,7 @@ fn feeds(old: &[u8], at: usize, noted: &mut [u32]) -> Option<usize>
     ensures unless { Unless result None (HeldPut (list 4 feed_entry) (λ v. v) old.now at
         noted.old noted.new) }
 {
-    let Some((n, p)) = number_at(old, at) else {
-        return None;
-    };
+    let (n, p) = number_at(old, at)?;
     if 4 < n {
         return None;
     }
@@ -163,12 +149,8 @@ fn state(old: &[u8], at: usize, noted: &mut [u32]) -> Option<usize>
     ensures unless { Unless result None (HeldPut overlay feeds_of old.now at noted.old
         noted.new) }
 {
-    let Some(p) = formats::given(old, at, 1) else {
-        return None;
-    };
-    let Some((v, q)) = number_at(old, p) else {
-        return None;
-    };
+    let p = formats::given(old, at, 1)?;
+    let (v, q) = number_at(old, p)?;
     feeds(old, q, noted)
 }
 
@@ -177,9 +159,7 @@ pub fn open_noted(old: &[u8], noted: &mut [u32]) -> Option<usize>
     ensures value { result ≡ ending (state_of old.now) }
     ensures notes { Notes old.now noted.old noted.new result }
 {
-    let Some(p) = state(old, 0, noted) else {
-        return None;
-    };
+    let p = state(old, 0, noted)?;
     if slices::all_zero(&old[p..]) {
         return Some(p);
     }

@@ -12,39 +12,28 @@ ghost use Rattle.alerts.specs.Alert.{alert, ids};
 ghost use Rattle.overlay.specs.State.{vehicle, vehicle_entry};
 ghost use Rattle.overlay_records.specs.Promises.Vehicles.{vehicle_good, vehicles_good};
 
-
 // Where a vehicle is, and when that was.
 fn position(old: &[u8], at: usize) -> Option<usize>
     ensures { Fine (float & float & instant) old.now at result }
 {
-    let Some(p) = formats_check::float(old, at) else {
-        return None;
-    };
-    let Some(q) = formats_check::float(old, p) else {
-        return None;
-    };
+    let p = formats_check::float(old, at)?;
+    let q = formats_check::float(old, p)?;
     overlay_trip::instant(old, q)
 }
 
 fn vehicle(old: &[u8], at: usize) -> Option<usize>
     ensures { Fine vehicle old.now at result }
 {
-    let Some(p) = formats_check::optional_printable(64, old, at) else {
-        return None;
-    };
+    let p = formats_check::optional_printable(64, old, at)?;
     position(old, p)
 }
 
 fn vehicle_entry(old: &[u8], at: usize) -> Option<(usize, usize, usize)>
     ensures { Entered 64 printable vehicle_good old.now at result }
 {
-    let Some((a, e)) = formats_check::printable_at(64, old, at) else {
-        return None;
-    };
-    match vehicle(old, e) {
-        Some(q) => Some((a, e, q)),
-        None => None,
-    }
+    let (a, e) = formats_check::printable_at(64, old, at)?;
+    let q = vehicle(old, e)?;
+    Some((a, e, q))
 }
 
 // n vehicles one after another, ascending by key: the walk keeps the place of the last key.
@@ -53,14 +42,11 @@ fn vehicles_from(n: u64, old: &[u8], at: usize) -> Option<usize>
     ensures { Climbs 64 printable vehicle_good weightless (whatever n) n old.now at result }
 {
     let mut p = at;
-    let mut left = n;
     let mut first = true;
     let mut b: usize = 0;
     let mut d: usize = 0;
-    while 0 < left {
-        let Some((a, e, q)) = vehicle_entry(old, p) else {
-            return None;
-        };
+    for _ in 0..n {
+        let (a, e, q) = vehicle_entry(old, p)?;
         if !formats_check::follows(first, old, b, d, a, e) {
             return None;
         }
@@ -68,7 +54,6 @@ fn vehicles_from(n: u64, old: &[u8], at: usize) -> Option<usize>
         first = false;
         b = a;
         d = e;
-        left -= 1;
     }
     Some(p)
 }
@@ -76,9 +61,7 @@ fn vehicles_from(n: u64, old: &[u8], at: usize) -> Option<usize>
 pub fn vehicles(old: &[u8], at: usize) -> Option<usize>
     ensures { Tested (list 1024 vehicle_entry) vehicles_good old.now at result }
 {
-    let Some((n, p)) = formats_check::number_at(old, at) else {
-        return None;
-    };
+    let (n, p) = formats_check::number_at(old, at)?;
     if 1024 < n {
         return None;
     }
@@ -89,12 +72,8 @@ pub fn vehicles(old: &[u8], at: usize) -> Option<usize>
 fn informed(old: &[u8], at: usize) -> Option<usize>
     ensures { Fine (ids & ids & ids) old.now at result }
 {
-    let Some(p) = formats_check::printables(32, 64, old, at) else {
-        return None;
-    };
-    let Some(q) = formats_check::printables(32, 64, old, p) else {
-        return None;
-    };
+    let p = formats_check::printables(32, 64, old, at)?;
+    let q = formats_check::printables(32, 64, old, p)?;
     formats_check::printables(32, 64, old, q)
 }
 
@@ -102,15 +81,9 @@ fn informed(old: &[u8], at: usize) -> Option<usize>
 fn alert(old: &[u8], at: usize) -> Option<usize>
     ensures { Fine alert old.now at result }
 {
-    let Some(p) = formats_check::optional_text(3, 512, old, at) else {
-        return None;
-    };
-    let Some(q) = formats_check::optional_text(3, 2048, old, p) else {
-        return None;
-    };
-    let Some(u) = formats_check::optional_text(3, 64, old, q) else {
-        return None;
-    };
+    let p = formats_check::optional_text(3, 512, old, at)?;
+    let q = formats_check::optional_text(3, 2048, old, p)?;
+    let u = formats_check::optional_text(3, 64, old, q)?;
     informed(old, u)
 }
 
@@ -120,13 +93,8 @@ fn alerts_from(n: u64, old: &[u8], at: usize) -> Option<usize>
     ensures { Each alert n old.now at result }
 {
     let mut p = at;
-    let mut left = n;
-    while 0 < left {
-        let Some(q) = alert(old, p) else {
-            return None;
-        };
-        p = q;
-        left -= 1;
+    for _ in 0..n {
+        p = alert(old, p)?;
     }
     Some(p)
 }
@@ -134,9 +102,7 @@ fn alerts_from(n: u64, old: &[u8], at: usize) -> Option<usize>
 pub fn alerts(old: &[u8], at: usize) -> Option<usize>
     ensures { Fine (list 256 alert) old.now at result }
 {
-    let Some((n, p)) = formats_check::number_at(old, at) else {
-        return None;
-    };
+    let (n, p) = formats_check::number_at(old, at)?;
     if 256 < n {
         return None;
     }

@@ -15,9 +15,7 @@ fn word(old: &[u8], at: usize) -> Option<usize>
     ensures fine { Fine delay old.now at result }
     ensures fine_2 { Fine number32 old.now at result }
 {
-    let Some((n, p)) = number_at(old, at) else {
-        return None;
-    };
+    let (n, p) = number_at(old, at)?;
     if 4294967295 < n {
         return None;
     }
@@ -27,9 +25,7 @@ fn word(old: &[u8], at: usize) -> Option<usize>
 pub fn instant(old: &[u8], at: usize) -> Option<usize>
     ensures { Fine instant old.now at result }
 {
-    let Some((n, p)) = number_five(old, at) else {
-        return None;
-    };
+    let (n, p) = number_five(old, at)?;
     if n % 2 != 0 {
         return None;
     }
@@ -43,45 +39,29 @@ pub fn optional_word(old: &[u8], at: usize) -> Option<usize>
     ensures fine { Fine (optional delay) old.now at result }
     ensures fine_2 { Fine (optional number32) old.now at result }
 {
-    if old.len() <= at {
-        return None;
+    match old.get(at)? {
+        0 => Some(at + 1),
+        1 => word(old, at + 1),
+        _ => None,
     }
-    let c = old[at];
-    if c == 0 {
-        return Some(at + 1);
-    }
-    if c == 1 {
-        return word(old, at + 1);
-    }
-    None
 }
 
 fn optional_instant(old: &[u8], at: usize) -> Option<usize>
     ensures { Fine (optional instant) old.now at result }
 {
-    if old.len() <= at {
-        return None;
+    match old.get(at)? {
+        0 => Some(at + 1),
+        1 => instant(old, at + 1),
+        _ => None,
     }
-    let c = old[at];
-    if c == 0 {
-        return Some(at + 1);
-    }
-    if c == 1 {
-        return instant(old, at + 1);
-    }
-    None
 }
 
 // Delay and time of one event, and what follows them in a stop's update.
 fn departure(old: &[u8], at: usize) -> Option<usize>
     ensures { Fine (optional delay & optional instant & small 1) old.now at result }
 {
-    let Some(p) = optional_word(old, at) else {
-        return None;
-    };
-    let Some(q) = optional_instant(old, p) else {
-        return None;
-    };
+    let p = optional_word(old, at)?;
+    let q = optional_instant(old, p)?;
     at_most(1, old, q)
 }
 
@@ -89,21 +69,15 @@ fn arrival(old: &[u8], at: usize) -> Option<usize>
     ensures { Fine (optional delay & optional instant & optional delay & optional instant & small 1)
         old.now at result }
 {
-    let Some(p) = optional_word(old, at) else {
-        return None;
-    };
-    let Some(q) = optional_instant(old, p) else {
-        return None;
-    };
+    let p = optional_word(old, at)?;
+    let q = optional_instant(old, p)?;
     departure(old, q)
 }
 
 fn stop_update(old: &[u8], at: usize) -> Option<usize>
     ensures { Fine stop_update old.now at result }
 {
-    let Some(p) = printable(64, old, at) else {
-        return None;
-    };
+    let p = printable(64, old, at)?;
     arrival(old, p)
 }
 
@@ -113,24 +87,17 @@ fn updates_from(n: u64, old: &[u8], at: usize) -> Option<usize>
     ensures { Rises 4294967295 stop_update 0 n old.now at result }
 {
     let mut p = at;
-    let mut left = n;
     let mut low: u64 = 0;
-    while 0 < left {
-        let Some((k, q)) = number_at(old, p) else {
-            return None;
-        };
+    for _ in 0..n {
+        let (k, q) = number_at(old, p)?;
         if k < low {
             return None;
         }
         if 4294967295 < k {
             return None;
         }
-        let Some(e) = stop_update(old, q) else {
-            return None;
-        };
-        p = e;
+        p = stop_update(old, q)?;
         low = k + 1;
-        left -= 1;
     }
     Some(p)
 }
@@ -140,9 +107,7 @@ fn updates(old: &[u8], at: usize) -> Option<usize>
     ensures { Checked (list 128 (number32 & stop_update)) (ascend 128 4294967295 stop_update)
         old.now at result }
 {
-    let Some((n, p)) = number_long(old, at) else {
-        return None;
-    };
+    let (n, p) = number_long(old, at)?;
     if 128 < n {
         return None;
     }
@@ -153,9 +118,7 @@ fn updates(old: &[u8], at: usize) -> Option<usize>
 fn from_time(old: &[u8], at: usize) -> Option<usize>
     ensures { Tested (time & list 128 (number32 & stop_update)) time_good old.now at result }
 {
-    let Some(p) = printable(16, old, at) else {
-        return None;
-    };
+    let p = printable(16, old, at)?;
     updates(old, p)
 }
 
@@ -163,26 +126,16 @@ fn from_route(old: &[u8], at: usize) -> Option<usize>
     ensures { Tested (id & optional number32 & time & list 128 (number32 & stop_update)) route_good
         old.now at result }
 {
-    let Some(p) = printable(64, old, at) else {
-        return None;
-    };
-    let Some(q) = optional_word(old, p) else {
-        return None;
-    };
+    let p = printable(64, old, at)?;
+    let q = optional_word(old, p)?;
     from_time(old, q)
 }
 
 pub fn trip(old: &[u8], at: usize) -> Option<usize>
     ensures { Tested trip trip_good old.now at result }
 {
-    let Some(p) = optional_word(old, at) else {
-        return None;
-    };
-    let Some(q) = at_most(1, old, p) else {
-        return None;
-    };
-    let Some(u) = printable(16, old, q) else {
-        return None;
-    };
+    let p = optional_word(old, at)?;
+    let q = at_most(1, old, p)?;
+    let u = printable(16, old, q)?;
     from_route(old, u)
 }

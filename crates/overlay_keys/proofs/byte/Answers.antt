@@ -5,8 +5,8 @@ use Rattle.overlay_keys.proofs.byte.Goals as goal
 pub returns-then-e-at : goal.returns-then-e-at
 returns-then-e-at c = search byte_end
 
-pub returns-then-wide-x : goal.returns-then-wide-x
-returns-then-wide-x c = search byte_so
+pub returns-then-from-x : goal.returns-then-from-x
+returns-then-from-x c = search byte_so
 
 pub returns : goal.returns
 returns c = search byte_other

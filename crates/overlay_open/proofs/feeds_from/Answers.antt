@@ -1,58 +1,64 @@
 -- `overlay_open::feeds_from` meets its contract.
 use mathlib.Core.Path.{◌≡◌}
-use Prim.Native.Nat.{◌≤◌, ◌+◌}
+use Prim.Native.Nat.{◌≤◌, ◌+◌, ◌-◌, ◌<◌}
 use native.Mathlib.Omega.{arith}
-use lib.ListN.{length}
-use borrow.Author.Tests.{not-true, not-false}
-use Rattle.formats.specs.Class.{token}
-use Rattle.formats_check.specs.Laws.Climbing.{known, Climbing, weightless, whatever, climbing_start, climbing_bad}
+use Rattle.formats_check.specs.Laws.Climbing.{climbing_start, climbing_bad}
 use Rattle.formats_check.specs.Laws.Climbing.{climbing_order, climbing_on, climbing_end, entered_forward, entered_in}
 use Rattle.formats_check.specs.Laws.Climbing.{entered_past}
 use Rattle.overlay_noted.specs.Laws.Passes.{unless_no}
-use Rattle.overlay_open.specs.Promises.State.{entry_good}
-use Rattle.overlay_open.specs.Laws.Feeds.{Feeding, feeding_start, feeding_on, feeding_end}
+use Rattle.overlay_open.specs.Laws.Feeds.{feeding_start, feeding_on, feeding_end}
 use borrow.Author.Rules.{rules}
 use Rattle.overlay_open.proofs.feeds_from.Goals as goal
 
-pub loop-left-init : goal.loop-left-init
-loop-left-init c = (
-  search rules,
-  search rules,
-  search rules,
-  search rules,
-  search rules,
-  search climbing_start,
-  feeding_start,
-)
+pub loop-r-init : goal.loop-r-init
+loop-r-init c =
+    let all : c.args.n - 0 ≡ c.args.n = omega arith in (
+      search rules,
+      search rules,
+      search rules,
+      search rules,
+      rw all (search climbing_start),
+      rw all feeding_start,
+    )
 
-pub returns-in_default-clause-climbs : goal.returns-in_default-clause-climbs
-returns-in_default-clause-climbs c = search climbing_bad
+pub returns-in_err-a-clause-climbs : goal.returns-in_err-a-clause-climbs
+returns-in_err-a-clause-climbs c =
+    let more : 0 < c.args.n - c.loop-r.r = omega arith in
+    rw c.from_residual.ensures (search (climbing_bad, c.in_err-a.was))
 
-pub returns-in_default-clause-unless : goal.returns-in_default-clause-unless
-returns-in_default-clause-unless c = unless_no
+pub returns-in_err-a-clause-unless : goal.returns-in_err-a-clause-unless
+returns-in_err-a-clause-unless c = rw c.from_residual.ensures unless_no
 
 pub follows-requires : goal.follows-requires
-follows-requires c = (omega arith, omega arith, search entered_forward, search entered_in)
+follows-requires c =
+    (omega arith, omega arith, search (entered_forward, c.in_ok-a.was), search (entered_in, c.in_ok-a.was))
 
 pub returns-then-not-follows-clause-climbs : goal.returns-then-not-follows-clause-climbs
-returns-then-not-follows-clause-climbs c = search (climbing_order, not-true)
+returns-then-not-follows-clause-climbs c =
+    let more : 0 < c.args.n - c.loop-r.r = omega arith in
+    search (climbing_order, c.in_ok-a.was)
 
 pub returns-then-not-follows-clause-unless : goal.returns-then-not-follows-clause-unless
 returns-then-not-follows-clause-unless c = unless_no
 
-pub loop-left-preserved : goal.loop-left-preserved
-loop-left-preserved c = (
-  search entered_past,
-  search entered_forward,
-  search entered_in,
-  search rules,
-  search rules,
-  search (climbing_on, not-false),
-  search feeding_on,
-)
+pub loop-r-preserved : goal.loop-r-preserved
+loop-r-preserved c =
+    let more : 0 < c.args.n - c.loop-r.r = omega arith in
+    let one : c.args.n - (c.loop-r.r + 1) ≡ c.args.n - c.loop-r.r - 1 = omega arith in (
+      search (entered_past, c.in_ok-a.was),
+      search (entered_forward, c.in_ok-a.was),
+      search (entered_in, c.in_ok-a.was),
+      search rules,
+      rw one (search (climbing_on, c.in_ok-a.was)),
+      rw one (search (feeding_on, c.in_ok-a.was)),
+    )
 
 pub returns-clause-climbs : goal.returns-clause-climbs
-returns-clause-climbs c = search climbing_end
+returns-clause-climbs c =
+    let done : c.args.n - c.loop-r.r ≤ 0 = omega arith in
+    search climbing_end
 
 pub returns-clause-unless : goal.returns-clause-unless
-returns-clause-unless c = search feeding_end
+returns-clause-unless c =
+    let done : c.args.n - c.loop-r.r ≤ 0 = omega arith in
+    search feeding_end

@@ -1,10 +1,9 @@
 -- `overlay_open::timestamp` meets its contract.
 use Rattle.overlay_open.specs.Laws.Feed.{timestamp_no, timestamp_so}
-use borrow.Author.Rules.{rules}
 use Rattle.overlay_open.proofs.timestamp.Goals as goal
 
-pub returns-in-Some : goal.returns-in-Some
-returns-in-Some c = search (timestamp_so, timestamp_no)
+pub returns-in_err-n : goal.returns-in_err-n
+returns-in_err-n c = rw c.from_residual.ensures (search (timestamp_no, c.in_err-n.was))
 
-pub returns-in-None : goal.returns-in-None
-returns-in-None c = search (timestamp_so, timestamp_no)
+pub returns : goal.returns
+returns c = search (timestamp_so, c.in_ok-n.was)

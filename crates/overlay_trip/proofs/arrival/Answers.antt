@@ -2,11 +2,11 @@
 use Rattle.formats_check.specs.Laws.Checked.{then_no, then_so}
 use Rattle.overlay_trip.proofs.arrival.Goals as goal
 
-pub returns-in_default : goal.returns-in_default
-returns-in_default c = search then_no
+pub returns-in_err-p : goal.returns-in_err-p
+returns-in_err-p c = rw c.from_residual.ensures (search (then_no, c.in_err-p.was))
 
-pub returns-in_default-optional_instant : goal.returns-in_default-optional_instant
-returns-in_default-optional_instant c = search (then_so, then_no)
+pub returns-in_err-q : goal.returns-in_err-q
+returns-in_err-q c = rw c.from_residual-in_err-q.ensures (search (then_so, then_no, c.in_ok-p.was, c.in_err-q.was))
 
 pub returns : goal.returns
-returns c = search then_so
+returns c = search (then_so, c.in_ok-p.was, c.in_ok-q.was)

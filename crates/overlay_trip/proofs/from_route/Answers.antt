@@ -2,11 +2,11 @@
 use Rattle.formats_check.specs.Laws.Checked.{behind_no, behind_so}
 use Rattle.overlay_trip.proofs.from_route.Goals as goal
 
-pub returns-in_default : goal.returns-in_default
-returns-in_default c = search behind_no
+pub returns-in_err-p : goal.returns-in_err-p
+returns-in_err-p c = rw c.from_residual.ensures (search (behind_no, c.in_err-p.was))
 
-pub returns-in_default-optional_word : goal.returns-in_default-optional_word
-returns-in_default-optional_word c = search (behind_so, behind_no)
+pub returns-in_err-q : goal.returns-in_err-q
+returns-in_err-q c = rw c.from_residual-in_err-q.ensures (search (behind_so, behind_no, c.in_ok-p.was, c.in_err-q.was))
 
 pub returns : goal.returns
-returns c = search behind_so
+returns c = search (behind_so, c.in_ok-p.was, c.in_ok-q.was)

@@ -1,27 +1,20 @@
 -- `overlay_trip::optional_word` meets its contract.
-use Rattle.formats_check.specs.Laws.Checked.{optional_end, optional_absent, optional_given, optional_other}
+use mathlib.Core.Path.{◌≡◌}
+use Prim.Native.Nat.{◌<◌}
+use native.Mathlib.Omega.{arith}
+use lib.ListN.{length, get_or}
+use Rattle.std.proofs.lemmas.Grind.{common_steps}
+use Rattle.formats_check.specs.Laws.Checked.{optional_given}
 use Rattle.overlay_trip.proofs.optional_word.Goals as goal
 
-pub returns-then-old-at-clause-fine : goal.returns-then-old-at-clause-fine
-returns-then-old-at-clause-fine c = search optional_end
+pub returns-in-1-clause-fine : goal.returns-in-1-clause-fine
+returns-in-1-clause-fine c =
+    let inside : c.args.at < length c.args.old.now = grind (arith, common_steps, c.in_ok-get.ensures) in
+    let byte : c.in_ok-get.field-0.now ≡ get_or c.args.old.now c.args.at 0 = grind (arith, common_steps, c.in_ok-get.ensures) in
+    search (optional_given, inside, byte, c.in-1)
 
-pub returns-then-old-at-clause-fine_2 : goal.returns-then-old-at-clause-fine_2
-returns-then-old-at-clause-fine_2 c = search optional_end
-
-pub returns-then-c-eq0-clause-fine : goal.returns-then-c-eq0-clause-fine
-returns-then-c-eq0-clause-fine c = search optional_absent
-
-pub returns-then-c-eq0-clause-fine_2 : goal.returns-then-c-eq0-clause-fine_2
-returns-then-c-eq0-clause-fine_2 c = search optional_absent
-
-pub returns-then-c-eq1-clause-fine : goal.returns-then-c-eq1-clause-fine
-returns-then-c-eq1-clause-fine c = search optional_given
-
-pub returns-then-c-eq1-clause-fine_2 : goal.returns-then-c-eq1-clause-fine_2
-returns-then-c-eq1-clause-fine_2 c = search optional_given
-
-pub returns-clause-fine : goal.returns-clause-fine
-returns-clause-fine c = search optional_other
-
-pub returns-clause-fine_2 : goal.returns-clause-fine_2
-returns-clause-fine_2 c = search optional_other
+pub returns-in-1-clause-fine_2 : goal.returns-in-1-clause-fine_2
+returns-in-1-clause-fine_2 c =
+    let inside : c.args.at < length c.args.old.now = grind (arith, common_steps, c.in_ok-get.ensures) in
+    let byte : c.in_ok-get.field-0.now ≡ get_or c.args.old.now c.args.at 0 = grind (arith, common_steps, c.in_ok-get.ensures) in
+    search (optional_given, inside, byte, c.in-1)
