@@ -7,47 +7,41 @@ ghost use Rattle.slices.specs.Lists.{lex_of};
 ghost use Rattle.maps.specs.Map.{is_less};
 ghost use Rattle.overlay_ascends.specs.Promises.Ascends.{Ascends};
 
-use std::cmp::Ordering;
+use formats::Span;
 
-
-// Whether the bytes from a up to e come before those from b up to f.
-fn precedes(sheet: &[u8], a: usize, e: usize, b: usize, f: usize) -> bool
-    requires a_le_e { (a ≤ e) × (e ≤ length sheet.now) }
-    requires b_le_f { (b ≤ f) × (f ≤ length sheet.now) }
-    ensures { result ≡ is_less (lex_of (slice a e sheet.now) (slice b f sheet.now)) }
+// Whether the bytes of one key come before those of another.
+fn precedes(sheet: &[u8], before: Span, behind: Span) -> bool
+    requires a_le_e { (before.from ≤ before.to) × (before.to ≤ length sheet.now) }
+    requires b_le_f { (behind.from ≤ behind.to) × (behind.to ≤ length sheet.now) }
+    ensures { result ≡ is_less (lex_of
+        (slice before.from before.to sheet.now)
+        (slice behind.from behind.to sheet.now)) }
 {
-    match slices::compare(&sheet[a..e], &sheet[b..f]) {
-        Ordering::Less => true,
-        Ordering::Equal => false,
-        Ordering::Greater => false,
-    }
+    slices::compare(
+        &sheet[before.from..before.to],
+        &sheet[behind.from..behind.to],
+    )
+    .is_lt()
 }
 
 // Whether the keys of the vehicles whose list stands at `at` ascend.
 pub fn keys_ascend(sheet: &[u8], at: usize) -> bool
     ensures { Ascends sheet.now at result }
 {
-    let n = formats_read::number(sheet, at);
-    let first = n.next;
-    let count = n.value;
-    if count == 0 {
+    let count = formats_read::number(sheet, at);
+    if count.value == 0 {
         return true;
     }
-    let x = formats_read::text(sheet, first);
-    let mut a = x.from;
-    let mut e = x.to;
+    let first = count.next;
+    let mut before = formats_read::text(sheet, first);
     let mut p = overlay_skip::past_vehicle_entry(sheet, first);
-    let mut left = count - 1;
-    while 0 < left {
-        let y = formats_read::text(sheet, p);
-        if precedes(sheet, a, e, y.from, y.to) {
-            a = y.from;
-            e = y.to;
-            p = overlay_skip::past_vehicle_entry(sheet, p);
-            left -= 1;
-        } else {
+    for _ in 1..count.value {
+        let key = formats_read::text(sheet, p);
+        if !precedes(sheet, before, key) {
             return false;
         }
+        before = key;
+        p = overlay_skip::past_vehicle_entry(sheet, p);
     }
     true
 }

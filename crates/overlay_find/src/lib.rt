@@ -12,13 +12,13 @@ ghost use Rattle.overlay_find.specs.Promises.Finds.{Finds};
 ghost use Rattle.overlay_find.specs.Promises.Texts.{RouteIs, DirectionIs, Described, descriptor_test};
 
 use std::cmp::Ordering;
-use formats::Span;
 
 // The record at the rest of a key, among the trips of the feed at rank r: found by halving.
 fn rest_at(old: &[u8], noted: &[u32], r: usize, rest: &[u8]) -> Option<usize>
     requires { RankNoted old.now noted.now r }
     ensures { Finds (get texts rest.now) old.now noted.now r result }
 {
+    // Halved by hand: `binary_search_by` over the noted words would read a text in its closure, and be no plainer.
     let mut lo = 0;
     let mut hi = overlay_places::trip_count(noted, r);
     while lo < hi {
@@ -61,23 +61,19 @@ pub fn get_trip(old: &[u8], noted: &[u32], r: usize, feed: &[u8], key: &[u8]) ->
     requires { RankNoted old.now noted.now r }
     ensures { Finds (get_trip feed.now key.now) old.now noted.now r result }
 {
-    match trip_at(old, noted, r, feed, key) {
-        Some(p) => Some(p),
-        None => match overlay_ids::last_at(key) {
-            Some(k) => trip_at(old, noted, r, feed, &key[..k]),
-            None => None,
-        },
+    if let Some(p) = trip_at(old, noted, r, feed, key) {
+        return Some(p);
     }
+    let end = overlay_ids::last_at(key)?;
+    trip_at(old, noted, r, feed, &key[..end])
 }
 
 // Whether the route at `at` is the leg's.
 fn route_is(old: &[u8], at: usize, feed: &[u8], leg: &[u8]) -> bool
     ensures { RouteIs old.now at feed.now leg.now result }
 {
-    let t: Span = formats_read::text(old, at);
-    let from = t.from;
-    let to = t.to;
-    overlay_ids::route_fits(feed, &old[from..to], leg)
+    let t = formats_read::text(old, at);
+    overlay_ids::route_fits(feed, &old[t.from..t.to], leg)
 }
 
 // A leg without direction meets any; with one, a record of the same.
@@ -86,10 +82,7 @@ fn direction_is(old: &[u8], at: usize, direction: Option<u64>) -> bool
 {
     match direction {
         None => true,
-        Some(n) => match formats_read::optional_number(old, at) {
-            None => false,
-            Some(m) => n == m,
-        },
+        Some(_) => direction == formats_read::optional_number(old, at),
     }
 }
 
@@ -149,13 +142,11 @@ pub fn by_descriptor(
         old.now noted.now r result }
 {
     let n = overlay_places::trip_count(noted, r);
-    let mut i = 0;
-    while i < n {
+    for i in 0..n {
         let p = overlay_places::trip_place(noted, r, i);
         if descriptor_is(old, p, feed, leg, direction, date) {
             return Some(formats_skip::past_text(old, p));
         }
-        i += 1;
     }
     None
 }

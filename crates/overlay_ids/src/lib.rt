@@ -9,24 +9,20 @@ ghost use Rattle.overlay_ids.specs.Promises.Ids.{RouteFits, StopFits};
 pub fn feed_end(id: &[u8]) -> usize
     ensures { FeedEnd id.now result }
 {
-    let mut i = 0;
-    while i < id.len() {
-        if id[i] == 58 {
+    for i in 0..id.len() {
+        if id[i] == b':' {
             return i;
         }
-        i += 1;
     }
-    i
+    id.len()
 }
 
 // The last '@' of a key.
 pub fn last_at(key: &[u8]) -> Option<usize>
     ensures { LastAt key.now result }
 {
-    let mut i = key.len();
-    while 0 < i {
-        i -= 1;
-        if key[i] == 64 {
+    for i in (0..key.len()).rev() {
+        if key[i] == b'@' {
             return Some(i);
         }
     }
@@ -44,7 +40,7 @@ pub fn same_joined(feed: &[u8], rest: &[u8], key: &[u8]) -> bool
     if key.len() - n - 1 != rest.len() {
         return false;
     }
-    if key[n] != 58 {
+    if key[n] != b':' {
         return false;
     }
     let p = n + 1;
@@ -62,7 +58,7 @@ pub fn ends_colon(id: &[u8], s: &[u8]) -> bool
         return false;
     }
     let p = s.len() - id.len();
-    if s[p - 1] != 58 {
+    if s[p - 1] != b':' {
         return false;
     }
     slices::same(id, &s[p..])
@@ -83,7 +79,7 @@ pub fn ends_joined(feed: &[u8], rest: &[u8], leg: &[u8]) -> bool
         return false;
     }
     let p = m - 1 - rest.len();
-    if leg[p - 1] != 58 {
+    if leg[p - 1] != b':' {
         return false;
     }
     same_joined(feed, rest, &leg[p..])

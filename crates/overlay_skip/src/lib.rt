@@ -25,12 +25,10 @@ pub fn past_vehicle_entry(old: &[u8], at: usize) -> usize
 pub fn past_vehicles(old: &[u8], at: usize) -> usize
     ensures { Passes (list 1024 vehicle_entry) old.now at result }
 {
-    let n = formats_read::number(old, at);
-    let mut p = n.next;
-    let mut left = n.value;
-    while 0 < left {
+    let count = formats_read::number(old, at);
+    let mut p = count.next;
+    for _ in 0..count.value {
         p = past_vehicle_entry(old, p);
-        left -= 1;
     }
     p
 }

@@ -8,31 +8,26 @@ ghost use Rattle.overlay_seek.specs.Promises.Answers.{Seeks};
 ghost use Rattle.overlay_updates.specs.Promises.Updates.{StopTold, numbered, stopping};
 ghost use Rattle.overlay_updates.specs.Promises.Updates.{BySequence, ByStop, FindsUpdate};
 
-
 // Whether the stop of the update at `at` is the card's stop.
 fn stop_told(old: &[u8], at: usize, feed: &[u8], stop: &[u8]) -> bool
     ensures { StopTold old.now at feed.now stop.now result }
 {
     let t = formats_read::text(old, at);
-    let from = t.from;
-    let to = t.to;
-    overlay_ids::stop_fits(feed, &old[from..to], stop)
+    overlay_ids::stop_fits(feed, &old[t.from..t.to], stop)
 }
 
 // Of the updates at `at` the first of sequence n.
 fn sequence_in(old: &[u8], at: usize, n: u64) -> Option<usize>
     ensures { Seeks number32 stop_update (numbered n) old.now at result }
 {
-    let c = formats_read::number(old, at);
-    let mut p = c.next;
-    let mut left = c.value;
-    while 0 < left {
+    let count = formats_read::number(old, at);
+    let mut p = count.next;
+    for _ in 0..count.value {
         let k = formats_read::number(old, p);
         if k.value == n {
             return Some(k.next);
         }
         p = decode_skip::past_update(old, k.next);
-        left -= 1;
     }
     None
 }
@@ -41,16 +36,14 @@ fn sequence_in(old: &[u8], at: usize, n: u64) -> Option<usize>
 fn stop_in(old: &[u8], at: usize, feed: &[u8], stop: &[u8]) -> Option<usize>
     ensures { Seeks number32 stop_update (stopping feed.now stop.now) old.now at result }
 {
-    let c = formats_read::number(old, at);
-    let mut p = c.next;
-    let mut left = c.value;
-    while 0 < left {
+    let counted = formats_read::number(old, at);
+    let mut p = counted.next;
+    for _ in 0..counted.value {
         let m = formats_skip::past_number(old, p);
         if stop_told(old, m, feed, stop) {
             return Some(m);
         }
         p = decode_skip::past_update(old, m);
-        left -= 1;
     }
     None
 }
@@ -81,13 +74,11 @@ pub fn find_update(
 ) -> Option<usize>
     ensures { FindsUpdate old.now at feed.now (given_number sequence) stop.now result }
 {
-    match sequence {
-        None => by_stop(old, at, feed, stop),
-        Some(n) => {
-            match by_sequence(old, at, n) {
-                Some(p) => Some(p),
-                None => by_stop(old, at, feed, stop),
-            }
-        }
+    let Some(n) = sequence else {
+        return by_stop(old, at, feed, stop);
+    };
+    if let Some(p) = by_sequence(old, at, n) {
+        return Some(p);
     }
+    by_stop(old, at, feed, stop)
 }

@@ -4,6 +4,8 @@ use Rattle.std.proofs.Common.{sym, ap, ◌∙◌, arith}
 use Rattle.std.proofs.Math.Seq.{slice}
 use Rattle.slices.specs.Lists.{lex_of}
 use Rattle.std.specs.declared.cmp.Ordering.{Ordering}
+use Rattle.std.specs.declared.cmp.Ordering.TheVariants.{Less, Equal, Greater}
+use Rattle.std.specs.Ordering.{is_lt}
 use Rattle.maps.specs.Map.{is_less, above, ascending}
 use Rattle.maps.specs.Order.{texts}
 use Rattle.formats_write.specs.Laws.Slices.{slice_is}
@@ -15,11 +17,17 @@ use Rattle.formats_skip.specs.Promises.Passes.{Passes}
 use Rattle.overlay.specs.State.{Vehicles, vehicle_entry}
 use Rattle.overlay_ascends.specs.Promises.Ascends.{Ascends}
 
+less_is : (o : Ordering) → is_lt o ≡ is_less o
+less_is Less = refl
+less_is Equal = refl
+less_is Greater = refl
+
 -- the order of two keys
 pub precedes_is : (s : List ℕ) {a e b f : ℕ} {o : Ordering} → a ≤ e → e ≤ length s → b ≤ f → f ≤ length s
-    → o ≡ lex_of (take (e - a) (drop a s)) (take (f - b) (drop b s))
-    → is_less o ≡ is_less (lex_of (slice a e s) (slice b f s))
-precedes_is s {a} {e} {b} {f} h k i j o = rw (← slice_is a e s h k, ← slice_is b f s i j) (ap is_less o)
+    → o ≡ lex_of (take (e - a) (drop a s)) (take (f - b) (drop b s)) → {t : Bool} → t ≡ is_lt o
+    → t ≡ is_less (lex_of (slice a e s) (slice b f s))
+precedes_is s {a} {e} {b} {f} {o} h k i j w m =
+    m ∙ less_is o ∙ rw (← slice_is a e s h k, ← slice_is b f s i j) (ap is_less w)
 
 -- the values from p on, behind a key
 record Ahead (s : List ℕ) (xs : Vehicles) (q : ℕ) (k : List ℕ) (p left : ℕ) : Type 0 where

@@ -1,10 +1,7 @@
 -- `overlay_find::by_descriptor`: the trips that were looked at have another descriptor.
 use Rattle.overlay_find.specs.Laws.Rest.{rank_low, rank_room}
-use Rattle.overlay_find.specs.Laws.Looks.{Scanning, scan_start, scan_few, scan_on}
+use Rattle.overlay_find.specs.Laws.Looks.{scan_start, scan_few, scan_on}
 use Rattle.overlay_find.specs.Laws.Looks.{descriptor_hit, descriptor_miss}
-use Rattle.overlay_find.specs.Promises.Texts.{descriptor_test}
-use Prim.Native.Nat.{◌-◌}
-use borrow.Author.Rules.{rules}
 use Rattle.overlay_find.proofs.by_descriptor.Goals as goal
 
 pub trip_count-n-requires : goal.trip_count-n-requires

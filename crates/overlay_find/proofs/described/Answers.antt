@@ -1,6 +1,5 @@
 -- `described` meets its contract.
 use Rattle.overlay_find.specs.Laws.Tests.{by_direction, other_route, other_date}
-use borrow.Author.Rules.{rules}
 use Rattle.overlay_find.proofs.described.Goals as goal
 
 pub returns-then-route_is : goal.returns-then-route_is

@@ -1,6 +1,5 @@
 -- `descriptor_is` meets its contract.
 use Rattle.overlay_find.specs.Laws.Tests.{described_is}
-use borrow.Author.Rules.{rules}
 use Rattle.overlay_find.proofs.descriptor_is.Goals as goal
 
 pub returns : goal.returns

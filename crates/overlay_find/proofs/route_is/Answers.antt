@@ -1,6 +1,5 @@
 -- `route_is` meets its contract.
 use Rattle.overlay_find.specs.Laws.Tests.{route_is}
-use borrow.Author.Rules.{rules}
 use Rattle.overlay_find.proofs.route_is.Goals as goal
 
 pub returns : goal.returns

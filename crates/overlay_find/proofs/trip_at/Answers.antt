@@ -1,6 +1,5 @@
 -- `overlay_find::trip_at` meets its contract.
 use Rattle.overlay_find.specs.Laws.Looks.{key_short, key_other, key_far, key_rest}
-use borrow.Author.Rules.{rules}
 use lib.ListN.{length-take}
 use native.Mathlib.Omega.{arith}
 use Rattle.overlay_find.proofs.trip_at.Goals as goal

@@ -1,6 +1,7 @@
 -- Law. Tests of entries, by the texts and numbers that stand in them.
 use Rattle.std.specs.Prelude.{◌≡◌, refl, Bool, true, false, List, ℕ, ◌-◌, eqb, take, drop, Option, Some, None}
 use Rattle.std.proofs.Common.{sym, ap, ◌∙◌}
+use Rattle.std.specs.Option.{option_eq}
 use Rattle.basics.specs.Options.{given_and}
 use Rattle.basics.specs.Texts.{same}
 use Rattle.basics.specs.Laws.Booleans.{and_no, and_yes}
@@ -16,7 +17,7 @@ use Rattle.formats_skip.specs.Laws.Passes.{any_text}
 use Rattle.formats_skip.specs.Laws.Leads.{lead_field}
 use Rattle.overlay_feeds.specs.Laws.Head.{begins}
 use Rattle.decode.specs.Key.{prefixed}
-use Rattle.decode.specs.Trip.{date, trip, trip_entry}
+use Rattle.decode.specs.Trip.{trip, trip_entry}
 use Rattle.overlay.specs.Lookup.{route_matches, direction_matches}
 use Rattle.overlay_ids.specs.Promises.Ids.{RouteFits}
 use Rattle.overlay_seek.specs.Promises.Answers.{Tests, IsText}
@@ -37,18 +38,16 @@ module _ {s : List ℕ} {p a e : ℕ} (T : ReadsText s p a e) where
 pub any_direction : {s : List ℕ} {p : ℕ} {d : Option ℕ} → d ≡ None → DirectionIs s p d true
 any_direction e = record { is = λ h. rw e refl }
 
-module _ {s : List ℕ} {p n : ℕ} {d o : Option ℕ} (e : d ≡ Some n)
-    (O : (lo hi : ℕ) (v : Value (optional (number lo hi))) (q : ℕ) → Here (optional (number lo hi)) s p q v
-    → given_number o ≡ v) where
-  pub no_direction : o ≡ None → DirectionIs s p d false
-  no_direction k = record {
-    is = λ {v} {q} h. rw e (ap (given_and (eqb n)) (ap given_number (sym k) ∙ O _ _ v q h));
-  }
+both : (n : ℕ) (o : Option ℕ) → option_eq eqb (Some n) o ≡ given_and (eqb n) (given_number o)
+both n None = refl
+both n (Some m) = refl
 
-  pub one_direction : {m : ℕ} → o ≡ Some m → DirectionIs s p d (eqb n m)
-  one_direction k = record {
-    is = λ {v} {q} h. rw e (ap (given_and (eqb n)) (ap given_number (sym k) ∙ O _ _ v q h));
-  }
+pub same_direction : {s : List ℕ} {p n : ℕ} {b : Bool} {d : Option ℕ} (o : Option ℕ) → d ≡ Some n
+    → ((lo hi : ℕ) (v : Value (optional (number lo hi))) (q : ℕ) → Here (optional (number lo hi)) s p q v
+    → given_number o ≡ v) → b ≡ option_eq eqb d o → DirectionIs s p d b
+same_direction {n} o e O i = record {
+  is = λ {v} {q} h. i ∙ rw e (both n o ∙ ap (given_and (eqb n)) (O _ _ v q h));
+}
 
 -- a record from its date on
 ended : {s : List ℕ} {p q m : ℕ} {l : ℕ} {c : Class} {v : List ℕ} → Passes (text 0 any) s p m → Here (text l c) s p q v

@@ -1,6 +1,5 @@
 -- `ends_colon` meets its contract.
 use Rattle.overlay_ids.specs.Laws.Joined.{colon_short, colon_other, colon_same}
-use borrow.Author.Rules.{rules}
 use Rattle.overlay_ids.proofs.ends_colon.Goals as goal
 
 pub returns-then-s-id : goal.returns-then-s-id

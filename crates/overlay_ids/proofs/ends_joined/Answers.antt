@@ -1,6 +1,5 @@
 -- `ends_joined` meets its contract.
 use Rattle.overlay_ids.specs.Laws.Joined.{ends_short, ends_bare, ends_less, ends_other, ends_same}
-use borrow.Author.Rules.{rules}
 use Rattle.overlay_ids.proofs.ends_joined.Goals as goal
 
 pub returns-then-leg-feed : goal.returns-then-leg-feed

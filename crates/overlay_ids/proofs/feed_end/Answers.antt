@@ -1,8 +1,5 @@
 -- `feed_end` meets its contract.
-use Prim.Native.Nat.{◌-◌}
-use Rattle.overlay_ids.specs.Laws.Feed.{Scanned, feed_start, feed_next, feed_found, feed_all}
-use borrow.Author.Rules.{rules}
-use lib.ListN.{length}
+use Rattle.overlay_ids.specs.Laws.Feed.{feed_start, feed_next, feed_found, feed_all}
 use Rattle.overlay_ids.proofs.feed_end.Goals as goal
 
 pub loop-i-init : goal.loop-i-init

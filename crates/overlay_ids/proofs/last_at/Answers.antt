@@ -1,10 +1,9 @@
 -- `last_at` meets its contract.
-use Rattle.overlay_ids.specs.Laws.Split.{Free, free_start, free_next, free_found, free_whole}
-use borrow.Author.Rules.{rules}
+use Rattle.overlay_ids.specs.Laws.Split.{free_start, free_next, free_found, free_whole}
 use Rattle.overlay_ids.proofs.last_at.Goals as goal
 
 pub loop-i-init : goal.loop-i-init
-loop-i-init c = free_start
+loop-i-init c = search free_start
 
 pub returns-then-key-i-eq64 : goal.returns-then-key-i-eq64
 returns-then-key-i-eq64 c = search free_found

@@ -1,5 +1,4 @@
 -- `longer_fits` meets its contract.
-use borrow.Author.Rules.{rules}
 use lib.ListN.{length-take}
 use native.Mathlib.Omega.{arith}
 use Rattle.overlay_ids.specs.Laws.Fits.{stop_other, stop_whole, stop_part}

@@ -1,5 +1,4 @@
 -- `route_fits` meets its contract.
-use borrow.Author.Rules.{rules}
 use Rattle.overlay_ids.specs.Laws.Fits.{route_stop, route_absent, route_ends}
 use Rattle.overlay_ids.proofs.route_fits.Goals as goal
 

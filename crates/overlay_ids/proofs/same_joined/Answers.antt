@@ -1,6 +1,5 @@
 -- `same_joined` meets its contract.
 use Rattle.overlay_ids.specs.Laws.Joined.{joined_short, joined_size, joined_other, joined_rest, joined_whole}
-use borrow.Author.Rules.{rules}
 use lib.ListN.{length-take}
 use native.Mathlib.Omega.{arith}
 use Rattle.overlay_ids.proofs.same_joined.Goals as goal

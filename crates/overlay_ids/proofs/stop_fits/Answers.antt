@@ -1,5 +1,4 @@
 -- `stop_fits` meets its contract.
-use borrow.Author.Rules.{rules}
 use Rattle.overlay_ids.specs.Laws.Fits.{stop_absent, stop_short, stop_even}
 use Rattle.overlay_ids.proofs.stop_fits.Goals as goal
 

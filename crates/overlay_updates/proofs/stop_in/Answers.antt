@@ -1,20 +1,27 @@
 -- `stop_in` meets its contract.
-use borrow.Author.Rules.{rules}
-use Rattle.formats.specs.Format.{◌&◌}
-use Rattle.decode.specs.Trip.{number32, stop_update}
-use Rattle.overlay_seek.specs.Laws.Seek.{Seeking, seek_start, seek_miss}
-use Rattle.overlay_updates.specs.Promises.Updates.{stopping}
+use Prim.Native.Nat.{◌+◌, ◌-◌, ◌≤◌, ◌<◌}
+use mathlib.Core.Path.{◌≡◌}
+use native.Mathlib.Omega.{arith}
+use Rattle.overlay_seek.specs.Laws.Seek.{seek_start, seek_miss}
 use Rattle.overlay_updates.specs.Laws.Updates.{stop_hit, stop_on}
 use Rattle.overlay_updates.proofs.stop_in.Goals as goal
 
-pub loop-left-init : goal.loop-left-init
-loop-left-init c = seek_start
+pub loop-init : goal.loop-init
+loop-init c =
+    let whole : c.number-counted.result.value - 0 ≡ c.number-counted.result.value = omega arith in
+    rw whole seek_start
 
 pub returns-then-stop_told : goal.returns-then-stop_told
-returns-then-stop_told c = search stop_hit
+returns-then-stop_told c =
+    let more : 0 < c.number-counted.result.value - c.loop.counter = omega arith in
+    search stop_hit
 
-pub loop-left-preserved : goal.loop-left-preserved
-loop-left-preserved c = search stop_on
+pub loop-preserved : goal.loop-preserved
+loop-preserved c =
+    let more : 0 < c.number-counted.result.value - c.loop.counter = omega arith in
+    let one : c.number-counted.result.value - (c.loop.counter + 1) ≡
+        c.number-counted.result.value - c.loop.counter - 1 = omega arith in
+    rw one (search stop_on)
 
 pub returns : goal.returns
-returns c = search seek_miss
+returns c = let done : c.number-counted.result.value - c.loop.counter ≤ 0 = omega arith in search seek_miss

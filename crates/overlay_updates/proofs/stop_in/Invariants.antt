@@ -1,5 +1,5 @@
 -- `stop_in` meets its contract.
-use borrow.Author.Rules.{rules}
+use Prim.Native.Nat.{◌-◌}
 use Rattle.formats.specs.Format.{◌&◌}
 use Rattle.decode.specs.Trip.{number32, stop_update}
 use Rattle.overlay_seek.specs.Laws.Seek.{Seeking, seek_start, seek_miss}
@@ -7,9 +7,6 @@ use Rattle.overlay_updates.specs.Promises.Updates.{stopping}
 use Rattle.overlay_updates.specs.Laws.Updates.{stop_hit, stop_on}
 use Rattle.overlay_updates.proofs.stop_in.Given as goal
 
-abbrev pub invariant-loop-left : goal.invariant-loop-left
-invariant-loop-left l =
-    Seeking (number32 & stop_update) (stopping l.feed l.stop) l.old l.initial.p l.initial.left l.p l.left
-
-abbrev pub decreases-loop-left : goal.decreases-loop-left
-decreases-loop-left l = l.left
+abbrev pub invariant-loop : goal.invariant-loop
+invariant-loop l =
+    Seeking (number32 & stop_update) (stopping l.feed l.stop) l.old l.initial.p l.end l.p (l.end - l.counter)
