@@ -1,10 +1,11 @@
 // Whether a folded text is about a line, names it as advice, or names others.
-ghost use Rattle.std.specs.Prelude.{◌≡◌, ◌+◌, ◌-◌, ◌≤◌, length};
+ghost use Rattle.std.specs.Prelude.{◌≡◌, ◌+◌, ◌≤◌, length};
 ghost use Rattle.basics.specs.Lists.{any};
 ghost use Rattle.alerts.specs.Applies.{any_marker, window};
 ghost use Rattle.alerts.specs.Promises.Reduced.{advice_markers, secondary, road};
+ghost use Rattle.alerts_lines.specs.Promises.Lines.{numbered};
 ghost use Rattle.alerts_patterns.specs.Promises.Tables.{name_filled, patterns};
-ghost use Rattle.alerts_text.specs.Promises.Tables.{lesser, near_marker, near_filled};
+ghost use Rattle.alerts_text.specs.Promises.Tables.{near_marker, near_filled};
 ghost use Rattle.alerts_text.specs.Promises.Marked.{Others, Settles, Opened, MarkedOk};
 
 // Whether s has a marker of advice.
@@ -18,30 +19,17 @@ fn marked(s: &[u8]) -> bool
     )
 }
 
-// 48 bytes back, or the start.
-fn back(i: usize) -> usize
-    ensures { result ≡ i - 48 }
-{
-    if i < 48 { 0 } else { i - 48 }
-}
-
-// 24 bytes on, or the end.
-fn ahead(i: usize, end: usize) -> usize
-    requires { i ≤ end }
-    ensures { result ≡ lesser (i + 24) end }
-{
-    if end - i < 24 { end } else { i + 24 }
-}
-
-// Whether a marker stands in the window around the n bytes at i.
+// Whether a marker stands in the window around the n bytes at i: from 48 bytes before them up to 24 bytes behind.
 fn marked_near(s: &[u8], i: usize, n: usize) -> bool
     requires { i + n ≤ length s.now }
     ensures { result ≡ any_marker advice_markers (window s.now i n) }
 {
-    let start = back(i);
-    let past = i + n;
-    let e = ahead(past, s.len());
-    marked(&s[start..e])
+    let e = if s.len() - (i + n) < 24 {
+        s.len()
+    } else {
+        i + n + 24
+    };
+    marked(&s[i.saturating_sub(48)..e])
 }
 
 // How long a pattern is with the name in its place.
@@ -60,10 +48,7 @@ fn near_marker(s: &[u8], name: &[u8], pattern: &[u8]) -> bool
     ensures { result ≡ near_filled s.now name.now pattern.now }
 {
     match alerts_patterns::find_filled(s, name, pattern) {
-        Some(i) => {
-            let n = filled_len(name, pattern);
-            marked_near(s, i, n)
-        }
+        Some(i) => marked_near(s, i, filled_len(name, pattern)),
         None => false,
     }
 }
@@ -88,23 +73,18 @@ fn any_near(table: &[u8], name: &[u8], s: &[u8]) -> bool
 fn secondary(s: &[u8], name: &[u8]) -> bool
     ensures { result ≡ secondary s.now name.now }
 {
-    if any_near(b"LIGNE #|LIGNES #|METRO #| ET #| # | #.", name, s) {
-        return true;
-    }
-    if !alerts_patterns::any_in(b"RER |TRAVAUX SUR", name, s) {
-        return false;
-    }
-    marked(s)
+    any_near(b"LIGNE #|LIGNES #|METRO #| ET #| # | #.", name, s)
+        || alerts_patterns::any_in(b"RER |TRAVAUX SUR", name, s) && marked(s)
 }
 
 // Whether another line than the one given is named and a subject.
-fn other_subject(s: &[u8], named: &[u8], own: usize) -> bool
+fn other_subject(s: &[u8], named: &[u8], own: Option<usize>) -> bool
     requires { length named.now ≡ 32 }
-    ensures { Others s.now named.now own result }
+    ensures { Others s.now named.now (numbered own) result }
 {
     let mut subject = [0u8; 32];
     alerts_lines::mark_subjects(&mut subject, s);
-    alerts_lines::any_line(alerts_lines::Pick::Subject, named, &subject, own)
+    (0..32).any(|k| named[k] == 1 && own != Some(k) && subject[k] == 1)
 }
 
 // What the lines that a text names say of one line, before the text is read.
@@ -118,31 +98,32 @@ pub enum Settled {
     Open,
 }
 
-pub fn settle(named: &[u8], own: usize) -> Settled
+pub fn settle(named: &[u8], own: Option<usize>) -> Settled
     requires { length named.now ≡ 32 }
-    ensures { Settles named.now own result }
+    ensures { Settles named.now (numbered own) result }
 {
-    if !alerts_lines::any_line(alerts_lines::Pick::Named, named, named, own) {
+    if !named.contains(&1) {
         return Settled::Right;
     }
-    if !alerts_lines::any_line(alerts_lines::Pick::Own, named, named, own) {
+    let Some(own) = own else {
+        return Settled::Wrong
+    };
+    if 32 <= own || named[own] != 1 {
         return Settled::Wrong;
     }
-    if !alerts_lines::any_line(alerts_lines::Pick::Another, named, named, own) {
-        return Settled::Right;
+    if (0..32).any(|k| named[k] == 1 && k != own) {
+        Settled::Open
+    } else {
+        Settled::Right
     }
-    Settled::Open
 }
 
 // Whether a folded text that names the line and others may be about it.
-fn not_advised(s: &[u8], named: &[u8], name: &[u8], own: usize) -> bool
+fn not_advised(s: &[u8], named: &[u8], name: &[u8], own: Option<usize>) -> bool
     requires { length named.now ≡ 32 }
-    ensures { Opened s.now named.now name.now own result }
+    ensures { Opened s.now named.now name.now (numbered own) result }
 {
-    if !secondary(s, name) {
-        return true;
-    }
-    !other_subject(s, named, own)
+    !secondary(s, name) || !other_subject(s, named, own)
 }
 
 // Whether a folded text that names the marked lines may be about the line.
@@ -162,14 +143,8 @@ pub fn marked_ok(s: &[u8], named: &[u8], name: &[u8]) -> bool
 pub fn road_traffic(s: &[u8]) -> bool
     ensures { result ≡ road s.now }
 {
-    if alerts_patterns::any_in(b"TRAFIC ROUTIER", s, s) {
-        return true;
-    }
-    if !alerts_patterns::any_in(b"ARRET", s, s) {
-        return false;
-    }
-    if !alerts_patterns::any_in(b"D\xc3\x89PLAC\xc3\x89|DEPLAC", s, s) {
-        return false;
-    }
-    alerts_patterns::any_in(b"CIRCULATION", s, s)
+    alerts_patterns::any_in(b"TRAFIC ROUTIER", s, s)
+        || alerts_patterns::any_in(b"ARRET", s, s)
+            && alerts_patterns::any_in(b"D\xc3\x89PLAC\xc3\x89|DEPLAC", s, s)
+            && alerts_patterns::any_in(b"CIRCULATION", s, s)
 }

@@ -1,12 +1,6 @@
 // The marks of the 32 lines as the bits of a word, line 0 the lowest.
 ghost use Rattle.std.specs.Prelude.{◌≡◌, cond, ◌+◌, ◌*◌, ◌<◌, eqb, length};
-ghost use Rattle.alerts_text.specs.Promises.Word.{bit_of, bits_of, word_of};
-
-fn bit(word: u32) -> u8
-    ensures { result ≡ bit_of word }
-{
-    if word % 2 == 1 { 1 } else { 0 }
-}
+ghost use Rattle.alerts_text.specs.Promises.Word.{bits_of, word_of};
 
 // Marks each line whose bit is set, and no other.
 pub fn spread(marks: &mut [u8], word: u32)
@@ -14,11 +8,9 @@ pub fn spread(marks: &mut [u8], word: u32)
     ensures { marks.new ≡ bits_of 32 word }
 {
     let mut left = word;
-    let mut k = 0;
-    while k < 32 {
-        marks[k] = bit(left);
-        left = left / 2;
-        k += 1;
+    for mark in marks.iter_mut() {
+        *mark = (left % 2) as u8;
+        left /= 2;
     }
 }
 
@@ -39,6 +31,7 @@ pub fn gather(marks: &[u8]) -> u32
     ensures { result ≡ word_of marks.now }
 {
     let mut word: u32 = 0;
+    // From the end, by a count: with `iter().rev()` the proof that the word has room did not close.
     let mut k = 32;
     while 0 < k {
         k -= 1;
