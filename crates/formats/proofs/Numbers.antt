@@ -37,7 +37,8 @@ pub record NumberGot (r : Reader ℕ) (s : List ℕ) (at n q : ℕ) : Type 0 whe
   pub within : q ≤ length s
 
 module _ {w : ℕ → List ℕ} {r : Reader ℕ} {ok : ℕ → Type 0} (l : Law w r ok) (s : List ℕ) (at : ℕ) where
-  got_go : (o : LogicOption (ℕ × List ℕ)) → r (drop at s) ≡ o → (n q : ℕ) → Some (n, q) ≡ numbered s o → NumberGot r s at n q
+  got_go : (o : LogicOption (ℕ × List ℕ)) → r (drop at s) ≡ o → (n q : ℕ) → Some (n, q) ≡ numbered s o
+      → NumberGot r s at n q
   got_go none e n q h = bad_got (sym h)
   got_go (some x) e n q h =
       let k = some_pair_parts n x.0 q (length s - length x.1) h in
@@ -57,7 +58,8 @@ module _ {w : ℕ → List ℕ} {r : Reader ℕ} {ok : ℕ → Type 0} (l : Law 
   got_fits : (n q : ℕ) → NumberGot r s at n q → ok n
   got_fits n q f = (l.back (drop at s) n (drop q s) f.reads).1
 
-pub little_end : (k : ℕ) (s : List ℕ) (at : ℕ) → (k ≡ 0 → ⊥) → length s ≤ at → None ≡ numbered s (little_r k (drop at s))
+pub little_end : (k : ℕ) (s : List ℕ) (at : ℕ) → (k ≡ 0 → ⊥) → length s ≤ at
+    → None ≡ numbered s (little_r k (drop at s))
 little_end zero s at z h = absurd (z refl)
 little_end (suc k) s at z h = rw (drop_of_length-le s h) refl
 

@@ -37,7 +37,8 @@ module _ (kind a : ℕ) (s : List ℕ) (at : ℕ) where
     pub leaf_6 : (n p : ℕ) → o ≡ Some (n, p) → Some p ≡ skip_to (leaf_format kind a 0) s at
     leaf_6 n p h = let g = got (little_law 8) s at n p o r h in rw (e, g.reads, place s p g.within) refl
 
-  pub leaf_7 : (r : Option ℕ) → r ≡ skipped s (const_r a (drop at s)) → kind ≡ 7 → r ≡ skip_to (leaf_format kind a 0) s at
+  pub leaf_7 : (r : Option ℕ) → r ≡ skipped s (const_r a (drop at s)) → kind ≡ 7
+      → r ≡ skip_to (leaf_format kind a 0) s at
   leaf_7 r h e = rw e h
 
 module _ (a : ℕ) (s : List ℕ) (at : ℕ) (o : Option (ℕ × ℕ)) (r : o ≡ numbered s (number_r (drop at s))) where

@@ -29,7 +29,8 @@ use Rattle.formats_judge.proofs.Rules.{nothing, sooner_none}
 broken_at : {C : Type 0} {q x : ℕ} → ◌≡◌ {A = Option (ℕ × ℕ)} None (Some (q, x)) → C
 broken_at e = absurd (let z : ◌≡◌ {A = ℕ} 0 1 = cc in omega arith)
 
-judged_none : {A : Type 0} (p : A → ℕ) (s : List ℕ) (o : LogicOption (A × List ℕ)) (r : Option (ℕ × ℕ)) → r ≡ judged p s o
+judged_none : {A : Type 0} (p : A → ℕ) (s : List ℕ) (o : LogicOption (A × List ℕ)) (r : Option (ℕ × ℕ))
+    → r ≡ judged p s o
     → r ≡ None → o ≡ none
 judged_none p s none r e h = refl
 judged_none p s (some x) r e h = broken_at (sym h ∙ e)
@@ -43,7 +44,8 @@ record ValueJudged {A : Type 0} (rd : Reader A) (g : A → ℕ) (s : List ℕ) (
 
 module _ {A : Type 0} {w : A → List ℕ} {rd : Reader A} {fits : A → Type 0} (l : Law w rd fits) (g : A → ℕ) (s : List ℕ)
     (at : ℕ) where
-  found_go : (o : LogicOption (A × List ℕ)) → rd (drop at s) ≡ o → (r : Option (ℕ × ℕ)) (q x : ℕ) → r ≡ judged g s o → r ≡ Some (q, x)
+  found_go : (o : LogicOption (A × List ℕ)) → rd (drop at s) ≡ o → (r : Option (ℕ × ℕ)) (q x : ℕ) → r ≡ judged g s o
+      → r ≡ Some (q, x)
       → ValueJudged rd g s at q x
   found_go none e r q x h k = broken_at (sym h ∙ k)
   found_go (some y) e r q x h k =
@@ -61,7 +63,8 @@ module _ {A : Type 0} {w : A → List ℕ} {rd : Reader A} {fits : A → Type 0}
   found : (r : Option (ℕ × ℕ)) (q x : ℕ) → r ≡ judged g s (rd (drop at s)) → r ≡ Some (q, x) → ValueJudged rd g s at q x
   found r q x h k = found_go (rd (drop at s)) refl r q x h k
 
-pub judged_in : (f : Format) (s : List ℕ) (at p x : ℕ) (r : Option (ℕ × ℕ)) → r ≡ judge_to f s at → r ≡ Some (p, x) → p ≤ length s
+pub judged_in : (f : Format) (s : List ℕ) (at p x : ℕ) (r : Option (ℕ × ℕ)) → r ≡ judge_to f s at → r ≡ Some (p, x)
+    → p ≤ length s
 judged_in f s at p x r e h = (found (law f) (verdict f) s at r p x e h).within
 
 -- past the first, the rest is judged after its verdict
@@ -80,14 +83,16 @@ after_after x y None = refl
 after_after x y (Some (p, z)) = ap (λ other. Some (p, other)) (sooner_assoc x y z)
 
 -- n of one kind: what the whole loop finds is what is found from here on
-pub many_none : (f : Format) (s : List ℕ) (n at g : ℕ) (y : Option (ℕ × ℕ)) → judged_after g (judge_many f n s at) ≡ y → n ≤ 0
+pub many_none : (f : Format) (s : List ℕ) (n at g : ℕ) (y : Option (ℕ × ℕ))
+    → judged_after g (judge_many f n s at) ≡ y → n ≤ 0
     → at ≤ length s → Some (at, g) ≡ y
 many_none f s n at g y i l h =
     let e : n ≡ 0 = omega arith in
     let j : Some (at, sooner g 0) ≡ judged_after g (judge_many f n s at) = rw (e, place s at h) refl in
     ap (λ other. Some (at, other)) (sooner_none g 0 refl) ∙ j ∙ i
 
-module _ (f : Format) (s : List ℕ) (n at g : ℕ) (r : Option (ℕ × ℕ)) (e : r ≡ judge_to f s at) (l : 0 < n) (y : Option (ℕ × ℕ))
+module _ (f : Format) (s : List ℕ) (n at g : ℕ) (r : Option (ℕ × ℕ)) (e : r ≡ judge_to f s at) (l : 0 < n)
+    (y : Option (ℕ × ℕ))
     (i : judged_after g (judge_many f n s at) ≡ y) where
   module _ (p x : ℕ) (h : r ≡ Some (p, x)) (k : at ≤ length s) where
     one : ValueJudged (read f) (verdict f) s at p x
@@ -171,7 +176,8 @@ module _ (depth : ℕ) (t : List ℕ) (n : ℕ) (s : List ℕ) (at : ℕ) where
           let none_read = judged_none (verdict A) s (read A (drop at s)) r e h in
           nothing (verdict (format_at depth t n)) s (no_first depth t n s at z kind a b ek ea eb k none_read)
 
-      module _ (p x : ℕ) (h : r ≡ Some (p, x)) (y : Option (ℕ × ℕ)) (f : y ≡ judge_to (format_at (depth - 1) t b) s p) where
+      module _ (p x : ℕ) (h : r ≡ Some (p, x)) (y : Option (ℕ × ℕ))
+          (f : y ≡ judge_to (format_at (depth - 1) t b) s p) where
         halves : judged_after x y ≡ judge_to (format_at depth t n) s at
         halves =
             let A = format_at (depth - 1) t a in
@@ -184,5 +190,6 @@ module _ (depth : ℕ) (t : List ℕ) (n : ℕ) (s : List ℕ) (at : ℕ) where
         pub pair_bad_2 : y ≡ None → None ≡ judge_to (format_at depth t n) s at
         pair_bad_2 g = sym (ap (judged_after x) g) ∙ halves
 
-        pub pair_good : (q u w : ℕ) → y ≡ Some (q, u) → w ≡ sooner x u → Some (q, w) ≡ judge_to (format_at depth t n) s at
+        pub pair_good : (q u w : ℕ) → y ≡ Some (q, u) → w ≡ sooner x u
+            → Some (q, w) ≡ judge_to (format_at depth t n) s at
         pair_good q u w g c = ap (λ other. Some (q, other)) c ∙ sym (ap (judged_after x) g) ∙ halves

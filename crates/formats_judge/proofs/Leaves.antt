@@ -30,7 +30,8 @@ judged_bad : {A : Type 0} (p : A → ℕ) (s : List ℕ) (o : LogicOption (A × 
 judged_bad p s none r e h = refl
 judged_bad p s (some x) r e h = skip_both (sym h ∙ e)
 
-judged_good : {A : Type 0} (s : List ℕ) (o : LogicOption (A × List ℕ)) (r : Option ℕ) (q : ℕ) → r ≡ skipped s o → r ≡ Some q
+judged_good : {A : Type 0} (s : List ℕ) (o : LogicOption (A × List ℕ)) (r : Option ℕ) (q : ℕ) → r ≡ skipped s o
+    → r ≡ Some q
     → Some (q, 0) ≡ judged (λ v. 0) s o
 judged_good s none r q e h = skip_both (sym e ∙ h)
 judged_good s (some x) r q e h = let i : q ≡ length s - length x.1 = cc in ap (λ n. Some (n, 0)) i
@@ -61,7 +62,8 @@ module _ (a b : ℕ) (s : List ℕ) (at : ℕ) (o : Option (ℕ × ℕ)) (r : o 
     number : NumberGot number_r s at n p
     number = got number_law s at n p o r e
 
-    pub leaf_2 : (y : ℕ) → y ≡ answer 6 (leb a n && leb n b) → kind ≡ 2 → Some (p, y) ≡ judge_to (leaf_format kind a b) s at
+    pub leaf_2 : (y : ℕ) → y ≡ answer 6 (leb a n && leb n b) → kind ≡ 2
+        → Some (p, y) ≡ judge_to (leaf_format kind a b) s at
     leaf_2 y f k = rw (k, number.reads, place s p number.within) (ap (λ other. Some (p, other)) f)
 
     pub leaf_3 : (y : ℕ) → y ≡ answer 6 (at_most (zag a) (zag n) && at_most (zag n) (zag b)) → kind ≡ 3

@@ -25,7 +25,8 @@ not_pair j (suc (suc (suc (suc (suc (suc (suc (suc (suc (suc zero)))))))))) a b 
 not_pair j (suc (suc (suc (suc (suc (suc (suc (suc (suc (suc (suc k))))))))))) a b sub s p z = refl
 
 -- what the part j fields on gives is what the whole gives, x
-module _ (j d : ℕ) (t : List ℕ) (n : ℕ) (s : List ℕ) (p : ℕ) {x : Option ℕ} (w : field_to j (format_at d t n) s p ≡ x) where
+module _ (j d : ℕ) (t : List ℕ) (n : ℕ) (s : List ℕ) (p : ℕ) {x : Option ℕ}
+    (w : field_to j (format_at d t n) s p ≡ x) where
   pub field_none : 0 < j → d ≡ 0 → None ≡ x
   field_none h e = go j h refl ∙ w
     where

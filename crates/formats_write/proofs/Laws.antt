@@ -69,7 +69,8 @@ little_more zero n z f g e = absurd (z refl)
 little_more (suc k) n z f g e = let i : suc k - 1 ≡ k = omega arith in same (then f g) (rw (i, e) refl)
 
 -- a stretch
-module _ {l : List ℕ} {r : Option ℕ} {at : ℕ} (s : List ℕ) (a e : ℕ) (i : r ≡ Some at) (h : a ≤ e) (k : e ≤ length s) where
+module _ {l : List ℕ} {r : Option ℕ} {at : ℕ} (s : List ℕ) (a e : ℕ) (i : r ≡ Some at) (h : a ≤ e)
+    (k : e ≤ length s) where
   pub stretch_in : {m v : List ℕ} → v ≡ take (e - a) (drop a s) → at ≤ length l → length v ≤ length l - at
       → m ≡ pasted l at v → Adds l r m (Some (at + length v)) (slice a e s)
   stretch_in {v} f p o j =
@@ -83,7 +84,8 @@ pub text_is : {l m o : List ℕ} {r k j : Option ℕ} (s : List ℕ) (a e : ℕ)
 text_is s a e h k f g = then (same f (ap number_w (sym (length-slice a e s k)))) (g h k)
 
 -- an optional value: the code's v stands for g v, of which f gives the value that is there
-pub optional_is : {A B : Type 0} {l m : List ℕ} {r q : Option ℕ} (w : B → List ℕ) (g : Option A → Unit {0} ⊎ B) (f : A → B)
+pub optional_is : {A B : Type 0} {l m : List ℕ} {r q : Option ℕ} (w : B → List ℕ) (g : Option A → Unit {0} ⊎ B)
+    (f : A → B)
     → g None ≡ inl tt → ((x : A) → g (Some x) ≡ inr (f x)) → (v : Option A) → (v ≡ None → Adds l r m q (0 ∷ []))
     → ((x : A) → v ≡ Some x → Adds l r m q (1 ∷ w (f x))) → Adds l r m q (optional_w w (g v))
 optional_is w g f a b None n p = rw a (n refl)

@@ -35,7 +35,8 @@ pub pass-returns-in-0-to-7 : goal.pass-returns-in-0-to-7
 pass-returns-in-0-to-7 t c = search (pass_leaf, c.in-0-to-7)
 
 pub pass_many-returns-then-q-p : goal.pass_many-returns-then-q-p
-pass_many-returns-then-q-p t c = let more : 0 < c.args.n - c.loop.counter = omega arith in search (many_flat, c.in_ok-q.was)
+pass_many-returns-then-q-p t c = let more : 0 < c.args.n - c.loop.counter = omega arith in search
+    (many_flat, c.in_ok-q.was)
 
 pub pass_many-loop-preserved : goal.pass_many-loop-preserved
 pass_many-loop-preserved t c =

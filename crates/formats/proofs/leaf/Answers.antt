@@ -8,7 +8,8 @@ pub returns-in_err-p-in-6 : goal.returns-in_err-p-in-6
 returns-in_err-p-in-6 c = rw c.from_residual.ensures (search (leaf_6_bad, c.in_err-p-in-6.was))
 
 pub returns-in_err-n-in_default : goal.returns-in_err-n-in_default
-returns-in_err-n-in_default c = rw c.from_residual-in_err-n-in_default.ensures (search (leaf_bad, begins, c.in_err-n-in_default.was))
+returns-in_err-n-in_default c = rw c.from_residual-in_err-n-in_default.ensures
+    (search (leaf_bad, begins, c.in_err-n-in_default.was))
 
 pub returns-in-1 : goal.returns-in-1
 returns-in-1 c = search leaf_1

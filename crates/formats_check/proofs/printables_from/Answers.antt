@@ -14,8 +14,12 @@ returns-in_err-p c =
 pub loop-preserved : goal.loop-preserved
 loop-preserved c =
     let more : 0 < c.args.n - c.loop.counter = omega arith in
-    let one : c.args.n - (c.loop.counter + 1) ≡ c.args.n - c.loop.counter - 1 = omega arith in
-    (check_in c.printable.ensures c.in_ok-p.was, rw one (each_so c.loop.invariant.1 more c.printable.ensures c.in_ok-p.was))
+    let one : c.args.n - (c.loop.counter + 1) ≡ c.args.n - c.loop.counter - 1 = omega arith in (
+      check_in c.printable.ensures c.in_ok-p.was,
+      rw one (each_so c.loop.invariant.1 more c.printable.ensures c.in_ok-p.was),
+    )
 
 pub returns : goal.returns
-returns c = let none : c.args.n - c.loop.counter ≤ 0 = omega arith in each_end c.loop.invariant.1 none c.loop.invariant.0
+returns c =
+    let none : c.args.n - c.loop.counter ≤ 0 = omega arith in
+    each_end c.loop.invariant.1 none c.loop.invariant.0

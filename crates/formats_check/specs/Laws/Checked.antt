@@ -195,7 +195,8 @@ module _ {f : Format} (s : List ℕ) (at : ℕ) where
       is_none (optional f) (fine (optional f)) s at
       (rw (opened s at (get_or s at 0) h refl, ne_eqb (get_or s at 0) 0 y, ne_eqb (get_or s at 0) 1 z) refl)
 
-pub optional_given : {f : Format} {s : List ℕ} {at : ℕ} {x : Option ℕ} (c : ℕ) → at < length s → c ≡ get_or s at 0 → c ≡ 1
+pub optional_given : {f : Format} {s : List ℕ} {at : ℕ} {x : Option ℕ} (c : ℕ) → at < length s → c ≡ get_or s at 0
+    → c ≡ 1
     → Fine f s (at + 1) x → Fine (optional f) s at x
 optional_given {f} {s} {at} {x} c h e z i =
     record { says = rw (opened s at c h e, z) (i.says ∙ go (read f (drop (at + 1) s))) }
@@ -227,7 +228,8 @@ module _ {a b : Format} {s : List ℕ} {at : ℕ} {r : Option ℕ} (c : Fine a s
   pub behind_no : (t : Test b) → r ≡ None → Tested (a & b) (behind a t) s at None
   behind_no t h = record { is = pair_no c (λ v. holds t) h }
 
-  pub behind_so : {t : Test b} {p : ℕ} {x : Option ℕ} → r ≡ Some p → Tested b t s p x → Tested (a & b) (behind a t) s at x
+  pub behind_so : {t : Test b} {p : ℕ} {x : Option ℕ} → r ≡ Some p → Tested b t s p x
+      → Tested (a & b) (behind a t) s at x
   behind_so {t} h d = record { is = pair_so c (λ v. holds t) h d.is }
 
   pub under_no : (t : Value a → Test b) → r ≡ None → Tested (a & b) (under a t) s at None
@@ -250,7 +252,8 @@ pub check_past : {f : Format} {P : Value f → Bool} {s : List ℕ} {at : ℕ} {
     → (v : Value f) (q : ℕ) → read f (drop at s) ≡ some (v, drop q s) → q ≤ length s → P v ≡ true → r ≡ Some q
 check_past {f} {P} {s} {at} {r} c v q e h t = c.says ∙ sym (is_good f P s at v q e t h).says
 
-pub tested_in : {f : Format} {t : Test f} {s : List ℕ} {at : ℕ} {r : Option ℕ} → Tested f t s at r → {p : ℕ} → r ≡ Some p
+pub tested_in : {f : Format} {t : Test f} {s : List ℕ} {at : ℕ} {r : Option ℕ} → Tested f t s at r → {p : ℕ}
+    → r ≡ Some p
     → p ≤ length s
 tested_in c h = (good c.is h).within
 
@@ -258,7 +261,8 @@ tested_in c h = (good c.is h).within
 pub record Tells (f : Format) (Q : Value f → Bool) (s : List ℕ) (at : ℕ) (b : Bool) : Type 0 where
   pub on : (v : Value f) (u : List ℕ) → read f (drop at s) ≡ some (v, u) → fine f v ≡ true → b ≡ Q v
 
-module _ {f : Format} {t : Test f} {s : List ℕ} {at : ℕ} {r : Option ℕ} (c : Tested f t s at r) (Q : Value f → Bool) where
+module _ {f : Format} {t : Test f} {s : List ℕ} {at : ℕ} {r : Option ℕ} (c : Tested f t s at r)
+    (Q : Value f → Bool) where
   pub more_no : r ≡ None → Tested f (also t Q) s at None
   more_no h = record { is = go (missed c.is h) }
     where

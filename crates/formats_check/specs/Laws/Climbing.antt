@@ -132,11 +132,13 @@ module _ (first : Bool) (s : List ℕ) (a e : ℕ) (x : List ℕ) where
     follows_more j = rw (h, ← i, j) refl
 
 -- AN ENTRY: a key, and a value, with a test on both; and where the key stands
-abbrev pub Entering : (l : ℕ) (c : Class) {g : Format} (t : Test (text l c & g)) (s : List ℕ) (at : ℕ) → Option (ℕ × ℕ × ℕ) → Type 0
+abbrev pub Entering : (l : ℕ) (c : Class) {g : Format} (t : Test (text l c & g)) (s : List ℕ) (at : ℕ)
+    → Option (ℕ × ℕ × ℕ) → Type 0
 Entering l c {g} t s at (Some (a, e, q)) = Keyed l c s at a e × Tested (text l c & g) t s at (Some q)
 Entering l c {g} t s at None = Tested (text l c & g) t s at None
 
-pub record Entered (l : ℕ) (c : Class) {g : Format} (t : Test (text l c & g)) (s : List ℕ) (at : ℕ) (r : Option (ℕ × ℕ × ℕ)) : Type 0
+pub record Entered (l : ℕ) (c : Class) {g : Format} (t : Test (text l c & g)) (s : List ℕ) (at : ℕ)
+    (r : Option (ℕ × ℕ × ℕ)) : Type 0
   where
     pub tells : Entering l c t s at r
 

@@ -9,7 +9,8 @@ use Rattle.formats_check.specs.Promises.Checked.{Number, IfGot}
 pub none_got : {s : List ℕ} {at : ℕ} → IfGot s at None
 none_got = record { says = λ n q e. absurd (let z : ◌≡◌ {A = ℕ} 0 1 = cc in omega arith) }
 
-pub one_got : {s : List ℕ} {at n q : ℕ} {o : Option (ℕ × ℕ)} → IfGot s at o → o ≡ Some (n, q) → Number s at (Some (n, q))
+pub one_got : {s : List ℕ} {at n q : ℕ} {o : Option (ℕ × ℕ)} → IfGot s at o → o ≡ Some (n, q)
+    → Number s at (Some (n, q))
 one_got {n} {q} I e = record { says = rw e at (I.says n q e) }
 
 -- the byte at a place that is written otherwise
@@ -32,7 +33,8 @@ module _ (s : List ℕ) (at a b c d e : ℕ) (h : at + 5 ≤ length s) (pa : a �
   four =
       goes_on three (omega arith) (at_place s (at + 3) (at + 1 + 1 + 1) pd (omega arith)) (λ z. omega arith) ld ud
 
-  pub five_got : IfGot s at (Some (a - 128 + 128 * (b - 128) + 16384 * (c - 128) + 2097152 * (d - 128) + 268435456 * e, at + 5))
+  pub five_got : IfGot s at
+      (Some (a - 128 + 128 * (b - 128) + 16384 * (c - 128) + 2097152 * (d - 128) + 268435456 * e, at + 5))
   five_got =
       let n = a - 128 + 128 * (b - 128) + 16384 * (c - 128) + 2097152 * (d - 128) + 268435456 * e in
       let z : at + 5 ≡ at + 1 + 1 + 1 + 1 + 1 = omega arith in

@@ -75,7 +75,8 @@ elements_are f h (suc n) s = rw (element_is f h s) (go (read f s) (elements_are 
     go (some x) i = rw (i x.1) refl
 
 -- A LIST, whose good values are those that a walk finds good
-module _ (l : ℕ) {f : Format} (P : List (Value f) → Bool) (w : nonempty f ≡ true) {s : List ℕ} {at : ℕ} {o : Option (ℕ × ℕ)}
+module _ (l : ℕ) {f : Format} (P : List (Value f) → Bool) (w : nonempty f ≡ true) {s : List ℕ} {at : ℕ}
+    {o : Option (ℕ × ℕ)}
     (e : Number s at o) where
   pub list_no : o ≡ None → Checked (list l f) P s at None
   list_no h = is_none (list l f) P s at (rw (no_number e h) refl)
@@ -137,7 +138,8 @@ module _ {f : Format} {n : ℕ} {s : List ℕ} {at left p : ℕ} (A : Eaching f 
           };
         }
 
-module _ {l : ℕ} {f : Format} (w : nonempty f ≡ true) {s : List ℕ} {at : ℕ} {o : Option (ℕ × ℕ)} (e : Number s at o) where
+module _ {l : ℕ} {f : Format} (w : nonempty f ≡ true) {s : List ℕ} {at : ℕ} {o : Option (ℕ × ℕ)}
+    (e : Number s at o) where
   pub all_no : o ≡ None → Fine (list l f) s at None
   all_no h = list_no l (fine (list l f)) w e h
 

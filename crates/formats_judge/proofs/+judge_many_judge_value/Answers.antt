@@ -7,7 +7,8 @@ use Rattle.formats_judge.proofs.Judging.{pair_bad, pair_bad_2, pair_good, judged
 use Rattle.formats_judge.proofs.+judge_many_judge_value.Goals as goal
 
 pub judge_many-returns-then-q-p : goal.judge_many-returns-then-q-p
-judge_many-returns-then-q-p t c = let more : 0 < c.args.n - c.loop.counter = omega arith in search (many_flat, c.in_ok-q.was)
+judge_many-returns-then-q-p t c = let more : 0 < c.args.n - c.loop.counter = omega arith in search
+    (many_flat, c.in_ok-q.was)
 
 pub judge_many-loop-preserved : goal.judge_many-loop-preserved
 judge_many-loop-preserved t c =

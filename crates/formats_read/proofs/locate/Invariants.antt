@@ -9,4 +9,5 @@ use Rattle.formats_read.proofs.locate.Given as goal
 abbrev pub invariant-loop : goal.invariant-loop
 invariant-loop l =
     (l.p ≤ length l.s)
-    × (field_to (l.k - l.counter) (format_at l.d l.t l.n) l.s l.p ≡ field_to l.k (format_at l.depth l.t l.node) l.s l.at)
+    × (field_to (l.k - l.counter) (format_at l.d l.t l.n) l.s l.p
+    ≡ field_to l.k (format_at l.depth l.t l.node) l.s l.at)

@@ -25,7 +25,8 @@ module _ {f : Format} (g : Value f → List ℕ) {s : List ℕ} {a n : ℕ} {l :
   pub start : Progress f g s a n a n l r l r
   start = begin none
 
-  pub step : {p left : ℕ} {m : List ℕ} {k : Option ℕ} {m' : List ℕ} {k' : Option ℕ} (e : ℕ) → Progress f g s a n p left l r m k
+  pub step : {p left : ℕ} {m : List ℕ} {k : Option ℕ} {m' : List ℕ} {k' : Option ℕ} (e : ℕ)
+      → Progress f g s a n p left l r m k
       → 0 < left
       → ((v : Value f) (q : ℕ) → Here f s p q v → e ≡ q) → ((v : Value f) → Here f s p e v → Adds m k m' k' (g v))
       → Progress f g s a n e (left - 1) l r m' k'
@@ -40,7 +41,8 @@ map_many : {A B : Type 0} (w : B → List ℕ) (h : A → B) (vs : List A) → m
 map_many w h [] = refl
 map_many w h (v ∷ vs) = ap (λ l. w (h v) ++ l) (map_many w h vs)
 
-pub list_mapped : {f : Format} {s : List ℕ} {p q n e : ℕ} {vs : List (Value f)} {l m o : List ℕ} {r k j : Option ℕ} (c : ℕ)
+pub list_mapped : {f : Format} {s : List ℕ} {p q n e : ℕ} {vs : List (Value f)} {l m o : List ℕ} {r k j : Option ℕ}
+    (c : ℕ)
     (w : Value f → Value f) → Here (list c f) s p q vs → ReadsNumber s p n e
     → Adds l r m k (number_w n)
     → ((us : List (Value f)) (q : ℕ) → length us ≡ n → Many f s e q us

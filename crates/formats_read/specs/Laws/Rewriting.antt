@@ -14,7 +14,8 @@ pub kept : {l m : List ℕ} {r q : Option ℕ} {f : Format} {s : List ℕ} {a e 
 kept h g = same (g h.forward h.within) h.written
 
 -- a record whose part from field k on is changed: the stretch before it, and the new part
-pub changed : {l m o : List ℕ} {r q j : Option ℕ} {k : ℕ} {f : Format} {i : Has k f} {s : List ℕ} {p e : ℕ} {v : Value f}
+pub changed : {l m o : List ℕ} {r q j : Option ℕ} {k : ℕ} {f : Format} {i : Has k f} {s : List ℕ} {p e : ℕ}
+    {v : Value f}
     {t : ℕ} → Field k f i s p e v t
     → (p ≤ t → t ≤ length s → Adds l r m q (slice p t s)) → (u : Value (part k f)) → Adds m q o j (write (part k f) u)
     → Adds l r o j (write f (with k f i v u))
