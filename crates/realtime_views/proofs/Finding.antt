@@ -1,7 +1,7 @@
 -- The loop over the messages at field a that `seek` finds, in every type that has messages there, where theirs is one
 -- that their own reader knows (`P`). Assumes nothing.
 use Rattle.std.specs.Prelude.{Some, None}
-use Prim.Native.Nat.{ℕ, ◌-◌, ◌≤◌, ◌<◌}
+use Prim.Native.Nat.{ℕ, ◌≤◌}
 use mathlib.Core.Path.{◌≡◌, sym, ap, subst, ◌∙◌}
 use mathlib.Core.List.{List}
 use mathlib.Core.Option.{some}
@@ -9,9 +9,9 @@ use native.Mathlib.Omega.{arith}
 use lib.ListN.{length, take, length-take}
 use Rattle.realtime.specs.Tree.{a_message}
 use Rattle.realtime.specs.Schema.{feed}
-use Rattle.realtime_views.specs.Laws.Fold.{Walked, walk_starts}
+use Rattle.realtime_views.specs.Laws.Fold.{Walked}
 use Rattle.realtime_views.specs.Promises.Fold.{Takes, inside, Made}
-use Rattle.realtime_views.specs.Promises.Reading.{Lens, Ready}
+use Rattle.realtime_views.specs.Promises.Reading.{Lens}
 use Rattle.realtime_views.specs.Promises.Seeks.{Seeks}
 use Rattle.realtime_views.proofs.Reader.{Reading, sought_ends, sought_on}
 
@@ -24,9 +24,6 @@ pub record Finding {D B : Type 0} (L : Lens D B) (φ : Takes B) (P : ℕ → Typ
   pub inside : at ≤ length s
 
 module _ {D B : Type 0} {L : Lens D B} {φ : Takes B} {P : ℕ → Type 0} {a : ℕ} {s : List ℕ} {from : ℕ} where
-  pub found_start : {d : D} → Ready L s from d → Finding L φ P a s from d from d
-  found_start R = record { of = λ t u e p. walk_starts; within = R.within; inside = R.inside }
-
   module _ {d₀ : D} {at : ℕ} {d : D} (R : Finding L φ P a s from d₀ at d) where
     reading : (t u : ℕ) → feed t a ≡ some (a_message u) → P u → Reading L (inside a φ) feed t s from d₀ at d
     reading t u e p = record { walked = R.of t u e p; within = R.within; inside = R.inside }
@@ -49,11 +46,6 @@ module _ {D B : Type 0} {L : Lens D B} {φ : Takes B} {P : ℕ → Type 0} {a : 
           within = subst (λ k. L.In k r) (ap length e ∙ length-take n s ∙ omega arith) W;
           inside = N;
         }
-
--- less is left behind a message
-pub found_less : {a : ℕ} {s : List ℕ} {at i l n : ℕ} → Seeks feed a s at (Some (i, l, n))
-    → length s - n < length s - at
-found_less S = omega (arith, S.lying)
 
 -- of messages of one type alone
 pub made_as : {B : Type 0} {φ : Takes B} {v w : B} {t u : ℕ} {s : List ℕ} {from : ℕ} → Made φ v feed t s from w → u ≡ t

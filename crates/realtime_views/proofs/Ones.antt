@@ -16,9 +16,8 @@ use Rattle.realtime.specs.Schema.{feed}
 use Rattle.realtime_read.specs.Laws.Passing.{Passed}
 use Rattle.realtime_read.proofs.Passing.{here}
 use Rattle.realtime_read.proofs.Turn.{some_text}
-use Rattle.realtime_views.specs.Laws.Fold.{Walked, walk_starts}
+use Rattle.realtime_views.specs.Laws.Fold.{Walked}
 use Rattle.realtime_views.specs.Promises.Last.{taking}
-use Rattle.realtime_views.specs.Promises.Reading.{Ready}
 use Rattle.realtime_views.specs.Promises.Scalars.{said, Lying, lying_far, scalar, scalar_at, is_scalar, OneReads}
 use Rattle.realtime_views.specs.declared.Scalar.{Scalar}
 use Rattle.realtime_views.proofs.Reader.{Reading, taking_skips, passes_on, breaks_off, key_breaks, comes_to_end}
@@ -33,9 +32,6 @@ pub record Ones (k : ℕ) (s : List ℕ) (from : ℕ) (d₀ : Scalar) (at : ℕ)
       → Walked (taking (scalar_at k)) (said s d₀) feed t s from at (said s d)
   pub within : Lying at d
   pub inside : at ≤ length s
-
-pub ones_start : {k : ℕ} {s : List ℕ} {from : ℕ} {d : Scalar} → Ready scalar s from d → Ones k s from d from d
-ones_start R = record { of = λ t p. walk_starts; within = R.within; inside = R.inside }
 
 -- what is listed as a scalar is a number or a text
 by_kind : {P : Type 0} (o : LogicOption Kind) → is_scalar o ≡ true → (o ≡ some a_number → P) → (o ≡ some a_text → P) → P

@@ -3,7 +3,6 @@ use Rattle.std.specs.Prelude.{Some, None}
 use Prim.Native.Nat.{ℕ, ◌+◌, ◌≤◌, ◌<◌}
 use mathlib.Core.Path.{◌≡◌, refl, sym, ap, subst, ◌∙◌}
 use mathlib.Core.List.{List}
-use mathlib.Core.Logic.{◌⊎◌, inl, inr}
 use mathlib.Core.Bool.{Bool, true, false, cond}
 use mathlib.Core.Option.{Option, none, some, map}
 use native.Mathlib.Omega.{arith}
@@ -17,7 +16,6 @@ use Rattle.wire.specs.Promises.Places.{key_at}
 use Rattle.realtime.specs.Tree.{a_message, Schema, Tree, tree, sub}
 use Rattle.realtime_read.specs.Laws.Passing.{Besides, beside_nothing, beside_number, beside_text, beside_message, Passed}
 use Rattle.realtime_read.proofs.Turn.{at_end, key_bad}
-use Rattle.realtime_read.specs.Laws.Steps.{step_is}
 use Rattle.realtime_read.specs.Promises.Steps.{Stepped}
 use Rattle.realtime_views.specs.Laws.Fold.{Walked, walk_starts, walk_ends, walk_breaks, walk_number, walk_text}
 use Rattle.realtime_views.specs.Laws.Fold.{walk_message, folded_join, inside_sub}
@@ -51,10 +49,6 @@ module _ {D B : Type 0} {L : Lens D B} {φ : Takes B} {σ : Schema} {t : ℕ} {s
 
     pub stops : Stepped σ t s at Step.Broken → Reads L φ σ t s from d₀ d
     stops S = record { made = walk_breaks R.walked S; within = L.far at (length s) d R.inside R.within }
-
-    pub stays : {q : Step} → Stepped σ t s at q → (q ≡ Step.Broken) ⊎ (q ≡ Step.End) → Reads L φ σ t s from d₀ d
-    stays S (inl e) = stops (step_is S e)
-    stays S (inr e) = says (step_is S e)
 
     -- a field that is taken, or passed over
     pub on_number : {f k n : ℕ} {r : D} → Stepped σ t s at (Step.Number f k n)

@@ -31,9 +31,6 @@ pub record Seeking (k : ℕ) (s : List ℕ) (from at : ℕ) : Type 0 where
       → (y : Tree) × (tree feed t (drop at s) ≡ some y) × (rep k m ≡ rep k y)
   pub ahead : from ≤ at
 
-pub seeks_from : {k : ℕ} {s : List ℕ} {from : ℕ} → Seeking k s from from
-seeks_from = record { of = λ t u H m e. (m, e, refl); ahead = omega arith }
-
 module _ {k : ℕ} {s : List ℕ} {from at : ℕ} (W : Seeking k s from at) where
   -- where the bytes are broken any answer will do
   lost : ((t : ℕ) → tree feed t (drop at s) ≡ none) → Seeks feed k s from None

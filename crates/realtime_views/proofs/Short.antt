@@ -2,15 +2,15 @@
 -- Assumes nothing.
 use Rattle.std.specs.Prelude.{Option, Some}
 use Prim.Native.Nat.{ℕ, ◌+◌, ◌-◌, ◌*◌, ◌/◌, ◌%◌, ◌^◌, ◌≤◌, ◌<◌}
-use mathlib.Core.Path.{◌≡◌, refl, sym, ap, ◌∙◌}
+use mathlib.Core.Path.{◌≡◌, refl, sym, ◌∙◌}
 use mathlib.Core.Bool.{Bool, true, false, ◌||◌}
 use mathlib.Core.List.{List}
 use native.Mathlib.Omega.{arith}
 use native.Mathlib.Numerals.{add-one}
 use lib.Dec.{eqb}
-use lib.ListN.{length, take, drop, get_or, length-drop, length-take}
+use lib.ListN.{length, take, drop, get_or, length-drop}
 use lib.Seq.{drop-cons}
-use borrow.Author.Tests.{le-leb, lt-ltb, eqb-true, eq-eqb, ne_eqb}
+use borrow.Author.Tests.{le-leb, lt-ltb, eqb-true}
 use Rattle.wire.specs.Wire.{read, digits, varint, key, length_delimited}
 use Rattle.wire.specs.Laws.Wire.{stays, reader_varint, reader_text}
 use Rattle.wire.specs.Laws.At.{ReadAt, TextAt, number_read, text_read}
@@ -114,9 +114,6 @@ module _ {s : List ℕ} {from at n : ℕ} (R : Sequences s from at n) (h : at < 
     pub text_inside : 0 + c.at ≤ length s
     text_inside = omega (arith, behind.inside)
 
-    pub text_begins : {x : List ℕ} → x ≡ take c.at s → i ≤ length x
-    text_begins e = omega (arith, behind.ends, behind.inside, ap length e, length-take c.at s)
-
 -- the loop over a stop_time_update
 module _ {s : List ℕ} {from at q : ℕ} {p : TextPart} {k : ℕ} {a d : EventNumbers} (R : Stops s from at q p k a d) where
   pub short_end : {r : StopUpdate} → length s ≤ at → r ≡ from_stop q p k a d → StopReads s from r
@@ -167,14 +164,3 @@ module _ {s : List ℕ} {from at n : ℕ} (R : Sequences s from at n) where
               let S = stop_step h r g (eqb-true (get_or s at 0) 34 w) in
               other_text sequence R S (sequence_number 4 S.typed)
           go false u false v false w f = let z : ◌≡◌ {A = ℕ} 0 1 = cc in absurd (omega arith)
-
--- the keys of a text and of messages
-module _ {b : ℕ} where
-  pub is_arrival : b ≡ 18 → true ≡ is_part b
-  is_arrival e = rw (eq-eqb b 18 e)
-
-  pub is_departure : (b ≡ 18 → ⊥) → b ≡ 26 → true ≡ is_part b
-  is_departure n e = rw (ne_eqb b 18 n, eq-eqb b 26 e)
-
-  pub is_stop : (b ≡ 18 → ⊥) → (b ≡ 26 → ⊥) → eqb b 34 ≡ is_part b
-  is_stop n m = rw (ne_eqb b 18 n, ne_eqb b 26 m)

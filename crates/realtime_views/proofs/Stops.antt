@@ -4,31 +4,28 @@ use mathlib.Core.Bool.{cond}
 use Prim.Native.Nat.{ℕ, ◌+◌, ◌≤◌, ◌<◌}
 use mathlib.Core.Path.{◌≡◌, refl, sym, ap, subst, ◌∙◌}
 use mathlib.Core.List.{List}
-use mathlib.Core.Logic.{◌⊎◌, inl, inr}
 use mathlib.Core.Option.{none, some}
 use native.Mathlib.Omega.{arith}
-use lib.ListN.{length, take, drop, length-take}
+use lib.ListN.{length, take, drop}
 use borrow.Author.Tests.{eq-eqb, ne_eqb}
 use Rattle.wire.specs.Promises.Places.{key_at, number_at, skipped_at}
 use Rattle.wire.specs.declared.Cursor.{Cursor}
 use Rattle.realtime.specs.Tree.{a_number, a_text, a_message, Schema, tree}
 use Rattle.realtime.specs.Schema.{field_rows, feed, stop_time_update, stop_time_event}
 use Rattle.realtime_read.specs.Laws.Passing.{Passed}
-use Rattle.realtime_read.specs.Promises.Steps.{Lies, Stepped}
+use Rattle.realtime_read.specs.Promises.Steps.{Stepped}
 use Rattle.realtime_read.specs.declared.Step.{Step}
-use Rattle.realtime_read.specs.Laws.Steps.{step_is}
 use Rattle.realtime_views.specs.Promises.Fold.{inside}
 use Rattle.realtime_views.specs.Promises.Reading.{Lens, Reads}
 use Rattle.realtime_views.specs.Promises.Last.{Single, taking}
 use Rattle.realtime_views.specs.Promises.Numbers.{plain, spans, sequence, stop, relationship, delay, time}
-use Rattle.realtime_views.specs.Promises.Numbers.{value_of, no_number, no_numbers, no_span, from_stop, EventReads}
+use Rattle.realtime_views.specs.Promises.Numbers.{value_of, no_number, no_span, from_stop, EventReads}
 use Rattle.realtime_views.specs.Promises.Numbers.{EventsRead, StopReads}
 use Rattle.realtime_views.specs.declared.TextPart.{TextPart}
 use Rattle.realtime_views.specs.declared.EventNumbers.{EventNumbers}
 use Rattle.realtime_views.specs.declared.StopUpdate.{StopUpdate}
-use Rattle.realtime_views.proofs.Reader.{Reading, begins, says, on_number, on_text, past_message, taken, passed}
+use Rattle.realtime_views.proofs.Reader.{Reading, says, on_number, on_text, past_message, taken, passed}
 use Rattle.realtime_views.proofs.Reader.{taking_skips, passes_on, breaks_off, key_breaks, comes_to_end}
-use Rattle.realtime_views.proofs.Reader as reader
 use Rattle.realtime_views.proofs.Wires.{keyed, number_none, number_passed, number_step, other_none, other_passed}
 use Rattle.realtime_views.proofs.Wires.{past_number}
 
@@ -95,11 +92,6 @@ departure_event f u p e = typed f u 3 stop_time_event p refl e
 pub record Events (s : List ℕ) (from : ℕ) (b : EventNumbers) (at : ℕ) (e i : Option ℕ) : Type 0 where
   pub delay : Reading (plain value_of) (taking delay) feed stop_time_event s from b.delay at e
   pub time : Reading (plain value_of) (taking time) feed stop_time_event s from b.time at i
-
-pub event_starts : {s : List ℕ} {from : ℕ} (b : EventNumbers) → from ≤ length s
-    → Events s from b from b.delay b.time
-event_starts b h =
-    record { delay = begins (record { inside = h; within = tt }); time = begins (record { inside = h; within = tt }) }
 
 module _ {s : List ℕ} {from : ℕ} {b : EventNumbers} {at : ℕ} {e i : Option ℕ} (R : Events s from b at e i) where
   pub event_ends : length s ≤ at → EventReads s from b (record { delay = e; time = i })
@@ -168,18 +160,9 @@ pub record Within (j : ℕ) (s : List ℕ) (from at : ℕ) (e : EventNumbers) : 
   pub delay : Reading (plain value_of) (inside j (taking delay)) feed stop_time_update s from no_number at e.delay
   pub time : Reading (plain value_of) (inside j (taking time)) feed stop_time_update s from no_number at e.time
 
-within_starts : (j : ℕ) {s : List ℕ} {from : ℕ} {e : EventNumbers} → from ≤ length s → e ≡ no_numbers
-    → Within j s from from e
-within_starts j {s} {from} h p =
-    subst (Within j s from from) (sym p)
-    (record { delay = begins (record { inside = h; within = tt }); time = begins (record { inside = h; within = tt }) })
-
 module _ {j : ℕ} {s : List ℕ} {from at : ℕ} {e : EventNumbers} (R : Within j s from at e) where
   within_ends : Stepped feed stop_time_update s at Step.End → EventsRead j s from e
   within_ends S = record { delay = says R.delay S; time = says R.time S }
-
-  within_breaks : Stepped feed stop_time_update s at Step.Broken → EventsRead j s from e
-  within_breaks S = record { delay = reader.stops R.delay S; time = reader.stops R.time S }
 
   within_number : {f m n : ℕ} → Stepped feed stop_time_update s at (Step.Number f m n) → Within j s from n e
   within_number S = record { delay = on_number R.delay S refl (λ h. h); time = on_number R.time S refl (λ h. h) }
@@ -202,10 +185,6 @@ module _ {j : ℕ} {s : List ℕ} {from at : ℕ} {e : EventNumbers} (R : Within
         (subst (λ v. Reads (plain value_of) (taking time) feed v x i e.time r.time) (sym g) Q.time);
   }
 
--- a message inside starts inside the first bytes up to its end
-pub begins_inside : (s : List ℕ) {x : List ℕ} {at i l n : ℕ} → x ≡ take n s → Lies s at i l n → i ≤ length x
-begins_inside s {x} {at} {i} {l} {n} e F = omega (arith, F, ap length e, length-take n s)
-
 -- the loop over a stop_time_update
 pub record Stops (s : List ℕ) (from at q : ℕ) (p : TextPart) (k : ℕ) (a d : EventNumbers) : Type 0 where
   pub sequence : Reading (plain (λ n. n)) (taking sequence) feed stop_time_update s from 0 at q
@@ -213,16 +192,6 @@ pub record Stops (s : List ℕ) (from at q : ℕ) (p : TextPart) (k : ℕ) (a d 
   pub relationship : Reading (plain (λ n. n)) (taking relationship) feed stop_time_update s from 0 at k
   pub arrival : Within 2 s from at a
   pub departure : Within 3 s from at d
-
-pub stops_start : {s : List ℕ} {from : ℕ} {a d : EventNumbers} → from ≤ length s → a ≡ no_numbers → d ≡ no_numbers
-    → Stops s from from 0 no_span 0 a d
-stops_start h g g' = record {
-  sequence = begins (record { inside = h; within = tt });
-  stop = begins (record { inside = h; within = omega arith });
-  relationship = begins (record { inside = h; within = tt });
-  arrival = within_starts 2 h g;
-  departure = within_starts 3 h g';
-}
 
 module _ {s : List ℕ} {from at q : ℕ} {p : TextPart} {k : ℕ} {a d : EventNumbers} (R : Stops s from at q p k a d) where
   pub stops_end : {r : StopUpdate} → Stepped feed stop_time_update s at Step.End → r ≡ from_stop q p k a d
@@ -240,27 +209,6 @@ module _ {s : List ℕ} {from at q : ℕ} {p : TextPart} {k : ℕ} {a d : EventN
     arrival = within_ends R.arrival S;
     departure = within_ends R.departure S;
   }
-
-  pub stops_break : {r : StopUpdate} → Stepped feed stop_time_update s at Step.Broken → r ≡ from_stop q p k a d
-      → StopReads s from r
-  stops_break S e = record {
-    q = q;
-    p = p;
-    k = k;
-    a = a;
-    d = d;
-    is = e;
-    sequence = reader.stops R.sequence S;
-    stop = reader.stops R.stop S;
-    relationship = reader.stops R.relationship S;
-    arrival = within_breaks R.arrival S;
-    departure = within_breaks R.departure S;
-  }
-
-  pub stops_last : {x : Step} {r : StopUpdate} → Stepped feed stop_time_update s at x
-      → (x ≡ Step.Broken) ⊎ (x ≡ Step.End) → r ≡ from_stop q p k a d → StopReads s from r
-  stops_last S (inl h) e = stops_break (step_is S h) e
-  stops_last S (inr h) e = stops_end (step_is S h) e
 
   module _ {f m n : ℕ} (S : Stepped feed stop_time_update s at (Step.Number f m n)) where
     numbered : {q' k' : ℕ} → Reading (plain (λ n. n)) (taking sequence) feed stop_time_update s from 0 n q'
@@ -326,6 +274,3 @@ module _ {s : List ℕ} {from at q : ℕ} {p : TextPart} {k : ℕ} {a d : EventN
     stops_departure x h e Q =
         messaged (within_passed R.arrival S (λ g. omega arith))
         (within_taken R.departure x S h (departure_event f u S.typed h) e Q)
-
-    pub stops_message : (f ≡ 2 → ⊥) → (f ≡ 3 → ⊥) → Stops s from n q p k a d
-    stops_message h h' = messaged (within_passed R.arrival S h) (within_passed R.departure S h')

@@ -1,7 +1,7 @@
 -- A turn of the loops over a trip_update and over an entity: the last values of the trips and the last delay in one
 -- walk. Assumes nothing.
 use Rattle.std.specs.Prelude.{Option, Some, None}
-use Prim.Native.Nat.{ℕ, ◌+◌, ◌-◌, ◌≤◌, ◌<◌}
+use Prim.Native.Nat.{ℕ, ◌≤◌, ◌<◌}
 use mathlib.Core.Path.{◌≡◌, refl, sym, ap, subst, ◌∙◌}
 use mathlib.Core.List.{List, [], ◌∷◌}
 use mathlib.Core.Option.{none}
@@ -18,14 +18,14 @@ use Rattle.realtime_views.specs.Promises.Fold.{inside}
 use Rattle.realtime_views.specs.Promises.Last.{taking}
 use Rattle.realtime_views.specs.Promises.Reading.{Ready, Reads}
 use Rattle.realtime_views.specs.Promises.Seeks.{Seeks}
-use Rattle.realtime_views.specs.Promises.Scalars.{scalar, scalars, blank, own, scalar_at, takes_along, TripReady}
+use Rattle.realtime_views.specs.Promises.Scalars.{scalar, scalars, blank, own, scalar_at, takes_along}
 use Rattle.realtime_views.specs.Promises.Scalars.{UpdateReads, TripReads}
 use Rattle.realtime_views.specs.declared.Scalar.{Scalar}
 use Rattle.realtime_views.specs.declared.Scalars.{Scalars}
 use Rattle.realtime_views.specs.declared.TripScalars.{TripScalars}
-use Rattle.realtime_views.proofs.Reader.{Reading, begins, ready, taken, taking_skips, inside_skips, passes_on}
-use Rattle.realtime_views.proofs.Reader.{breaks_off, key_breaks, comes_to_end, sought_ready, sought_ends}
-use Rattle.realtime_views.proofs.Reader.{sought_on, blank_start}
+use Rattle.realtime_views.proofs.Reader.{Reading, ready, taken, taking_skips, inside_skips, passes_on}
+use Rattle.realtime_views.proofs.Reader.{breaks_off, key_breaks, comes_to_end, sought_ends}
+use Rattle.realtime_views.proofs.Reader.{sought_on}
 use Rattle.realtime_views.proofs.Stops.{mine_number}
 use Rattle.realtime_views.proofs.Wires.{keyed, number_none, number_passed, number_step, text_none, text_passed}
 use Rattle.realtime_views.proofs.Wires.{message_step, other_none, other_passed, past_number, past_messages}
@@ -34,10 +34,6 @@ use Rattle.realtime_views.proofs.Wires.{message_step, other_none, other_passed, 
 pub record Updates (s : List ℕ) (from : ℕ) (b : TripScalars) (at : ℕ) (d : Scalars) (u : Scalar) : Type 0 where
   pub trip : Reading scalars (takes_along (1 ∷ [])) feed trip_update s from b.trip at d
   pub delay : Reading scalar (taking (scalar_at 5)) feed trip_update s from b.delay at u
-
-pub updates_start : {s : List ℕ} {from : ℕ} {b : TripScalars} → TripReady s from b
-    → Updates s from b from b.trip b.delay
-updates_start R = record { trip = begins R.trip; delay = begins R.delay }
 
 module _ {s : List ℕ} {from : ℕ} {b : TripScalars} {at : ℕ} {d : Scalars} {u : Scalar} (R : Updates s from b at d u)
   where
@@ -129,14 +125,6 @@ pub record Entities (s : List ℕ) (from at : ℕ) (d : TripScalars) : Type 0 wh
   pub trip : Reading scalars (takes_along (3 ∷ 1 ∷ [])) feed feed_entity s from blank at d.trip
   pub delay : Reading scalar (inside 3 (taking (scalar_at 5))) feed feed_entity s from Scalar.Nothing at d.delay
 
-pub entities_start : {s : List ℕ} {from : ℕ} {d : Scalars} → from ≤ length s → d ≡ blank
-    → Entities s from from (record { trip = d; delay = Scalar.Nothing })
-entities_start {s} {from} h e = record {
-  trip = subst (λ k. Reading scalars (takes_along (3 ∷ 1 ∷ [])) feed feed_entity s from blank from k) (sym e)
-      (begins (blank_start s from h));
-  delay = begins (record { inside = h; within = tt });
-}
-
 module _ {s : List ℕ} {from at : ℕ} {d : TripScalars} (R : Entities s from at d) {o : Option (ℕ × ℕ × ℕ)}
     (S : Seeks feed 3 s at o) where
   pub entities_end : o ≡ None → TripReads s from d
@@ -151,19 +139,6 @@ module _ {s : List ℕ} {from at : ℕ} {d : TripScalars} (R : Entities s from a
   module _ {i l n : ℕ} (e : o ≡ Some (i, l, n)) where
     found : Seeks feed 3 s at (Some (i, l, n))
     found = subst (Seeks feed 3 s at) e S
-
-    pub entities_less : length s - n < length s - at
-    entities_less = omega (arith, found.lying)
-
-    pub entities_inside : 0 + n ≤ length s
-    entities_inside = omega (arith, found.lying)
-
-    pub entities_ready : {x : List ℕ} → x ≡ take n s → TripReady x i d
-    entities_ready {x} g =
-        record {
-          trip = sought_ready scalars x found g R.trip.within;
-          delay = sought_ready scalar x found g R.delay.within;
-        }
 
     pub entities_taken : {x : List ℕ} {r : TripScalars} → x ≡ take n s → UpdateReads x i d r → Entities s from n r
     unfolding feed field_rows

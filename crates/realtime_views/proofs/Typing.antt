@@ -15,7 +15,7 @@ use Rattle.realtime.specs.Schema.{field_rows, feed, feed_message, feed_header, f
 use Rattle.realtime_views.specs.Laws.Fold.{inside_sub}
 use Rattle.realtime_views.specs.Promises.Fold.{Takes, folded, inside}
 use Rattle.realtime_views.specs.Laws.Reading.{front_rest}
-use Rattle.realtime_views.specs.Promises.Reading.{Lens, Ready, Reads}
+use Rattle.realtime_views.specs.Promises.Reading.{Lens, Reads}
 use Rattle.realtime_views.specs.Laws.Scalars.{leaf_is, Lasting}
 use Rattle.realtime_views.specs.Laws.Spans.{span_says, span_inside}
 use Rattle.realtime_views.specs.Promises.Scalars.{one, two, three, four, five, six, said, scalar}
@@ -142,14 +142,6 @@ merged_read {t} {k} a s i l h e Q = record {
 pub scalar_read_in : {a k : ℕ} (s : List ℕ) {x : List ℕ} (i l : ℕ) {r : Scalar} → i + l ≤ length s
     → x ≡ take (i + l) s → OneReadsIn a k x i Scalar.Nothing r → OneReadIn a k s i l r
 scalar_read_in s i l h e O t u p v = merged_read _ s i l h e (record { made = O.of t u p v; within = O.within })
-
--- what the readers of a message ask: it starts in the bytes up to its end
-pub starts_in : (s : List ℕ) {x : List ℕ} (i l : ℕ) → i + l ≤ length s → x ≡ take (i + l) s → i ≤ length x
-starts_in s i l h e = omega (arith, ap length e, length-take (i + l) s)
-
-pub scalar_ready : (s : List ℕ) {x : List ℕ} (i l : ℕ) → i + l ≤ length s → x ≡ take (i + l) s
-    → Ready scalar x i Scalar.Nothing
-scalar_ready s i l h e = record { inside = starts_in s i l h e; within = tt }
 
 -- of the numbers and the text of a stop_time_update
 leaf_zero : (k : ℕ) (o : Option Leaf) → leaf (or_zero_at k) 0 o ≡ or_zero (number_in o)

@@ -23,10 +23,6 @@ pub record Leads (a k : ℕ) (s : List ℕ) (w : Walk) (outer end at : ℕ) : Ty
   pub sound : SoundWalk s outer end at
   pub fewer : length s - outer + (length s - at) ≤ ahead s w
 
-pub leads : {a k : ℕ} {s : List ℕ} (w : Walk) → SoundWalk s w.outer w.end w.at
-    → Leads a k s w w.outer w.end w.at
-leads w S = record { of = λ t u v H G l e. e; sound = S; fewer = omega arith }
-
 -- with the trees of the message that is open and of what stands behind it in view
 in_view : {P : Type 0} (a k : ℕ) (i o : Option Tree) (l : List Tree) → left_of a k i o ≡ some l
     → ((m n : Tree) → i ≡ some m → o ≡ some n → l ≡ rep k m ++ rep k (sub a n) → P) → P

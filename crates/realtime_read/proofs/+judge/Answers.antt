@@ -8,9 +8,6 @@ use Rattle.realtime_read.proofs.Turn.{no_number, no_text, no_message, some_numbe
 use Rattle.realtime_read.proofs.Judging.{ends, breaks, passes, more_number, more_text, more_message, key_here, part_less}
 use Rattle.realtime_read.proofs.+judge.Goals as goal
 
-pub loop-at-init : goal.loop-at-init
-loop-at-init t c = record { whole = refl }
-
 pub returns-in_default : goal.returns-in_default
 returns-in_default t c =
     breaks c.loop-at.invariant (key_bad refl c.loop-at-test.true (key_broken _ c.loop-at.at c.in_default.ensures))

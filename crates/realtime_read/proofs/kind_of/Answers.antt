@@ -9,12 +9,6 @@ use Rattle.realtime_read.proofs.kind_of.Goals as goal
 pub returns-then-field-ge-FIELDS : goal.returns-then-field-ge-FIELDS
 returns-then-field-ge-FIELDS c = sym (ap holds (feed_beyond _ _ c.if-field-ge-FIELDS.true))
 
-pub overflow_mul-k : goal.overflow_mul-k
-overflow_mul-k c = omega (arith, c.if-field-ge-FIELDS.false)
-
-pub overflow_shr-k : goal.overflow_shr-k
-overflow_shr-k c = omega (arith, c.if-field-ge-FIELDS.false)
-
 pub returns-in-0 : goal.returns-in-0
 returns-in-0 c = none_of _ (coded c.args.message c.args.field c.row_of.ensures c.if-field-ge-FIELDS.false)
     c.in-0.is

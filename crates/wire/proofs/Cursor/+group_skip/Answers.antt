@@ -2,8 +2,6 @@
 -- by the bytes left.
 -- The answers stand in the call of each member's `spec`, with no signature of their own. Assumes nothing.
 use mathlib.Core.Path.{sym, ap, ◌∙◌}
-use native.Mathlib.Omega.{arith}
-use native.Mathlib.Nat.{pos_of_ne-zero}
 use Rattle.wire.specs.Promises.Places.{past_number, past_text}
 use Rattle.wire.specs.Laws.At.{field_less, key_read, key_broken, skipped_read, skipped_broken}
 use Rattle.wire.proofs.Skip.{skip_0, skip_1, skip_2, skip_5, skip_else, skip_deep, skip_group, group_broken}
@@ -37,9 +35,6 @@ group-returns-then-wire-eq-EGROUP t c =
     let K = key_read s l.here.at k.n k.wire k.next (sym k.was ∙ c.key.ensures) in
     group_other s a.self.at l.here.at a.number a.depth l.invariant k.n k.wire k.next.at K
     c.if-wire-eq-EGROUP.true c.if-n-number.false
-
-pub group-skip-requires : goal.group-skip-requires
-group-skip-requires t c = (omega arith, tt)
 
 pub group-returns-in_err-here : goal.group-returns-in_err-here
 group-returns-in_err-here t c =
@@ -80,9 +75,6 @@ pub skip-returns-then-depth-eq0 : goal.skip-returns-then-depth-eq0
 skip-returns-then-depth-eq0 t c =
     let a = c.args in
     skip_deep a.s.now a.self.at a.number a.wire a.depth c.in-3.is c.if-depth-eq0.true
-
-pub skip-group-requires : goal.skip-group-requires
-skip-group-requires t c = (omega (arith, pos_of_ne-zero c.if-depth-eq0.false), tt)
 
 pub skip-returns-in-0 : goal.skip-returns-in-0
 skip-returns-in-0 t c =

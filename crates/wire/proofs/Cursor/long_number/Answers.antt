@@ -2,32 +2,11 @@
 use native.Mathlib.Omega.{arith}
 use Prim.Native.Nat.{◌%◌}
 use Rattle.wire.proofs.Number.{reading_start, reading_more, number_ends, number_breaks, number_none}
-use Rattle.wire.proofs.Number.{digits_last, digits_over, digits_low, room_last, room_more, scaled}
+use Rattle.wire.proofs.Number.{digits_last, digits_over, digits_low, room_more, scaled}
 use Rattle.wire.proofs.Cursor.long_number.Goals as goal
 
 pub loop-at-init : goal.loop-at-init
 loop-at-init c = reading_start _ _
-
-pub overflow_mul-result : goal.overflow_mul-result
-overflow_mul-result c =
-    let l = c.loop-at in
-    let w = c.from-b in
-    omega (
-      arith,
-      room_last l.scale l.more c.if-more-eq0.true l.invariant.room,
-      scaled w.result 1 l.scale c.if-b-le1.true,
-    )
-
-pub overflow_add-result : goal.overflow_add-result
-overflow_add-result c =
-    let l = c.loop-at in
-    let w = c.from-b in
-    omega (
-      arith,
-      l.invariant.small,
-      room_last l.scale l.more c.if-more-eq0.true l.invariant.room,
-      scaled w.result 1 l.scale c.if-b-le1.true,
-    )
 
 pub returns-then-b-le1 : goal.returns-then-b-le1
 returns-then-b-le1 c =
