@@ -8,13 +8,7 @@ use crate::texts::{road_known, text_fits};
 fn is_hit(h: Hit) -> bool
     ensures { result ≡ hit_any h }
 {
-    if h.trip {
-        return true;
-    }
-    if h.stop {
-        return true;
-    }
-    h.route
+    h.trip || h.stop || h.route
 }
 
 // Whether the alert isn't one about road traffic that meets a rail leg.

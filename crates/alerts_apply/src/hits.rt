@@ -15,10 +15,7 @@ pub struct Hit {
 fn unless_empty(n: usize, hit: bool) -> bool
     ensures { result ≡ unless n hit }
 {
-    if n == 0 {
-        return false;
-    }
-    hit
+    n != 0 && hit
 }
 
 // The short name is trimmed.

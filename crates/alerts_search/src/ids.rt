@@ -58,10 +58,7 @@ fn meets_id(k: &[u8], x: &[u8]) -> bool
 fn meets_stop(x: &[u8], y: &[u8], id: &[u8]) -> bool
     ensures { result ≡ meets_stop x.now y.now id.now }
 {
-    if meets_id(x, id) {
-        return true;
-    }
-    meets_id(y, id)
+    meets_id(x, id) || meets_id(y, id)
 }
 
 // Whether a trip id, with its date or without, is the leg's, with its date or without.
@@ -69,62 +66,35 @@ fn meets_trip(trip: &[u8], base: &[u8], id: &[u8]) -> bool
     ensures { result ≡ meets_trip trip.now base.now id.now }
 {
     let u = undated(id);
-    if slices::same(base, id) {
-        return true;
-    }
-    if slices::same(base, u) {
-        return true;
-    }
-    if slices::same(trip, id) {
-        return true;
-    }
-    slices::same(trip, u)
+    slices::same(base, id)
+        || slices::same(base, u)
+        || slices::same(trip, id)
+        || slices::same(trip, u)
 }
 
 fn hits_trip(trip: &[u8], base: &[u8], id: &[u8]) -> bool
     ensures { result ≡ hits_trip_id trip.now base.now id.now }
 {
-    if slices::same(id, trip) {
-        return true;
-    }
-    if slices::same(id, base) {
-        return true;
-    }
-    alerts_ids::ends_after_colon(id, base)
+    slices::same(id, trip) || slices::same(id, base) || alerts_ids::ends_after_colon(id, base)
 }
 
 fn hits_stop(x: &[u8], id: &[u8]) -> bool
     ensures { result ≡ hits_stop_id x.now id.now }
 {
-    if x.len() == 0 {
-        return false;
-    }
-    if slices::same(id, x) {
-        return true;
-    }
-    same_ignoring_case(stop_tail(id), stop_tail(x))
+    !x.is_empty() && (slices::same(id, x) || same_ignoring_case(stop_tail(id), stop_tail(x)))
 }
 
 fn hits_route(route: &[u8], short: &[u8], id: &[u8]) -> bool
     ensures { result ≡ hits_route_id route.now short.now id.now }
 {
-    if alerts_ids::route_refs_match(route, id) {
-        return true;
-    }
-    if short.len() == 0 {
-        return false;
-    }
-    alerts_ids::by_name(short, id)
+    alerts_ids::route_refs_match(route, id) || !short.is_empty() && alerts_ids::by_name(short, id)
 }
 
 fn hits_either(x: &[u8], y: &[u8], id: &[u8]) -> bool
     ensures { result ≡
         hits_stop_id x.now id.now || hits_stop_id y.now id.now }
 {
-    if hits_stop(x, id) {
-        return true;
-    }
-    hits_stop(y, id)
+    hits_stop(x, id) || hits_stop(y, id)
 }
 
 fn answer(ask: Ask, x: &[u8], y: &[u8], id: &[u8]) -> bool
@@ -144,10 +114,7 @@ fn answer(ask: Ask, x: &[u8], y: &[u8], id: &[u8]) -> bool
 fn or_answer(hit: bool, ask: Ask, x: &[u8], y: &[u8], id: &[u8]) -> bool
     ensures { result ≡ hit || answer_of ask x.now y.now id.now }
 {
-    if hit {
-        return true;
-    }
-    answer(ask, x, y, id)
+    hit || answer(ask, x, y, id)
 }
 
 // Whether some id says yes, and the place past the list.
@@ -167,10 +134,8 @@ pub fn any_id(ask: Ask, x: &[u8], y: &[u8], s: &[u8], at: usize) -> Reply
     let mut hit = false;
     while 0 < left {
         let t = formats_read::text(s, p);
-        let a = t.from;
-        let e = t.to;
-        hit = or_answer(hit, ask, x, y, &s[a..e]);
-        p = e;
+        hit = or_answer(hit, ask, x, y, &s[t.from..t.to]);
+        p = t.to;
         left -= 1;
     }
     Reply { hit, next: p }
