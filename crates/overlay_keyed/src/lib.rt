@@ -68,6 +68,7 @@ fn trips_from(
 {
     let mut p = at;
     let mut i = base;
+    // No Option of a place: the contract of `follows` speaks of these three.
     let mut first = true;
     let mut b: usize = 0;
     let mut d: usize = 0;

@@ -115,6 +115,7 @@ fn feeds_from(n: u64, old: &[u8], at: usize, noted: &mut [u32]) -> Option<usize>
         noted.new) }
 {
     let mut p = at;
+    // No Option of a place: the contract of `follows` speaks of these three.
     let mut first = true;
     let mut b: usize = 0;
     let mut d: usize = 0;

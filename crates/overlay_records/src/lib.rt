@@ -42,6 +42,7 @@ fn vehicles_from(n: u64, old: &[u8], at: usize) -> Option<usize>
     ensures { Climbs 64 printable vehicle_good weightless (whatever n) n old.now at result }
 {
     let mut p = at;
+    // No Option of a place: the contract of `follows` speaks of these three.
     let mut first = true;
     let mut b: usize = 0;
     let mut d: usize = 0;
