@@ -98,12 +98,11 @@ pub fn compare_text(old: &[u8], at: usize, text: &[u8]) -> Ordering
     ensures { Compares old.now at text.now result }
 {
     let t = formats_read::text(old, at);
-    let from = t.from;
-    let to = t.to;
-    slices::compare(text, &old[from..to])
+    slices::compare(text, &old[t.from..t.to])
 }
 
 // A feed's rank, the place of its entry, and the place past its id; or the rank and the place where it would go in.
+// No Option or Result: both are answers, with places of their own, and neither is a failure.
 #[derive(Drop)]
 pub enum FeedPlace {
     At(u64, usize, usize),
@@ -113,20 +112,17 @@ pub enum FeedPlace {
 pub fn find_feed(old: &[u8], feed: &[u8]) -> FeedPlace
     ensures { FindsFeed old.now feed.now result }
 {
-    let h = read_head(old);
-    let mut p = h.first;
-    let mut left = h.count;
-    let mut i = 0;
-    while 0 < left {
+    let head = read_head(old);
+    let count = head.count;
+    let mut p = head.first;
+    for i in 0..count {
         match compare_text(old, p, feed) {
             Ordering::Less => return FeedPlace::Missing(i, p),
             Ordering::Equal => return FeedPlace::At(i, p, formats_skip::past_text(old, p)),
             Ordering::Greater => {
                 p = overlay_skip::past_feed_entry(old, p);
-                left -= 1;
-                i += 1;
             }
         }
     }
-    FeedPlace::Missing(i, p)
+    FeedPlace::Missing(count, p)
 }

@@ -6,8 +6,8 @@ ghost use Rattle.decode.specs.Sizes.{most_trips};
 ghost use Rattle.overlay_noted.specs.Promises.Noted.{places_length, Noted, entry_at, count_at, vehicles_at, alerts_at};
 ghost use Rattle.overlay_places.specs.Promises.Ranks.{RanksFeed};
 
-use std::cmp::Ordering;
 use slices::word;
+use std::cmp::Ordering;
 
 // Of the feed at rank r: the place of its entry, the count of its trips, the place of trip i, the places of its
 // vehicles and its alerts.
@@ -50,17 +50,13 @@ pub fn feed_rank(old: &[u8], noted: &[u32], feed: &[u8]) -> Option<usize>
     requires { Noted old.now noted.now }
     ensures { RanksFeed old.now noted.now feed.now result }
 {
-    let mut left = overlay_feeds::read_head(old).count;
-    let mut r = 0;
-    while 0 < left {
+    let count = overlay_feeds::read_head(old).count as usize;
+    for r in 0..count {
         let p = entry_place(noted, r);
         match overlay_feeds::compare_text(old, p, feed) {
             Ordering::Less => return None,
             Ordering::Equal => return Some(r),
-            Ordering::Greater => {
-                r += 1;
-                left -= 1;
-            }
+            Ordering::Greater => {}
         }
     }
     None

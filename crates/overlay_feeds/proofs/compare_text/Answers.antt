@@ -1,6 +1,5 @@
 -- `compare_text` meets its contract.
 use Rattle.overlay_feeds.specs.Laws.Place.{compares}
-use borrow.Author.Rules.{rules}
 use Rattle.overlay_feeds.proofs.compare_text.Goals as goal
 
 pub returns : goal.returns

@@ -1,6 +1,5 @@
 -- `read_back` meets its contract.
 use Rattle.overlay_feeds.specs.Laws.Parts.{back_of}
-use borrow.Author.Rules.{rules}
 use Rattle.overlay_feeds.proofs.read_back.Goals as goal
 
 pub returns : goal.returns

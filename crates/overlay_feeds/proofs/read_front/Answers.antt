@@ -1,6 +1,5 @@
 -- `read_front` meets its contract.
 use Rattle.overlay_feeds.specs.Laws.Parts.{front_of}
-use borrow.Author.Rules.{rules}
 use Rattle.overlay_feeds.proofs.read_front.Goals as goal
 
 pub returns : goal.returns

@@ -1,6 +1,5 @@
 -- `read_head` meets its contract.
 use Rattle.overlay_feeds.specs.Laws.Head.{read_head}
-use borrow.Author.Rules.{rules}
 use Rattle.overlay_feeds.proofs.read_head.Goals as goal
 
 pub returns : goal.returns

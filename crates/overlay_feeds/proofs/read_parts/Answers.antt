@@ -1,6 +1,5 @@
 -- `read_parts` meets its contract.
 use Rattle.overlay_feeds.specs.Laws.Parts.{parts_of}
-use borrow.Author.Rules.{rules}
 use Rattle.overlay_feeds.proofs.read_parts.Goals as goal
 
 pub returns : goal.returns

@@ -167,6 +167,12 @@ module _ {s f : List ℕ} {v c n a p left i : ℕ} (H : ReadsHead s v c n a) (S 
         (free_end f P.back (omega (arith, P.count))));
   }
 
+  pub feed_all : left ≤ 0 → FindsFeed s f (Missing n p)
+  feed_all z =
+      let e : i ≡ n = omega (arith, S.sum) in
+      let F : FindsFeed s f (Missing i p) = feed_end z in
+      rw e at F
+
   pub feed_same : {m : ℕ} {r : Ordering} → 0 < left → Compares s p f r → r ≡ Equal → Passes (text 0 any) s p m
       → FindsFeed s f (At i p m)
   feed_same {m} z C k T = record {
