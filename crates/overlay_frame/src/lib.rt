@@ -15,26 +15,26 @@ const MOST_FEEDS: u64 = 4;
 // The body of a feed that isn't there yet: no timestamp, a count of 0, no trips, no vehicles, no alerts.
 pub const NO_FEED: [u8; 5] = [0, 0, 0, 0, 0];
 
-// Where the body of a feed goes: there is no room for a fifth feed; or the place of its entry, the place past its id,
-// and how many feeds there are; or the place where it goes in, and how many feeds there are with it.
+// Where the body of a feed goes: the place of its entry, the place past its id, and how many feeds there are; or the
+// place where it goes in, and how many feeds there are with it.
 #[derive(Drop)]
 pub enum FeedSpot {
-    Full,
     Known(usize, usize, u64),
     New(usize, u64),
 }
 
-pub fn spot(old: &[u8], feed: &[u8]) -> FeedSpot
+// Where a feed's body goes, unless it would be a fifth feed: there is no room for that.
+pub fn spot(old: &[u8], feed: &[u8]) -> Option<FeedSpot>
     ensures { FindsSpot old.now feed.now result }
 {
     let count = overlay_feeds::read_head(old).count;
     match overlay_feeds::find_feed(old, feed) {
-        FeedPlace::At(_, from, body) => FeedSpot::Known(from, body, count),
+        FeedPlace::At(_, from, body) => Some(FeedSpot::Known(from, body, count)),
         FeedPlace::Missing(_, from) => {
             if count >= MOST_FEEDS {
-                return FeedSpot::Full;
+                return None;
             }
-            FeedSpot::New(from, count + 1)
+            Some(FeedSpot::New(from, count + 1))
         }
     }
 }

@@ -207,8 +207,8 @@ pub fn after_message(
     requires fact { Open old.now end × (length old.now ≤ most_old) }
     ensures { Leads new.old new.new result feed.now message.now old.now }
 {
-    match overlay_frame::spot(old, feed) {
-        FeedSpot::Full => None,
+    let spot = overlay_frame::spot(old, feed)?;
+    match spot {
         FeedSpot::Known(from, body, count) => {
             change(
                 new, keys, marks, order, feed, message, old, end, from, true, count, old, body,

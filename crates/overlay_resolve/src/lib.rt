@@ -16,13 +16,9 @@ pub fn vehicle(old: &[u8], noted: &[u32], trip: &[u8]) -> Option<VehiclePlace>
     ensures { ShowsVehicle old.now trip.now result }
 {
     let n = overlay_ids::feed_end(trip);
-    match overlay_places::feed_rank(old, noted, &trip[..n]) {
-        Some(r) => {
-            let p = overlay_places::vehicles_place(noted, r);
-            overlay_vehicle::vehicle(old, p, trip)
-        }
-        None => None,
-    }
+    let r = overlay_places::feed_rank(old, noted, &trip[..n])?;
+    let p = overlay_places::vehicles_place(noted, r);
+    overlay_vehicle::vehicle(old, p, trip)
 }
 
 // The place of the alerts of a trip's feed.
@@ -31,10 +27,8 @@ pub fn alerts(old: &[u8], noted: &[u32], trip: &[u8]) -> Option<usize>
     ensures { ShowsAlerts old.now trip.now result }
 {
     let n = overlay_ids::feed_end(trip);
-    match overlay_places::feed_rank(old, noted, &trip[..n]) {
-        Some(r) => Some(overlay_places::alerts_place(noted, r)),
-        None => None,
-    }
+    let r = overlay_places::feed_rank(old, noted, &trip[..n])?;
+    Some(overlay_places::alerts_place(noted, r))
 }
 
 // A feed's record by a trip id.
@@ -43,13 +37,9 @@ fn trip_in_feed(old: &[u8], noted: &[u32], feed: &[u8], trip: &[u8]) -> Option<(
     ensures { Resolves (in_trips feed.now (get_trip feed.now trip.now))
         old.now result }
 {
-    match overlay_places::feed_rank(old, noted, feed) {
-        Some(r) => match overlay_find::get_trip(old, noted, r, feed, trip) {
-            Some(p) => Some((p, overlay_places::entry_place(noted, r))),
-            None => None,
-        },
-        None => None,
-    }
+    let r = overlay_places::feed_rank(old, noted, feed)?;
+    let p = overlay_find::get_trip(old, noted, r, feed, trip)?;
+    Some((p, overlay_places::entry_place(noted, r)))
 }
 
 // A feed's record by a leg's descriptor.
@@ -66,15 +56,9 @@ fn route_in_feed(
         (find_trip_by_descriptor feed.now route.now (given_number direction) date.now))
         old.now result }
 {
-    match overlay_places::feed_rank(old, noted, feed) {
-        Some(r) => {
-            match overlay_find::by_descriptor(old, noted, r, feed, route, direction, date) {
-                Some(p) => Some((p, overlay_places::entry_place(noted, r))),
-                None => None,
-            }
-        }
-        None => None,
-    }
+    let r = overlay_places::feed_rank(old, noted, feed)?;
+    let p = overlay_find::by_descriptor(old, noted, r, feed, route, direction, date)?;
+    Some((p, overlay_places::entry_place(noted, r)))
 }
 
 // The record of a leg by its descriptor, in its route's feed.

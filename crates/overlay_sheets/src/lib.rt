@@ -54,8 +54,8 @@ pub fn after_alerts(out: &mut [u8], old: &[u8], end: usize, feed: &[u8], sheet: 
         → AlertsIn sheet.now vs → ok 7 (list 256 alert) vs ≡ true
         → Changes out.old out.new result (after_alerts feed.now vs s) }
 {
-    match overlay_frame::spot(old, feed) {
-        FeedSpot::Full => None,
+    let spot = overlay_frame::spot(old, feed)?;
+    match spot {
         FeedSpot::Known(from, body, count) => {
             put_alerts(out, old, end, feed, from, true, count, old, body, sheet)
         }
@@ -140,8 +140,8 @@ pub fn after_vehicles(
         → zag limit ≡ clock -ℤ pos 900 → VehiclesAlone sheet.now xs
         → Changes out.old out.new result (after_vehicles feed.now xs clock s) }
 {
-    match overlay_frame::spot(old, feed) {
-        FeedSpot::Full => None,
+    let spot = overlay_frame::spot(old, feed)?;
+    match spot {
         FeedSpot::Known(from, body, count) => {
             put_vehicles(
                 out, old, end, feed, from, true, count, old, body, sheet, limit,

@@ -25,13 +25,8 @@ fn or_keyed(seen: Option<usize>, old: &[u8], p: usize, m: usize, trip: &[u8]) ->
     ensures { Seen seen old.now p m trip.now result }
 {
     match seen {
-        Some(q) => Some(q),
-        None => {
-            if overlay_seek::is_text(old, p, trip) {
-                return Some(m);
-            }
-            None
-        }
+        Some(_) => seen,
+        None => overlay_seek::is_text(old, p, trip).then_some(m),
     }
 }
 
@@ -41,16 +36,14 @@ pub fn find_vehicle(old: &[u8], at: usize, trip: &[u8]) -> Option<usize>
 {
     let c = formats_read::number(old, at);
     let mut p = c.next;
-    let mut left = c.value;
     let mut seen = None;
-    while 0 < left {
+    for _ in 0..c.value {
         let m = formats_skip::past_text(old, p);
         if makes_trip(old, m, trip) {
             return Some(m);
         }
         seen = or_keyed(seen, old, p, m, trip);
         p = overlay_skip::past_vehicle(old, m);
-        left -= 1;
     }
     seen
 }
@@ -69,8 +62,6 @@ pub fn read_vehicle(old: &[u8], at: usize) -> VehiclePlace
 pub fn vehicle(old: &[u8], at: usize, trip: &[u8]) -> Option<VehiclePlace>
     ensures { SeesVehicle old.now at trip.now result }
 {
-    match find_vehicle(old, at, trip) {
-        Some(p) => Some(read_vehicle(old, p)),
-        None => None,
-    }
+    let p = find_vehicle(old, at, trip)?;
+    Some(read_vehicle(old, p))
 }

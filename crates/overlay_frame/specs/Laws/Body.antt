@@ -1,5 +1,5 @@
 -- Law. Where the body of a feed goes: over its old entry, or among the feeds that are there, if they are not too many.
-use Rattle.std.specs.Prelude.{◌≡◌, Bool, cond, true, false, ◌&&◌, List, ◌∷◌, ℕ, ◌+◌, ◌≤◌, ◌<◌, length}
+use Rattle.std.specs.Prelude.{◌≡◌, Bool, cond, true, false, ◌&&◌, List, ◌∷◌, ℕ, ◌+◌, ◌≤◌, ◌<◌, length, Some, None}
 use Rattle.std.proofs.Math.Path.{refl, ap}
 use Rattle.std.proofs.Common.{sym, subst, ◌∙◌, arith, length-append}
 use Rattle.std.proofs.Math.Option.{Option, none, some, get_or}
@@ -19,7 +19,7 @@ use Rattle.overlay_open.specs.Laws.Held.{feeds_up, feeds_few, feed_found}
 use Rattle.overlay_feeds.specs.declared.FeedPlace.{FeedPlace}
 use Rattle.overlay_feeds.specs.Promises.Head.{ReadsHead}
 use Rattle.overlay_feeds.specs.Promises.Place.{FeedAt, FeedMissing, FindsFeed}
-use Rattle.overlay_frame.specs.declared.FeedSpot.TheVariants.{Full, Known, New}
+use Rattle.overlay_frame.specs.declared.FeedSpot.TheVariants.{Known, New}
 use Rattle.overlay_frame.specs.Promises.Frame.{Spot}
 use Rattle.overlay_frame.specs.Promises.Body.{no_body, BodyAt, FindsSpot}
 use Rattle.overlay_frame.specs.Laws.Frame.{count_is}
@@ -115,7 +115,7 @@ module _ {b f : List ℕ} {v c n first : ℕ} (H : ReadsHead b v c n first) wher
 
   -- THE THREE ANSWERS
   module _ {r : FeedPlace} (P : FindsFeed b f r) {i p : ℕ} where
-    pub known_spot : {m : ℕ} → r ≡ FeedPlace.At i p m → FindsSpot b f (Known p m n)
+    pub known_spot : {m : ℕ} → r ≡ FeedPlace.At i p m → FindsSpot b f (Some (Known p m n))
     known_spot {m} e = record {
       to = λ {s} {q} h u.
           let B = body_known h u ((P.to h (feeds_up s u)).found i p m e) in
@@ -128,7 +128,7 @@ module _ {b f : List ℕ} {v c n first : ℕ} (H : ReadsHead b v c n first) wher
     }
 
     module _ (e : r ≡ FeedPlace.Missing i p) where
-      pub new_spot : n < 4 → FindsSpot b f (New p (n + 1))
+      pub new_spot : n < 4 → FindsSpot b f (Some (New p (n + 1)))
       new_spot l = record {
         to = λ {s} {q} h u.
             let B = body_new h u ((P.to h (feeds_up s u)).lost i p e) l in
@@ -139,7 +139,7 @@ module _ {b f : List ℕ} {v c n first : ℕ} (H : ReadsHead b v c n first) wher
             };
       }
 
-      pub no_spot : 4 ≤ n → FindsSpot b f Full
+      pub no_spot : 4 ≤ n → FindsSpot b f None
       no_spot l = record {
         to = λ {s} {q} h u. record {
           full = λ d F n. many_feeds (spot_new h u ((P.to h (feeds_up s u)).lost i p e)) F n (omega arith);

@@ -1,5 +1,5 @@
 -- Promise. Where the body of a feed goes in an old state, and where its old body is.
-use Rattle.std.specs.Prelude.{◌≡◌, Bool, true, false, cond, List, [], ◌∷◌, ℕ, ◌≤◌}
+use Rattle.std.specs.Prelude.{◌≡◌, Bool, true, false, cond, List, [], ◌∷◌, ℕ, ◌≤◌, Option, Some, None}
 use Rattle.formats_judge.specs.Judged.{ok}
 use Rattle.formats_read.specs.Promises.Here.{Here}
 use Rattle.overlay.specs.State.{Feed, State, feed, overlay}
@@ -22,12 +22,12 @@ pub record BodyAt (b : List ℕ) (q : ℕ) (s : State) (f : List ℕ) (from : �
   pub spot : Spot b q s f from (cond known till from) count
   pub few : count ≤ 4
 
--- FULL: with the feed, question 7 has the answer no. KNOWN: its body stands in b. NEW: an empty one stands for it
-pub record Spotted (b f : List ℕ) (s : State) (q : ℕ) (r : FeedSpot) : Type 0 where
-  pub full : r ≡ FeedSpot.Full → (F : Feed) (n : ℕ) → ok 7 overlay (put_feed f F n s) ≡ false
-  pub known : (from body count : ℕ) → r ≡ FeedSpot.Known from body count → BodyAt b q s f from true count b body
-  pub new : (from count : ℕ) → r ≡ FeedSpot.New from count → BodyAt b q s f from false count no_body 0
+-- NONE: with the feed, question 7 has the answer no. KNOWN: its body stands in b. NEW: an empty one stands for it
+pub record Spotted (b f : List ℕ) (s : State) (q : ℕ) (r : Option FeedSpot) : Type 0 where
+  pub full : r ≡ None → (F : Feed) (n : ℕ) → ok 7 overlay (put_feed f F n s) ≡ false
+  pub known : (from body count : ℕ) → r ≡ Some (FeedSpot.Known from body count) → BodyAt b q s f from true count b body
+  pub new : (from count : ℕ) → r ≡ Some (FeedSpot.New from count) → BodyAt b q s f from false count no_body 0
 
 -- the spot is that of feed f in a valid state that stands at 0
-pub record FindsSpot (b f : List ℕ) (r : FeedSpot) : Type 0 where
+pub record FindsSpot (b f : List ℕ) (r : Option FeedSpot) : Type 0 where
   pub to : {s : State} {q : ℕ} → Here overlay b 0 q s → valid s ≡ true → Spotted b f s q r

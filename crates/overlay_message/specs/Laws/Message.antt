@@ -1,5 +1,5 @@
 -- Law. The state after a message, by what the index says of its trips and where its feed's body goes.
-use Rattle.std.specs.Prelude.{ℕ, ◌≤◌, ◌≡◌, refl, Bool, true, false, cond, List, [], ◌∷◌, length, Option, None, Result, Ok, Err}
+use Rattle.std.specs.Prelude.{ℕ, ◌≤◌, ◌≡◌, refl, Bool, true, false, cond, List, [], ◌∷◌, length, Option, Some, None, Result, Ok, Err}
 use Rattle.std.proofs.Common.{sym, subst, ◌∙◌, arith, le-ltb}
 use Rattle.std.proofs.Math.Path.{ap, ap₂}
 use Rattle.std.proofs.Math.Bool.{◌&&◌}
@@ -55,13 +55,13 @@ of_open {l} {m} {r} {f} O c = record {
 
 -- ---- where the feed's body goes
 
-module _ {o f : List ℕ} {end : ℕ} {r : FeedSpot} (O : Open o end) (P : FindsSpot o f r) where
-  pub full_leads : {l s : List ℕ} → r ≡ FeedSpot.Full → Leads l l None f s o
+module _ {o f : List ℕ} {end : ℕ} {r : Option FeedSpot} (O : Open o end) (P : FindsSpot o f r) where
+  pub full_leads : {l s : List ℕ} → r ≡ None → Leads l l None f s o
   unfolding after_message
   full_leads e =
       of_open O (λ t is. over_seven (after_message f t O.state) ((P.to O.here O.valid).full e _ _))
 
-  pub known_ready : {from body count : ℕ} → length o ≤ most_old → r ≡ FeedSpot.Known from body count
+  pub known_ready : {from body count : ℕ} → length o ≤ most_old → r ≡ Some (FeedSpot.Known from body count)
       → Ready o end f from true count o body
   known_ready {from} {body} {count} h e = record {
     opened = O;
@@ -69,7 +69,7 @@ module _ {o f : List ℕ} {end : ℕ} {r : FeedSpot} (O : Open o end) (P : Finds
     place = (P.to O.here O.valid).known from body count e;
   }
 
-  pub new_ready : {from count : ℕ} → r ≡ FeedSpot.New from count → Ready o end f from false count no_body 0
+  pub new_ready : {from count : ℕ} → r ≡ Some (FeedSpot.New from count) → Ready o end f from false count no_body 0
   new_ready {from} {count} e = record {
     opened = O;
     small = omega arith;

@@ -9,10 +9,10 @@ pub slice_bounds-feed_rank-end : goal.slice_bounds-feed_rank-end
 slice_bounds-feed_rank-end c = simp length-take (omega arith)
 
 pub alerts_place-requires : goal.alerts_place-requires
-alerts_place-requires c = (search noted_room, search found_low)
+alerts_place-requires c = (search noted_room, search (found_low, c.in_ok-r.was))
 
-pub returns-in-Some : goal.returns-in-Some
-returns-in-Some c = search alerts_in
+pub returns-in_err-r : goal.returns-in_err-r
+returns-in_err-r c = search (no_alerts, c.from_residual.ensures, c.in_err-r.was)
 
-pub returns-in-None : goal.returns-in-None
-returns-in-None c = search no_alerts
+pub returns : goal.returns
+returns c = search (alerts_in, c.in_ok-r.was)

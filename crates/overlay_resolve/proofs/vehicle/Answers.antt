@@ -9,10 +9,10 @@ pub slice_bounds-feed_rank-end : goal.slice_bounds-feed_rank-end
 slice_bounds-feed_rank-end c = simp length-take (omega arith)
 
 pub vehicles_place-p-requires : goal.vehicles_place-p-requires
-vehicles_place-p-requires c = (search noted_room, search found_low)
+vehicles_place-p-requires c = (search noted_room, search (found_low, c.in_ok-r.was))
 
-pub returns-in-Some : goal.returns-in-Some
-returns-in-Some c = search in_feed
+pub returns-in_err-r : goal.returns-in_err-r
+returns-in_err-r c = search (no_feed_holds, c.from_residual.ensures, c.in_err-r.was)
 
-pub returns-in-None : goal.returns-in-None
-returns-in-None c = search no_feed_holds
+pub returns : goal.returns
+returns c = search (in_feed, c.in_ok-r.was)

@@ -1,19 +1,24 @@
 -- `after_vehicles` meets its contract.
-use Rattle.std.proofs.Common.{rules}
+use mathlib.Core.Path.{◌≡◌}
+use Rattle.std.proofs.Common.{Some}
+use Rattle.overlay_frame.specs.declared.FeedSpot.{FeedSpot}
 use Rattle.overlay_sheets.specs.Laws.Sheets.{vehicles_full}
 use Rattle.overlay_sheets.proofs.after_vehicles.Goals as goal
 
-pub returns-in-Full : goal.returns-in-Full
-returns-in-Full c = λ s xs clock h u z I. vehicles_full c.spot.ensures c.in-Full.is h u xs clock
+pub returns-in_err-spot : goal.returns-in_err-spot
+returns-in_err-spot c = λ s xs clock h u z I. search (vehicles_full, c.from_residual.ensures, c.in_err-spot.was)
 
 pub returns-in-Known : goal.returns-in-Known
 returns-in-Known c =
     λ s xs clock h u z I.
-    let B = (c.spot.ensures.to h u).known _ _ _ c.in-Known.is in
+    let e : c.spot.result ≡ Some (FeedSpot.Known c.in-Known.from c.in-Known.body c.in-Known.count) =
+        search (c.in_ok-spot.was, c.in-Known.is) in
+    let B = (c.spot.ensures.to h u).known _ _ _ e in
     c.put_vehicles.ensures s xs clock B z I
 
 pub returns-in-New : goal.returns-in-New
 returns-in-New c =
     λ s xs clock h u z I.
-    let B = (c.spot.ensures.to h u).new _ _ c.in-New.is in
+    let e : c.spot.result ≡ Some (FeedSpot.New c.in-New.from c.in-New.count) = search (c.in_ok-spot.was, c.in-New.is) in
+    let B = (c.spot.ensures.to h u).new _ _ e in
     c.put_vehicles-in-New.ensures s xs clock B z I

@@ -33,7 +33,7 @@ use Rattle.overlay_merge.specs.Promises.Merge.{Counted}
 use Rattle.overlay_bodies.specs.Promises.Bodies.{AlertsIn, VehiclesIn, VehiclesAlone, Left, with_alerts, with_vehicles}
 
 -- A FIFTH FEED
-module _ {old f : List ℕ} {s : State} {end : ℕ} {r : FeedSpot} (P : FindsSpot old f r) (e : r ≡ FeedSpot.Full)
+module _ {old f : List ℕ} {s : State} {end : ℕ} {r : Option FeedSpot} (P : FindsSpot old f r) (e : r ≡ None)
     (h : Here overlay old 0 end s) (u : valid s ≡ true) {l : List ℕ} where
   pub alerts_full : (vs : List Alert) → Changes l l None (after_alerts f vs s)
   unfolding after_alerts
