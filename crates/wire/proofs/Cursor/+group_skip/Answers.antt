@@ -43,8 +43,8 @@ group-returns-in_err-here t c =
     let s = a.s.now in
     let k = c.in_ok-n in
     let K = key_read s l.here.at k.n k.wire k.next (sym k.was ∙ c.key.ensures) in
-    c.from_residual-in_err-here.ensures ∙ group_inner s a.self.at l.here.at a.number a.depth l.invariant k.n k.wire k.next.at K
-    c.if-wire-eq-EGROUP.false
+    c.from_residual-in_err-here.ensures
+    ∙ group_inner s a.self.at l.here.at a.number a.depth l.invariant k.n k.wire k.next.at K c.if-wire-eq-EGROUP.false
     (skipped_broken s k.next.at k.n k.wire a.depth
     (sym c.in_err-here.was ∙ c.skip.ensures))
 

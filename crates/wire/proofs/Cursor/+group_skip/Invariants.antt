@@ -12,7 +12,8 @@ decreases-group l = l.depth + l.depth + 1
 
 abbrev pub invariant-group-loop-n : goal.invariant-group-loop-n
 invariant-group-loop-n l =
-    in_group (value l.depth) l.number (drop l.initial.here.at l.s) ≡ in_group (value l.depth) l.number (drop l.here.at l.s)
+    in_group (value l.depth) l.number (drop l.initial.here.at l.s)
+    ≡ in_group (value l.depth) l.number (drop l.here.at l.s)
 
 abbrev pub decreases-group-loop-n : goal.decreases-group-loop-n
 decreases-group-loop-n l = length l.s - l.here.at
