@@ -1,5 +1,5 @@
 -- `count_updates` on plain values: those so far and those that are left. Assumes nothing.
-use Prim.Native.Nat.{ℕ, ◌+◌, ◌≤◌, ◌<◌}
+use Prim.Native.Nat.{ℕ, ◌+◌, ◌≤◌}
 use mathlib.Core.Path.{◌≡◌, sym}
 use mathlib.Core.Bool.{false}
 use mathlib.Core.List.{List, [], map}
@@ -30,7 +30,7 @@ counting s start len i e = record { most = omega arith; walked = starts s start 
 
 module _ {s : List ℕ} {start len n : ℕ} {w : Walk} (W : Counting s start len n w) where
   -- too many, whatever is left
-  pub counts_many : 128 < n → Counted s start len n
+  pub counts_many : 129 ≤ n → Counted s start len 129
   counts_many h = record { of = λ e q. omega (arith, W.most, (W.walked.of e q).holds) }
 
   module _ {x : List ℕ} (X : x ≡ take (start + len) s) {r : Item} (N : NextUpdate x w r) where

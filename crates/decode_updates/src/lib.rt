@@ -5,7 +5,8 @@
 ghost use Rattle.std.specs.Prelude.{◌≡◌, ◌+◌, ◌*◌, ◌≤◌, false, ◌&&◌, ltb, eqb, length, take, get_or};
 ghost use Rattle.basics.specs.Lists.{All};
 ghost use Rattle.maps.specs.Order.{numbers};
-ghost use Rattle.decode.specs.Sizes.{most_trips, most_updates, most_message, marks_length, order_length, updates_length};
+ghost use Rattle.decode.specs.Sizes.{most_trips, most_updates, most_message};
+ghost use Rattle.decode.specs.Sizes.{marks_length, order_length, updates_length};
 ghost use Rattle.decode_updates.specs.Promises.Line.{most_lines, three, Lined, Noted};
 ghost use Rattle.decode_slots.specs.Promises.Index.{rank_of};
 ghost use Rattle.decode_updates.specs.Line.{laid};
@@ -111,8 +112,7 @@ fn count_updates(message: &[u8], start: usize, len: usize) -> usize
 {
     let end = start + len;
     let mut walk = realtime_views::merged_items(start);
-    let mut n: usize = 0;
-    while n <= MOST_UPDATES {
+    for n in 0..MOST_UPDATES + 1 {
         let Item::At { walk: rest, .. } = realtime_views::next_update(
             slices::part(message, 0, end),
             walk,
@@ -120,9 +120,8 @@ fn count_updates(message: &[u8], start: usize, len: usize) -> usize
             return n;
         };
         walk = rest;
-        n += 1;
     }
-    n
+    MOST_UPDATES + 1
 }
 
 // Whether the record of an entity has more than 128. Few records do, and counting tells of nearly all others.

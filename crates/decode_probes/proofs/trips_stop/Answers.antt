@@ -19,8 +19,18 @@ returns c =
     let none : c.default.result ≡ no_stop = λ j. record {
       sequence = d.0 j;
       skipped = d.1.0 j;
-      arrival = record { delayed = d.1.1.0.0 j; delay = d.1.1.0.1.0 j; timed = d.1.1.0.1.1.0 j; time = d.1.1.0.1.1.1 j };
-      departure = record { delayed = d.1.1.1.0 j; delay = d.1.1.1.1.0 j; timed = d.1.1.1.1.1.0 j; time = d.1.1.1.1.1.1 j };
+      arrival = record {
+        delayed = d.1.1.0.0 j;
+        delay = d.1.1.0.1.0 j;
+        timed = d.1.1.0.1.1.0 j;
+        time = d.1.1.0.1.1.1 j;
+      };
+      departure = record {
+        delayed = d.1.1.1.0 j;
+        delay = d.1.1.1.1.0 j;
+        timed = d.1.1.1.1.1.0 j;
+        time = d.1.1.1.1.1.1 j;
+      };
     } in
     none ∙ of_broken no_stop (λ m. stop_numbers_of (stop_update m)) stop_time_update c.args.u.now
     (sym c.is_whole.ensures ∙ c.if-is_whole.false)

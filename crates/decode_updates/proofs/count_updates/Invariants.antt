@@ -1,12 +1,6 @@
 -- `decode_updates::count_updates`: those so far and those that are left. Assumes nothing.
-use Prim.Native.Nat.{◌+◌}
-use lib.ListN.{take}
-use Rattle.realtime_views.specs.Promises.Walks.{ahead}
 use Rattle.decode_updates.proofs.Counting.{Counting}
 use Rattle.decode_updates.proofs.count_updates.Given as goal
 
 abbrev pub invariant-loop-n : goal.invariant-loop-n
 invariant-loop-n l = Counting l.message l.start l.len l.n l.walk
-
-abbrev pub decreases-loop-n : goal.decreases-loop-n
-decreases-loop-n l = ahead (take (l.start + l.len) l.message) l.walk

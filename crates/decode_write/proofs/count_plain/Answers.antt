@@ -33,13 +33,13 @@ loop-slot-preserved c =
     elim c.if-not-key_has_at.branch [
       | then-not-key_has_at w ↦ (
         omega arith,
-        w.count-is ∙ plain_counted c.args.keys.now c.args.marks.now c.args.order.now c.loop-slot.slot-index (omega arith)
-            c.loop-slot.invariant.1 e c.key_has_at.ensures w.if-not-key_has_at.true,
+        w.count-is ∙ plain_counted c.args.keys.now c.args.marks.now c.args.order.now c.loop-slot.slot-index
+            (omega arith) c.loop-slot.invariant.1 e c.key_has_at.ensures w.if-not-key_has_at.true,
       )
       | else-not-key_has_at w ↦ (
         omega arith,
-        w.count-is ∙ plain_passed c.args.keys.now c.args.marks.now c.args.order.now c.loop-slot.slot-index (omega arith)
-            c.loop-slot.invariant.1 e c.key_has_at.ensures w.if-not-key_has_at.false,
+        w.count-is ∙ plain_passed c.args.keys.now c.args.marks.now c.args.order.now c.loop-slot.slot-index
+            (omega arith) c.loop-slot.invariant.1 e c.key_has_at.ensures w.if-not-key_has_at.false,
       )
     ]
 
