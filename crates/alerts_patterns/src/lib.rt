@@ -8,7 +8,7 @@ ghost use Rattle.alerts_patterns.specs.Promises.Occurrence.{found_of, Skips, Ski
 ghost use Rattle.alerts_patterns.specs.Promises.Occurrence.{any_pair};
 ghost use Rattle.alerts_patterns.specs.Promises.Tables.{up_to, name_filled, any_in, any_at};
 
-// Whether p stands in s at i.
+// Whether p stands in s at i, which may lie past its end: so two places by hand, and no part of s at i.
 pub fn begins_at(s: &[u8], i: usize, p: &[u8]) -> bool
     ensures { result ≡ begins p.now (drop i s.now) }
 {
@@ -93,8 +93,8 @@ fn pair_apart(x: u8, y: u8, a: u8, lo: u8, hi: u8) -> u8
     greater(apart(x, a), outside(y, lo, hi))
 }
 
-// Whether x has a and y a byte from lo to hi at one place. No branch inside: the compiler makes wide instructions of
-// it.
+// Whether x has a and y a byte from lo to hi at one place. No branch inside, and no early stop: the compiler makes
+// wide instructions of it.
 fn pair_in(x: &[u8], y: &[u8], a: u8, lo: u8, hi: u8) -> bool
     requires { length x.now ≡ length y.now }
     ensures { result ≡ any_pair a lo hi x.now y.now }
@@ -252,9 +252,10 @@ pub fn find_around(s: &[u8], before: &[u8], name: &[u8], after: &[u8]) -> Option
         i = skip_around(s, from, before, name, after);
     }
     if around_at(s, i, before, name, after) {
-        return Some(i);
+        Some(i)
+    } else {
+        None
     }
-    None
 }
 
 // Where a pattern, with the name in its place, first stands in s.
@@ -274,10 +275,7 @@ pub fn find_filled(s: &[u8], name: &[u8], pattern: &[u8]) -> Option<usize>
 pub fn contains_filled(s: &[u8], name: &[u8], pattern: &[u8]) -> bool
     ensures { result ≡ contains (name_filled name.now pattern.now) s.now }
 {
-    match find_filled(s, name, pattern) {
-        Some(_) => true,
-        None => false,
-    }
+    find_filled(s, name, pattern).is_some()
 }
 
 // Whether one of a table's patterns does.

@@ -130,13 +130,11 @@ pub fn any_id(ask: Ask, x: &[u8], y: &[u8], s: &[u8], at: usize) -> Reply
 {
     let n = formats_read::number(s, at);
     let mut p = n.next;
-    let mut left = n.value;
     let mut hit = false;
-    while 0 < left {
+    for _ in 0..n.value {
         let t = formats_read::text(s, p);
         hit = or_answer(hit, ask, x, y, &s[t.from..t.to]);
         p = t.to;
-        left -= 1;
     }
     Reply { hit, next: p }
 }

@@ -21,10 +21,8 @@ pub fn past_alerts(s: &[u8], at: usize) -> usize
 {
     let n = formats_read::number(s, at);
     let mut p = n.next;
-    let mut left = n.value;
-    while 0 < left {
+    for _ in 0..n.value {
         p = past_alert(s, p);
-        left -= 1;
     }
     p
 }

@@ -15,5 +15,5 @@ loop-i-preserved c = search (unfound_next)
 pub returns-then-around_at-2 : goal.returns-then-around_at-2
 returns-then-around_at-2 c = search (found_here)
 
-pub returns : goal.returns
-returns c = search (nowhere)
+pub returns-else-around_at-2 : goal.returns-else-around_at-2
+returns-else-around_at-2 c = search (nowhere)

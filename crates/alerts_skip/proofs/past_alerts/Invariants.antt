@@ -1,10 +1,8 @@
--- `past_alerts` meets its contract.
+-- `alerts_skip::past_alerts` meets its contract. The invariant: what is left of the list stands at p.
+use Prim.Native.Nat.{◌-◌}
 use Rattle.alerts.specs.Alert.{alert}
 use Rattle.formats_skip.specs.Laws.Passes.{Passing}
 use Rattle.alerts_skip.proofs.past_alerts.Given as goal
 
-abbrev pub invariant-loop-left : goal.invariant-loop-left
-invariant-loop-left l = Passing alert l.s l.initial.p l.initial.left l.p l.left
-
-abbrev pub decreases-loop-left : goal.decreases-loop-left
-decreases-loop-left l = l.left
+abbrev pub invariant-loop : goal.invariant-loop
+invariant-loop l = Passing alert l.s l.initial.p l.end l.p (l.end - l.counter)
