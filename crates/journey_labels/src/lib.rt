@@ -8,7 +8,6 @@ ghost use Rattle.journey_labels.specs.Promises.Labels.{OrderAt, Ranks, StandsAt,
 
 use std::cmp::Ordering;
 
-
 // The order of the label from `from` up to `to` and the one at rank i.
 fn order_at(old: &[u8], froms: &[u32], tos: &[u32], i: usize, from: usize, to: usize) -> Ordering
     requires inside { Inside old.now (from, to) }
@@ -27,6 +26,7 @@ fn rank(old: &[u8], froms: &[u32], tos: &[u32], n: usize, from: usize, to: usize
     requires inside { Inside old.now (from, to) }
     ensures { Ranks old.now froms.now tos.now n (from, to) result }
 {
+    // Halved by hand: `partition_point` takes one slice, and a label's ends stand in two that the caller lends.
     let mut lo: usize = 0;
     let mut hi = n;
     while lo < hi {

@@ -154,12 +154,10 @@ pub fn past_middle(s: &[u8], at: usize) -> usize
 pub fn past_middles(s: &[u8], at: usize) -> usize
     ensures { Passes (list 64 middle) s.now at result }
 {
-    let n = formats_read::number(s, at);
-    let mut p = n.next;
-    let mut left = n.value;
-    while 0 < left {
+    let count = formats_read::number(s, at);
+    let mut p = count.next;
+    for _ in 0..count.value {
         p = past_middle(s, p);
-        left -= 1;
     }
     p
 }

@@ -4,13 +4,11 @@
 ghost use Rattle.std.specs.Prelude.{◌≡◌, false, ◌<◌};
 ghost use Rattle.std.proofs.Common.{inl};
 ghost use Rattle.std.specs.Int.Signed.{mag};
-ghost use Rattle.basics.specs.Options.{or_other};
 ghost use Rattle.formats_write.specs.Promises.Given.{given_signed};
 ghost use Rattle.journey.specs.Times as times;
 ghost use Rattle.journey_times.specs.Promises.Realtime.{realtime_of, given_delay, event_by, Schedules};
 ghost use Rattle.journey_times.specs.Promises.Realtime.{ReadsDelay, ReadsEvent, PastEvent, Cancels};
 ghost use Rattle.journey_times.specs.Promises.Realtime.{ByTrip, ByUpdate, Applies};
-
 
 // An event's time, by how much it is late, and whether it has realtime.
 #[derive(Clone, Copy)]
@@ -74,46 +72,23 @@ fn timed(at: i64, t: Option<i64>, r: StopRealtime) -> StopRealtime
     }
 }
 
-// Of two optional values the first that is given.
-fn first_delay(a: Option<i32>, b: Option<i32>) -> Option<i32>
-    ensures { given_delay result ≡ or_other (given_delay a) (given_delay b) }
-{
-    match a {
-        None => b,
-        Some(_) => a,
-    }
-}
-
-fn first_time(a: Option<i64>, b: Option<i64>) -> Option<i64>
-    ensures { given_signed result ≡ or_other (given_signed a) (given_signed b) }
-{
-    match a {
-        None => b,
-        Some(_) => a,
-    }
-}
-
 // An event by what is told of it, of the stop's other event, and of the trip.
 fn event_by(at: i64, own: EventTimes, other: EventTimes, trip: Option<i32>) -> StopRealtime
     requires { mag at < 4611686018427387904 }
     ensures { realtime_of result ≡ event_by at own other trip }
 {
-    let time = own.time;
-    let delay = own.delay;
-    let other_time = other.time;
-    let other_delay = other.delay;
-    let d = first_delay(first_delay(delay, other_delay), trip);
-    timed(at, first_time(time, other_time), delayed(at, true, d))
+    let delay = own.delay.or(other.delay);
+    let late = delay.or(trip);
+    let time = own.time.or(other.time);
+    timed(at, time, delayed(at, true, late))
 }
 
 // A delay has 32 bits.
 fn optional_delay(s: &[u8], at: usize) -> Option<i32>
     ensures { ReadsDelay s.now at result }
 {
-    match formats_read::optional_signed(s, at) {
-        None => None,
-        Some(z) => Some(integers::difference(z, 0)),
-    }
+    let z = formats_read::optional_signed(s, at)?;
+    Some(integers::difference(z, 0))
 }
 
 // The delay and the time at `at`.

@@ -64,7 +64,8 @@ pub fn by_stop(old: &[u8], at: usize, feed: &[u8], stop: &[u8]) -> Option<usize>
     stop_in(old, p, feed, stop)
 }
 
-// By the sequence, where one is given and there; else by the stop.
+// By the sequence, where one is given and there; else by the stop. No `and_then` with `or_else`: tried, and the proof
+// did not close, since it does not see what the closures' calls promise.
 pub fn find_update(
     old: &[u8],
     at: usize,

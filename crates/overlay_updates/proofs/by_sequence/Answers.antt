@@ -1,5 +1,4 @@
 -- `by_sequence` meets its contract.
-use borrow.Author.Rules.{rules}
 use Rattle.overlay_updates.specs.Laws.Updates.{by_sequence}
 use Rattle.overlay_updates.proofs.by_sequence.Goals as goal
 

@@ -1,5 +1,4 @@
 -- `by_stop` meets its contract.
-use borrow.Author.Rules.{rules}
 use Rattle.overlay_updates.specs.Laws.Updates.{by_stop}
 use Rattle.overlay_updates.proofs.by_stop.Goals as goal
 

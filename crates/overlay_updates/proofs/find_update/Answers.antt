@@ -1,5 +1,4 @@
 -- `find_update` meets its contract.
-use borrow.Author.Rules.{rules}
 use Rattle.overlay_updates.specs.Laws.Updates.{no_sequence, sequence_found, sequence_missing}
 use Rattle.overlay_updates.proofs.find_update.Goals as goal
 

@@ -20,7 +20,7 @@ pub loop-preserved : goal.loop-preserved
 loop-preserved c =
     let more : 0 < c.number-count.result.value - c.loop.counter = omega arith in
     let one : c.number-count.result.value - (c.loop.counter + 1) ≡
-        c.number-count.result.value - c.loop.counter - 1 = omega arith in
+    c.number-count.result.value - c.loop.counter - 1 = omega arith in
     rw one (search sequence_on)
 
 pub returns : goal.returns

@@ -2,9 +2,8 @@
 use Prim.Native.Nat.{◌-◌}
 use Rattle.formats.specs.Format.{◌&◌}
 use Rattle.decode.specs.Trip.{number32, stop_update}
-use Rattle.overlay_seek.specs.Laws.Seek.{Seeking, seek_start, seek_miss}
+use Rattle.overlay_seek.specs.Laws.Seek.{Seeking}
 use Rattle.overlay_updates.specs.Promises.Updates.{numbered}
-use Rattle.overlay_updates.specs.Laws.Updates.{sequence_hit, sequence_on}
 use Rattle.overlay_updates.proofs.sequence_in.Given as goal
 
 abbrev pub invariant-loop : goal.invariant-loop

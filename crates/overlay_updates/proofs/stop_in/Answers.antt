@@ -20,7 +20,7 @@ pub loop-preserved : goal.loop-preserved
 loop-preserved c =
     let more : 0 < c.number-counted.result.value - c.loop.counter = omega arith in
     let one : c.number-counted.result.value - (c.loop.counter + 1) ≡
-        c.number-counted.result.value - c.loop.counter - 1 = omega arith in
+    c.number-counted.result.value - c.loop.counter - 1 = omega arith in
     rw one (search stop_on)
 
 pub returns : goal.returns

@@ -2,9 +2,8 @@
 use Prim.Native.Nat.{◌-◌}
 use Rattle.formats.specs.Format.{◌&◌}
 use Rattle.decode.specs.Trip.{number32, stop_update}
-use Rattle.overlay_seek.specs.Laws.Seek.{Seeking, seek_start, seek_miss}
+use Rattle.overlay_seek.specs.Laws.Seek.{Seeking}
 use Rattle.overlay_updates.specs.Promises.Updates.{stopping}
-use Rattle.overlay_updates.specs.Laws.Updates.{stop_hit, stop_on}
 use Rattle.overlay_updates.proofs.stop_in.Given as goal
 
 abbrev pub invariant-loop : goal.invariant-loop

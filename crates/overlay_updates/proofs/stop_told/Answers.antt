@@ -1,5 +1,4 @@
 -- `stop_told` meets its contract.
-use borrow.Author.Rules.{rules}
 use Rattle.overlay_updates.specs.Laws.Updates.{stop_read}
 use Rattle.overlay_updates.proofs.stop_told.Goals as goal
 
