@@ -59,7 +59,16 @@ fn fresh(updated: u64, limit: u64) -> bool
 }
 
 // Which of two keys comes first, where n and m entries are left.
-fn first(sheet: &[u8], n: u64, a: usize, e: usize, old: &[u8], m: u64, b: usize, f: usize) -> Ordering
+fn first(
+    sheet: &[u8],
+    n: u64,
+    a: usize,
+    e: usize,
+    old: &[u8],
+    m: u64,
+    b: usize,
+    f: usize,
+) -> Ordering
     requires { (a ≤ e) × (e ≤ length sheet.now) × (b ≤ f) × (f ≤ length old.now) }
     ensures { result ≡ first_of n m (slice a e sheet.now) (slice b f old.now) }
 {
@@ -117,10 +126,7 @@ fn counted(kept: u64, keep: bool) -> u64
     requires { kept ≤ 1024 }
     ensures { result ≡ cond keep (kept + 1) kept }
 {
-    if keep {
-        return kept + 1;
-    }
-    kept
+    kept + u64::from(keep)
 }
 
 // How many entries the merge leaves of n of a sheet from a on and m of a feed from b on: up to 1,024, or more.
@@ -140,6 +146,7 @@ pub fn count_entries(
     let mut q = b;
     let mut j = m;
     let mut kept: u64 = 0;
+    // No `for`: a turn takes from either list, or from both.
     while 0 < i || 0 < j {
         let t = take_turn(sheet, p, i, old, q, j, limit);
         kept = counted(kept, t.keep);
@@ -186,6 +193,7 @@ pub fn write_entries(
     let mut q = b;
     let mut j = m;
     let mut k = w;
+    // No `for`: a turn takes from either list, or from both.
     while 0 < i || 0 < j {
         let t = take_turn(sheet, p, i, old, q, j, limit);
         k = write_entry(out, k, sheet, old, t);

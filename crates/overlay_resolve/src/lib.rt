@@ -93,6 +93,7 @@ pub fn resolve(
         old.now result }
 {
     let n = overlay_ids::feed_end(trip);
+    // Not `or_else`: tried, its proof did not close.
     match trip_in_feed(old, noted, &trip[..n], trip) {
         Some((p, e)) => Some((p, e)),
         None => by_route(old, noted, route, direction, date),

@@ -49,7 +49,13 @@ fn put_alerts(
 }
 
 // AN ALERT SHEET: the state that ends at `end`, with the sheet's alerts for those of the feed.
-pub fn after_alerts(out: &mut [u8], old: &[u8], end: usize, feed: &[u8], sheet: &[u8]) -> Option<usize>
+pub fn after_alerts(
+    out: &mut [u8],
+    old: &[u8],
+    end: usize,
+    feed: &[u8],
+    sheet: &[u8],
+) -> Option<usize>
     ensures { (s : State) (vs : List Alert) → Here overlay old.now 0 end s → valid s ≡ true
         → AlertsIn sheet.now vs → ok 7 (list 256 alert) vs ≡ true
         → Changes out.old out.new result (after_alerts feed.now vs s) }

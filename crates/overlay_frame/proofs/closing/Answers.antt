@@ -1,5 +1,4 @@
 -- `closing` meets its contract.
-use borrow.Author.Rules.{rules}
 use Rattle.overlay_frame.specs.Laws.Frame.{closed}
 use Rattle.overlay_frame.proofs.closing.Goals as goal
 

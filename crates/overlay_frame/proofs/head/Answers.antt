@@ -1,5 +1,4 @@
 -- `head` meets its contract: three writers, one after the other.
-use borrow.Author.Rules.{rules}
 use Rattle.formats_write.specs.Laws.Adds.{then}
 use Rattle.overlay_frame.proofs.head.Goals as goal
 

@@ -1,5 +1,4 @@
 -- `opening` meets its contract.
-use borrow.Author.Rules.{rules}
 use Rattle.overlay_frame.specs.Laws.Frame.{opened}
 use Rattle.overlay_frame.proofs.opening.Goals as goal
 

@@ -1,5 +1,4 @@
 -- `spot` meets its contract: no room for a fifth feed, the entry that it has, a new one.
-use borrow.Author.Rules.{rules}
 use Rattle.overlay_frame.specs.Laws.Body.{known_spot, new_spot, no_spot}
 use Rattle.overlay_frame.proofs.spot.Goals as goal
 

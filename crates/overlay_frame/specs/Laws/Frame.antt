@@ -1,5 +1,5 @@
 -- Law. The writing of a state with one feed put: what stands before its body, the body, and what follows it.
-use Rattle.std.specs.Prelude.{◌≡◌, List, ◌∷◌, ◌++◌, ℕ, ◌+◌, ◌-◌, ◌≤◌, length, Option}
+use Rattle.std.specs.Prelude.{◌≡◌, List, ◌∷◌, ◌++◌, ℕ, ◌≤◌, length, Option}
 use Rattle.std.proofs.Common.{sym, ◌∙◌, append_assoc, arith, length-append, take_all}
 use Rattle.std.proofs.Math.Path.{ap}
 use Rattle.std.proofs.Math.Seq.{slice, length-slice}

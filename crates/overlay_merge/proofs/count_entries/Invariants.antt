@@ -1,9 +1,6 @@
 -- `count_entries` meets its contract.
 use Prim.Native.Nat.{◌+◌}
-use native.Mathlib.Omega.{arith}
-use mathlib.Core.Logic.{⊎_elim}
-use borrow.Author.Tests.{ltb-true, ltb-false}
-use Rattle.overlay_merge.specs.Laws.Loops.{Counting, count_start, count_on, count_many, count_end}
+use Rattle.overlay_merge.specs.Laws.Loops.{Counting}
 use Rattle.overlay_merge.proofs.count_entries.Given as goal
 
 abbrev pub invariant-loop-i : goal.invariant-loop-i

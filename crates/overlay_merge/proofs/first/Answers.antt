@@ -1,5 +1,4 @@
 -- `first` meets its contract.
-use borrow.Author.Rules.{rules}
 use Rattle.overlay_merge.specs.Laws.Merge.{first_more, first_less, first_lex}
 use Rattle.overlay_merge.proofs.first.Goals as goal
 

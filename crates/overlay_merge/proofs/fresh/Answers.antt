@@ -1,5 +1,4 @@
 -- `fresh` meets its contract.
-use borrow.Author.Rules.{rules}
 use Rattle.overlay_merge.specs.Laws.Merge.{fresh_is}
 use Rattle.overlay_merge.proofs.fresh.Goals as goal
 

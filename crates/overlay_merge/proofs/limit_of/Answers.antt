@@ -1,5 +1,4 @@
 -- `limit_of` meets its contract.
-use borrow.Author.Rules.{rules}
 use Rattle.overlay_merge.specs.Laws.Limit.{limit_fits, limit_is}
 use Rattle.overlay_merge.proofs.limit_of.Goals as goal
 

@@ -1,5 +1,4 @@
 -- `read_entry` meets its contract.
-use borrow.Author.Rules.{rules}
 use Rattle.overlay_merge.specs.Laws.Entry.{entry_read}
 use Rattle.overlay_merge.proofs.read_entry.Goals as goal
 

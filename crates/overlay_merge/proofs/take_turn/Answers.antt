@@ -1,5 +1,4 @@
 -- `take_turn` meets its contract: a law for each order of the two keys.
-use borrow.Author.Rules.{rules}
 use Rattle.overlay_merge.specs.Laws.Merge.{left_less, left_same, left_both, left_more}
 use Rattle.overlay_merge.specs.Laws.Merge.{turned_less, turned_same, turned_more, firsts}
 use Rattle.overlay_merge.proofs.take_turn.Goals as goal

@@ -1,12 +1,8 @@
 -- `write_entries` meets its contract.
-use mathlib.Core.Path.{◌≡◌, refl}
-use mathlib.Core.Logic.{⊎_elim}
-use Prim.Native.Nat.{◌+◌}
+use mathlib.Core.Path.{refl}
 use native.Mathlib.Omega.{arith}
-use lib.ListN.{length}
 use borrow.Author.Rules.{rules}
-use borrow.Author.Tests.{ltb-true, ltb-false}
-use Rattle.overlay_merge.specs.Laws.Loops.{Writing, write_start, write_on, write_end}
+use Rattle.overlay_merge.specs.Laws.Loops.{write_start, write_on, write_end}
 use Rattle.overlay_merge.proofs.write_entries.Goals as goal
 
 pub loop-i-init : goal.loop-i-init

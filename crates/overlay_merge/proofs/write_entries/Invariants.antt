@@ -1,12 +1,8 @@
 -- `write_entries` meets its contract.
-use mathlib.Core.Path.{◌≡◌, refl}
-use mathlib.Core.Logic.{⊎_elim}
+use mathlib.Core.Path.{◌≡◌}
 use Prim.Native.Nat.{◌+◌}
-use native.Mathlib.Omega.{arith}
 use lib.ListN.{length}
-use borrow.Author.Rules.{rules}
-use borrow.Author.Tests.{ltb-true, ltb-false}
-use Rattle.overlay_merge.specs.Laws.Loops.{Writing, write_start, write_on, write_end}
+use Rattle.overlay_merge.specs.Laws.Loops.{Writing}
 use Rattle.overlay_merge.proofs.write_entries.Given as goal
 
 abbrev pub invariant-loop-i : goal.invariant-loop-i

@@ -1,5 +1,4 @@
 -- `write_entry` meets its contract.
-use borrow.Author.Rules.{rules}
 use Rattle.overlay_merge.specs.Laws.Loops.{put_sheet, put_old, put_none}
 use Rattle.overlay_merge.proofs.write_entry.Goals as goal
 

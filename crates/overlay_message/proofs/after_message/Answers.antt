@@ -9,7 +9,7 @@ pub change-requires-clause-ready : goal.change-requires-clause-ready
 change-requires-clause-ready c =
     let old = c.requires.fact in
     let e : c.spot.result ≡ Some (FeedSpot.Known c.in-Known.from c.in-Known.body c.in-Known.count) =
-        search (c.in_ok-spot.was, c.in-Known.is) in
+    search (c.in_ok-spot.was, c.in-Known.is) in
     known_ready old.0 c.spot.ensures old.1 e
 
 pub change-requires-in-New-clause-ready : goal.change-requires-in-New-clause-ready

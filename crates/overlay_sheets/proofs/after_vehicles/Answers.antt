@@ -12,7 +12,7 @@ pub returns-in-Known : goal.returns-in-Known
 returns-in-Known c =
     λ s xs clock h u z I.
     let e : c.spot.result ≡ Some (FeedSpot.Known c.in-Known.from c.in-Known.body c.in-Known.count) =
-        search (c.in_ok-spot.was, c.in-Known.is) in
+    search (c.in_ok-spot.was, c.in-Known.is) in
     let B = (c.spot.ensures.to h u).known _ _ _ e in
     c.put_vehicles.ensures s xs clock B z I
 

@@ -1,5 +1,4 @@
 -- `put_alerts` meets its contract.
-use Rattle.std.proofs.Common.{rules}
 use Rattle.overlay_sheets.specs.Laws.Sheets.{alerts_changed}
 use Rattle.overlay_sheets.proofs.put_alerts.Goals as goal
 

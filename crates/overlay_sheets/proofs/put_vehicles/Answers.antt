@@ -1,5 +1,4 @@
 -- `put_vehicles` meets its contract.
-use Rattle.std.proofs.Common.{rules}
 use Rattle.overlay_sheets.specs.Laws.Sheets.{vehicles_many, vehicles_few}
 use Rattle.overlay_sheets.proofs.put_vehicles.Goals as goal
 

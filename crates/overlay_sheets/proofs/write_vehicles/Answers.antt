@@ -1,5 +1,4 @@
 -- `write_vehicles` meets its contract.
-use Rattle.std.proofs.Common.{rules}
 use Rattle.overlay.specs.Change.{feed_at}
 use Rattle.overlay_sheets.specs.Laws.Sheets.{vehicles_written}
 use Rattle.overlay_sheets.proofs.write_vehicles.Goals as goal
