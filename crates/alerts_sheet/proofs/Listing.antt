@@ -27,17 +27,20 @@ use Rattle.alerts_sheet.specs.Promises.Written.{ListedIds, named, named_ids}
 use Rattle.alerts_sheet.proofs.Progress.{Progress, begins, goes_on, is_done, still}
 
 -- n ids of e are written, and those of the selectors in z are left
-pub record Listed (kind : ℕ) (name l : List ℕ) (r : Option ℕ) (m : List ℕ) (q : Option ℕ) (n : ℕ) (e : Tree) (z : List Tree) :
+pub record Listed (kind : ℕ) (name l : List ℕ) (r : Option ℕ) (m : List ℕ) (q : Option ℕ) (n : ℕ) (e : Tree)
+    (z : List Tree) :
     Type 0 where
   pub progress : Progress text_w l r m q (named_ids kind name e) (ids_by (id_of kind) name z)
   pub counted : n + length (ids_by (id_of kind) name z) ≡ length (named_ids kind name e)
 
 -- THE INVARIANT
-pub record Listing (kind : ℕ) (name s : List ℕ) (start len : ℕ) (l : List ℕ) (r : Option ℕ) (m : List ℕ) (q : Option ℕ) (n : ℕ)
+pub record Listing (kind : ℕ) (name s : List ℕ) (start len : ℕ) (l : List ℕ) (r : Option ℕ) (m : List ℕ)
+    (q : Option ℕ) (n : ℕ)
     (w : Walk) : Type 0 where
   pub walked : Walked feed alert_entity 5 alert 5 alert_entity s start len (Listed kind name l r m q n) w
 
-pub listing : (kind : ℕ) (name s : List ℕ) (start len : ℕ) {l : List ℕ} {r : Option ℕ} {w : Walk} → start + len ≤ length s
+pub listing : (kind : ℕ) (name s : List ℕ) (start len : ℕ) {l : List ℕ} {r : Option ℕ} {w : Walk}
+    → start + len ≤ length s
     → w ≡ at_merged start → Listing kind name s start len l r l r 0 w
 listing kind name s start len i e = record {
   walked = starts s start len selectors i (merged_sound start (omega (arith, front_length s (start + len) i)) e)
@@ -60,7 +63,8 @@ ids_some id name [] y z e h = absurd (omega arith)
 ids_some id name (a ∷ x) y z e h =
     ap (λ v. map (prefixed name) (filter (λ x. not (is_empty x)) (v ∷ map id z))) e
 
-module _ {kind : ℕ} {name s : List ℕ} {start len : ℕ} {l : List ℕ} {r : Option ℕ} {m : List ℕ} {q : Option ℕ} {n : ℕ} {w : Walk}
+module _ {kind : ℕ} {name s : List ℕ} {start len : ℕ} {l : List ℕ} {r : Option ℕ} {m : List ℕ} {q : Option ℕ} {n : ℕ}
+    {w : Walk}
     (L : Listing kind name s start len l r m q n w) where
   -- few are written
   pub lists_few : Writable s start len → n ≤ 32

@@ -9,7 +9,8 @@ use Rattle.formats_write.specs.Promises.Adds.{Adds}
 use Rattle.formats_read.specs.Laws.Progress.{one_more}
 
 -- of all the values, those in `left` are not yet written
-pub record Progress {A : Type 0} (w : A → List ℕ) (l : List ℕ) (r : Option ℕ) (m : List ℕ) (q : Option ℕ) (all left : List A) :
+pub record Progress {A : Type 0} (w : A → List ℕ) (l : List ℕ) (r : Option ℕ) (m : List ℕ) (q : Option ℕ)
+    (all left : List A) :
     Type 0 where
   pub written : List A
   pub adds : Adds l r m q (many_w w written)

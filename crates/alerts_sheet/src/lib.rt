@@ -14,7 +14,13 @@ use realtime_read::fields::entity_selector;
 use realtime_views::{Item, TextPart};
 
 // The feed's id, ':' and an id of the message, as a text.
-fn write_id(out: &mut [u8], w: Option<usize>, feed: &[u8], message: &[u8], id: TextPart) -> Option<usize>
+fn write_id(
+    out: &mut [u8],
+    w: Option<usize>,
+    feed: &[u8],
+    message: &[u8],
+    id: TextPart,
+) -> Option<usize>
     requires short { Short feed.now message.now }
     requires part_inside { PartInside (length message.now) id }
     ensures { Adds out.old w out.new result
@@ -94,7 +100,14 @@ fn write_ids(
 }
 
 // The alert of an entity: header, description, no cause; trips, routes and stops.
-fn write_alert(out: &mut [u8], w: Option<usize>, feed: &[u8], message: &[u8], start: usize, len: usize) -> Option<usize>
+fn write_alert(
+    out: &mut [u8],
+    w: Option<usize>,
+    feed: &[u8],
+    message: &[u8],
+    start: usize,
+    len: usize,
+) -> Option<usize>
     requires short { Short feed.now message.now }
     requires writable { Writable message.now start len }
     ensures { WrittenAlert feed.now message.now start len

@@ -8,7 +8,10 @@ ghost use Rattle.alerts_views.specs.Promises.Walks.{AlertCounted, NextEntity, Ne
 ghost use Rattle.alerts_views.specs.Promises.Words.{DeletedRead, FirstRead, TextRead, Worded};
 
 use formats::Span;
-use realtime_read::fields::{alert, alert_entity, entity_selector, feed_entity, feed_message, translated_string, translation, trip_descriptor};
+use realtime_read::fields::{
+    alert, alert_entity, entity_selector, feed_entity, feed_message, translated_string,
+    translation, trip_descriptor,
+};
 use realtime_views::{Item, NO_FIELD, Scalar, TextPart, Walk};
 
 // An alert has at most so many ids of a kind.

@@ -182,7 +182,13 @@ fn card_times(card: &[u8], at: usize, g: Survey) -> CardTimes
     CardTimes { departure, arrival }
 }
 
-fn head_of(out: &mut [u8], w: Option<usize>, t: CardTimes, duration: i64, status: u64) -> Option<usize>
+fn head_of(
+    out: &mut [u8],
+    w: Option<usize>,
+    t: CardTimes,
+    duration: i64,
+    status: u64,
+) -> Option<usize>
     ensures { Adds out.old w out.new result
         (head_w t.departure t.arrival duration status) }
 {

@@ -8,7 +8,14 @@ ghost use Rattle.journey_enrich.specs.Promises.Enrich.{HeadersUpTo, HeadersPut, 
 use journey_card::Survey;
 
 // The texts of the first n labels, which are places in b.
-fn each_header(old: &[u8], froms: &[u32], tos: &[u32], n: usize, out: &mut [u8], w: Option<usize>) -> Option<usize>
+fn each_header(
+    old: &[u8],
+    froms: &[u32],
+    tos: &[u32],
+    n: usize,
+    out: &mut [u8],
+    w: Option<usize>,
+) -> Option<usize>
     requires { (n ≤ length froms.now) × (n ≤ length tos.now) }
     ensures { HeadersUpTo n old.now froms.now tos.now n
         out.old w out.new result }
@@ -25,7 +32,14 @@ fn each_header(old: &[u8], froms: &[u32], tos: &[u32], n: usize, out: &mut [u8],
 }
 
 // The list of headers: the n labels that were noted.
-pub fn headers(old: &[u8], froms: &[u32], tos: &[u32], n: usize, out: &mut [u8], w: Option<usize>) -> Option<usize>
+pub fn headers(
+    old: &[u8],
+    froms: &[u32],
+    tos: &[u32],
+    n: usize,
+    out: &mut [u8],
+    w: Option<usize>,
+) -> Option<usize>
     ensures { HeadersPut old.now froms.now tos.now n
         out.old w out.new result }
 {

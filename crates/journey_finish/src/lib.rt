@@ -6,8 +6,8 @@ ghost use Rattle.overlay_noted.specs.Promises.Noted.{Noted};
 ghost use Rattle.journey_finish.specs.Promises.Finish.{LegResolved, RowAt, Looks, LegVehicle, FinishesBy};
 ghost use Rattle.journey_finish.specs.Promises.Finish.{Finishes, LegDone, EachDone, LegsDone};
 
-use vehicle_place::VehiclePlace;
 use journey_leg::LegRealtime;
+use vehicle_place::VehiclePlace;
 
 // The record of the leg at `at`.
 fn resolved(card: &[u8], at: usize, old: &[u8], noted: &[u32]) -> Option<(usize, usize)>
@@ -122,7 +122,15 @@ pub fn finish(
 }
 
 // The leg from `at` up to `to`: a walk is copied as it stands.
-fn leg(card: &[u8], at: usize, to: usize, old: &[u8], noted: &[u32], out: &mut [u8], w: Option<usize>) -> Option<usize>
+fn leg(
+    card: &[u8],
+    at: usize,
+    to: usize,
+    old: &[u8],
+    noted: &[u32],
+    out: &mut [u8],
+    w: Option<usize>,
+) -> Option<usize>
     requires { Noted old.now noted.now }
     ensures { LegDone card.now at to old.now out.old w out.new result }
 {
@@ -162,7 +170,14 @@ fn each_leg(
 }
 
 // The list of legs at `at`, each finished.
-pub fn legs(card: &[u8], at: usize, old: &[u8], noted: &[u32], out: &mut [u8], w: Option<usize>) -> Option<usize>
+pub fn legs(
+    card: &[u8],
+    at: usize,
+    old: &[u8],
+    noted: &[u32],
+    out: &mut [u8],
+    w: Option<usize>,
+) -> Option<usize>
     requires { Noted old.now noted.now }
     ensures { LegsDone card.now at old.now out.old w out.new result }
 {

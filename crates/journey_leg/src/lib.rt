@@ -6,9 +6,9 @@ ghost use Rattle.formats_write.specs.Promises.Adds.{Adds};
 ghost use Rattle.journey_leg.specs.Promises.Leg.{live_of, told_w, PutsTimes, PutsFlag, PutsPlace, PutsMarks};
 ghost use Rattle.journey_leg.specs.Promises.Leg.{PutsFore, PutsEvent, PutsMiddle};
 
-use vehicle_place::VehiclePlace;
 use journey_places::ChangingPlaces;
 use journey_times::StopRealtime;
+use vehicle_place::VehiclePlace;
 
 // What look-ups gave for a leg: its endpoints, and whether its trip is cancelled.
 #[derive(Clone, Copy)]
@@ -63,7 +63,14 @@ fn times(
 }
 
 // Whether the leg is cancelled.
-fn flag(card: &[u8], at: usize, to: usize, out: &mut [u8], w: Option<usize>, cancels: bool) -> Option<usize>
+fn flag(
+    card: &[u8],
+    at: usize,
+    to: usize,
+    out: &mut [u8],
+    w: Option<usize>,
+    cancels: bool,
+) -> Option<usize>
     ensures { PutsFlag cancels card.now at to out.old w out.new result }
 {
     if cancels {
@@ -73,7 +80,14 @@ fn flag(card: &[u8], at: usize, to: usize, out: &mut [u8], w: Option<usize>, can
 }
 
 // The vehicle's place.
-fn place(card: &[u8], at: usize, to: usize, out: &mut [u8], w: Option<usize>, v: Option<VehiclePlace>) -> Option<usize>
+fn place(
+    card: &[u8],
+    at: usize,
+    to: usize,
+    out: &mut [u8],
+    w: Option<usize>,
+    v: Option<VehiclePlace>,
+) -> Option<usize>
     ensures { PutsPlace v card.now at to out.old w out.new result }
 {
     match v {
@@ -126,7 +140,14 @@ pub fn fore(
 }
 
 // An optional time that stands from `at` up to `to`, or the event's own.
-fn event(card: &[u8], at: usize, to: usize, out: &mut [u8], w: Option<usize>, r: StopRealtime) -> Option<usize>
+fn event(
+    card: &[u8],
+    at: usize,
+    to: usize,
+    out: &mut [u8],
+    w: Option<usize>,
+    r: StopRealtime,
+) -> Option<usize>
     ensures { PutsEvent r card.now at to out.old w out.new result }
 {
     if r.has {

@@ -5,9 +5,9 @@ ghost use Rattle.formats_write.specs.Promises.Given.{given_number};
 ghost use Rattle.journey_stops.specs.Promises.Stops.{LooksUp, EventsAt, MiddleEvents, StopAnew, StopsAnew};
 ghost use Rattle.journey_stops.specs.Promises.Stops.{ListAnew, LegAnew, EndpointAt, CancelsBy, LegKnown};
 
-use vehicle_place::VehiclePlace;
 use journey_leg::LegRealtime;
 use journey_times::{Event, Known, StopRealtime};
+use vehicle_place::VehiclePlace;
 
 // Arrival and departure of a stop.
 #[derive(Drop)]
@@ -17,7 +17,13 @@ pub struct StopEvents {
 }
 
 // What is known of a stop, by the record that was found for the leg's trip in the overlay b.
-pub fn known(old: &[u8], row: Option<usize>, feed: &[u8], sequence: Option<u64>, stop: &[u8]) -> Known
+pub fn known(
+    old: &[u8],
+    row: Option<usize>,
+    feed: &[u8],
+    sequence: Option<u64>,
+    stop: &[u8],
+) -> Known
     ensures { LooksUp old.now row feed.now (given_number sequence) stop.now result }
 {
     let Some(p) = row else {

@@ -17,7 +17,14 @@ ghost use Rattle.overlay_bodies.specs.Promises.Bodies.{with_alerts, with_vehicle
 use overlay_feeds::Parts;
 
 // A feed that stands from `body` on, with its parts at p: a sheet's alerts in place of its own.
-pub fn alerts_over(out: &mut [u8], w: Option<usize>, old: &[u8], body: usize, p: Parts, sheet: &[u8]) -> Option<usize>
+pub fn alerts_over(
+    out: &mut [u8],
+    w: Option<usize>,
+    old: &[u8],
+    body: usize,
+    p: Parts,
+    sheet: &[u8],
+) -> Option<usize>
     ensures { (vs : List Alert) (F : Feed) (e : ℕ) → AlertsIn sheet.now vs
         → PartsOf old.now F body e p
         → Adds out.old w out.new result (write feed (with_alerts F vs)) }

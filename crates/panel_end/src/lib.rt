@@ -5,7 +5,6 @@ ghost use Rattle.std.specs.Prelude.{◌≡◌};
 ghost use Rattle.formats_judge.specs.Judged.{judge_to};
 ghost use Rattle.panel.specs.End.{form_of, end};
 
-
 // The kinds of forms.
 const CARD: u32 = 0;
 

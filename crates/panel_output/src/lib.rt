@@ -6,7 +6,6 @@ ghost use Rattle.std.specs.Prelude.{◌≡◌};
 ghost use Rattle.basics.specs.Texts.{same};
 ghost use Rattle.panel_output.specs.Promises.Ending.{ending_of, put_ending, Cleared, Finished};
 
-
 // A call is refused by the question of this number, or it has written its output up to a place.
 #[derive(Drop)]
 pub enum Ending {

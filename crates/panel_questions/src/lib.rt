@@ -1,7 +1,6 @@
 // Questions 3 to 7 put to a sheet and its feed id, before any work.
 #![tactic(auto)]
 
-
 mod table;
 
 ghost use Rattle.std.specs.Prelude.{◌≡◌};

@@ -66,7 +66,8 @@ module _ {s : List ℕ} {at : ℕ} (h : at < length s) where
         some_number (here 5 0 e (omega arith) (omega arith) (omega arith)) refl (sym g ∙ r)
 
   -- a text behind it
-  module _ {o : Option (ℕ × ℕ × Cursor)} {i l : ℕ} {c : Cursor} (r : o ≡ text_at s (at + 1)) (g : o ≡ Some (i, l, c)) where
+  module _ {o : Option (ℕ × ℕ × Cursor)} {i l : ℕ} {c : Cursor} (r : o ≡ text_at s (at + 1))
+      (g : o ≡ Some (i, l, c)) where
     arrival_step : get_or s at 0 ≡ 18 → Stepped feed stop_time_update s at (Step.Message 2 stop_time_event i l c.at)
     unfolding feed field_rows here
     arrival_step e = some_message (here 2 2 e (omega arith) (omega arith) (omega arith)) refl (sym g ∙ r)
@@ -97,7 +98,8 @@ module _ {s : List ℕ} {from at n : ℕ} (R : Sequences s from at n) (h : at < 
           N.inside,
         )
 
-  module _ {o : Option (ℕ × ℕ × Cursor)} {i l : ℕ} {c : Cursor} (r : o ≡ text_at s (at + 1)) (g : o ≡ Some (i, l, c)) where
+  module _ {o : Option (ℕ × ℕ × Cursor)} {i l : ℕ} {c : Cursor} (r : o ≡ text_at s (at + 1))
+      (g : o ≡ Some (i, l, c)) where
     behind : TextAt s (at + 1) i l c.at
     behind = text_read s (at + 1) i l c (sym g ∙ r)
 
@@ -127,7 +129,8 @@ module _ {s : List ℕ} {from at q : ℕ} {p : TextPart} {k : ℕ} {a d : EventN
       pub short_relationship : get_or s at 0 ≡ 40 → Stops s from c.at q p m a d
       short_relationship e = stops_relationship R (relationship_step h r g e) refl
 
-    module _ {o : Option (ℕ × ℕ × Cursor)} {i l : ℕ} {c : Cursor} (r : o ≡ text_at s (at + 1)) (g : o ≡ Some (i, l, c)) where
+    module _ {o : Option (ℕ × ℕ × Cursor)} {i l : ℕ} {c : Cursor} (r : o ≡ text_at s (at + 1))
+        (g : o ≡ Some (i, l, c)) where
       pub short_stop : get_or s at 0 ≡ 34 → Stops s from c.at q (record { start = i; len = l }) k a d
       short_stop e = stops_stop R (stop_step h r g e) refl
 
@@ -151,7 +154,8 @@ module _ {s : List ℕ} {from at n : ℕ} (R : Sequences s from at n) where
       pub past_relationship : get_or s at 0 ≡ 40 → Sequences s from c.at n
       past_relationship e = other_number sequence R (relationship_step h r g e) (λ z. omega arith)
 
-    module _ {o : Option (ℕ × ℕ × Cursor)} {i l : ℕ} {c : Cursor} (r : o ≡ text_at s (at + 1)) (g : o ≡ Some (i, l, c)) where
+    module _ {o : Option (ℕ × ℕ × Cursor)} {i l : ℕ} {c : Cursor} (r : o ≡ text_at s (at + 1))
+        (g : o ≡ Some (i, l, c)) where
       pub past_part : {b : Bool} → b ≡ is_part (get_or s at 0) → b ≡ true → Sequences s from c.at n
       past_part e t = go (eqb (get_or s at 0) 18) refl (eqb (get_or s at 0) 26) refl (eqb (get_or s at 0) 34) refl
           (sym e ∙ t)

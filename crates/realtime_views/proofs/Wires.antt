@@ -32,7 +32,8 @@ less : {σ : Schema} {t : ℕ} {s : List ℕ} {at f n : ℕ} → Passed σ t s a
 less P = omega (arith, P.ahead, P.inside)
 
 -- what is known where a key was read, and what stands behind it: the field is passed, or there is no tree
-module _ (s : List ℕ) {at : ℕ} (h : at < length s) {o : Option (ℕ × ℕ × Cursor)} {f w : ℕ} {c : Cursor} (k : o ≡ key_at s at)
+module _ (s : List ℕ) {at : ℕ} (h : at < length s) {o : Option (ℕ × ℕ × Cursor)} {f w : ℕ} {c : Cursor}
+    (k : o ≡ key_at s at)
     (g : o ≡ Some (f, w, c)) where
   pub keyed : ReadAt key s at (record { number = f; wire = w }) c.at
   keyed = key_read s at f w c (sym g ∙ k)

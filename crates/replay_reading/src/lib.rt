@@ -134,7 +134,15 @@ fn run_card_here(n: usize, w: CardWork, old: &[u8], card: &[u8], out: &mut [u8])
 }
 
 // A card whose working buffers are lent: its number at p, and its output behind it.
-fn card_of(n: usize, q: Asked, w: CardWork, s: &[u8], old: &[u8], out: &mut [u8], p: usize) -> Option<usize>
+fn card_of(
+    n: usize,
+    q: Asked,
+    w: CardWork,
+    s: &[u8],
+    old: &[u8],
+    out: &mut [u8],
+    p: usize,
+) -> Option<usize>
     requires sound { Sound n s.now q }
     requires card_fits { CardFits w 256 256 8208 4096 }
     ensures { ToldCardOf (sized n) s.now q (lengths_of w) old.now out.old p

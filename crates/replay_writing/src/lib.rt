@@ -48,7 +48,14 @@ fn alert_sheet(n: usize, lent: usize, q: Asked, s: &[u8], old: &[u8], new: &mut 
     ))
 }
 
-fn vehicle_sheet(n: usize, lent: usize, q: Asked, s: &[u8], old: &[u8], new: &mut [u8]) -> Option<u32>
+fn vehicle_sheet(
+    n: usize,
+    lent: usize,
+    q: Asked,
+    s: &[u8],
+    old: &[u8],
+    new: &mut [u8],
+) -> Option<u32>
     requires lent_in_bounds { lent ≤ length new.old }
     requires spans { Spans s.now q }
     ensures { (z : ℤ) (e : ℕ) → Here clock_form s.now q.clock e z

@@ -60,7 +60,8 @@ module _ (leg informed : List ℕ) where
   refs_leg_plain t u o h k e f co eo g =
       sym (by_codes t h k e f ∙ rw (co.is ∙ ap (token_of leg) eo) (sym g))
 
-  pub refs_informed_plain : (t u : Bool) (o w : Option (ℕ × ℕ)) (a b : ℕ) → (length leg ≡ 0 → ⊥) → (length informed ≡ 0 → ⊥)
+  pub refs_informed_plain : (t u : Bool) (o w : Option (ℕ × ℕ)) (a b : ℕ) → (length leg ≡ 0 → ⊥)
+      → (length informed ≡ 0 → ⊥)
       → t ≡ same leg informed → t ≡ false → Coded leg o → o ≡ Some (a, b) → Coded informed w → w ≡ None
       → u ≡ tails_match (segment leg) (segment informed) → u ≡ route_refs_match leg informed
   refs_informed_plain t u o w a b h k e f co eo cw ew g =
@@ -98,7 +99,8 @@ module _ (short x g : List ℕ) where
   pub name_other : (t : Bool) → g ≡ segment x → t ≡ short_names_equal short g → not t ≡ true → false ≡ by_name short x
   name_other t e f h = sym (rw (← e, ← f, not_true t h) refl)
 
-  pub name_coded : (t : Bool) (o : Option (ℕ × ℕ)) (a b : ℕ) → g ≡ segment x → Coded x o → o ≡ Some (a, b) → false ≡ by_name short x
+  pub name_coded : (t : Bool) (o : Option (ℕ × ℕ)) (a b : ℕ) → g ≡ segment x → Coded x o → o ≡ Some (a, b)
+      → false ≡ by_name short x
   name_coded t o a b e co eo =
       sym (rw (co.is ∙ ap (token_of x) eo, and_no (short_names_equal short (segment x))) refl)
 

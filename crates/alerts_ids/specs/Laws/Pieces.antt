@@ -224,13 +224,15 @@ all_snoc : (p : ℕ → Bool) (l : List ℕ) (b : ℕ) → all p l ≡ true → 
 all_snoc p [] b e f = rw f refl
 all_snoc p (c ∷ l) b e f = let h = and_true {x = p c} e in rw (h.0, all_snoc p l b h.1 f) refl
 
-pub lettered_more : (x : List ℕ) (a e : ℕ) (t : Bool) → Lettered x a e → e < length x → t ≡ is_ascii_alphanumeric (get_or x e 0)
+pub lettered_more : (x : List ℕ) (a e : ℕ) (t : Bool) → Lettered x a e → e < length x
+    → t ≡ is_ascii_alphanumeric (get_or x e 0)
     → not t ≡ false → Lettered x a (e + 1)
 lettered_more x a e t l h et f = record {
   forward = omega (arith, l.forward);
   within = omega arith;
   plain = rw (part_snoc x a e l.forward h)
-      (all_snoc alphanumeric (part_of x a e) (get_or x e 0) l.plain (sym (et ∙ alphanumeric_is (get_or x e 0)) ∙ not-false t f));
+      (all_snoc alphanumeric (part_of x a e) (get_or x e 0) l.plain
+      (sym (et ∙ alphanumeric_is (get_or x e 0)) ∙ not-false t f));
 }
 
 not_not : (x : Bool) → x ≡ true → not (not x) ≡ true
@@ -247,7 +249,8 @@ from_on x a e h =
     sym (take-append-drop (e - a) (drop a x))
     ∙ ap (λ l. part_of x a e ++ l) (drop-drop (e - a) a x ∙ ap (λ k. drop k x) n)
 
-pub run_broken : (x : List ℕ) (a e : ℕ) (t : Bool) → Lettered x a e → e < length x → t ≡ is_ascii_alphanumeric (get_or x e 0)
+pub run_broken : (x : List ℕ) (a e : ℕ) (t : Bool) → Lettered x a e → e < length x
+    → t ≡ is_ascii_alphanumeric (get_or x e 0)
     → not t ≡ true → FirstPiece x a e
 run_broken x a e t l h et f = record {
   forward = l.forward;
@@ -255,7 +258,8 @@ run_broken x a e t l h et f = record {
   plain = l.plain;
   pieces =
       ap (split breaks) (from_on x a e l.forward ∙ ap (λ y. part_of x a e ++ y) (drop-cons x e 0 h))
-      ∙ split_cut breaks (part_of x a e) (get_or x e 0) (drop (suc e) x) (ap not (sym (et ∙ alphanumeric_is (get_or x e 0))) ∙ f)
+      ∙ split_cut breaks (part_of x a e) (get_or x e 0) (drop (suc e) x)
+      (ap not (sym (et ∙ alphanumeric_is (get_or x e 0))) ∙ f)
       ∙ rw (split_plain breaks (part_of x a e) (unbroken (part_of x a e) l.plain), lt-ltb e (length x) h) refl;
 }
 

@@ -118,15 +118,18 @@ module _ (s : List ℕ) (k : ℕ) {n : List ℕ} (h : k < 32) (en : n ≡ line_a
   last_short l = sym (ends_long (around " " (line_at k) "") s (omega (arith, spaced)))
 
   module _ (l : length n < length s) where
-    split : last_of s k ≡ eqb 32 (get_or s (length s - length n - 1) 0) && begins (line_at k) (drop (length s - length n) s)
+    split : last_of s k ≡ eqb 32 (get_or s (length s - length n - 1) 0) && begins (line_at k)
+        (drop (length s - length n) s)
     split =
         let past : suc (length s - length n - 1) ≡ length s - length n = omega arith in
         ends_begins (around " " (line_at k) "") s (length s - length n - 1) (omega (arith, spaced))
         ∙ rw (drop-cons s (length s - length n - 1) 0 (omega arith), append-nil (line_at k), past) refl
 
-    pub last_other : (get_or s (length s - length n - 1) 0 ≡ 32 → ⊥) → eqb (get_or s (length s - length n - 1) 0) 32 ≡ last_of s k
+    pub last_other : (get_or s (length s - length n - 1) 0 ≡ 32 → ⊥)
+        → eqb (get_or s (length s - length n - 1) 0) 32 ≡ last_of s k
     last_other d =
-        ne_eqb (get_or s (length s - length n - 1) 0) 32 d ∙ sym (split ∙ rw (ne_eqb 32 (get_or s (length s - length n - 1) 0) (λ e. d (sym e))) refl)
+        ne_eqb (get_or s (length s - length n - 1) 0) 32 d ∙ sym
+        (split ∙ rw (ne_eqb 32 (get_or s (length s - length n - 1) 0) (λ e. d (sym e))) refl)
 
     pub last_name : (t : Bool) → get_or s (length s - length n - 1) 0 ≡ 32 → t ≡ begins n (drop (length s - length n) s)
         → t ≡ last_of s k

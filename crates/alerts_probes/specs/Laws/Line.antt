@@ -13,7 +13,8 @@ module _ (code old : List ℕ) where
     within = λ g. absurd (omega (arith, g, h));
   }
 
-  module _ {r : Option ℕ} {new : List ℕ} (room : 3 ≤ length old) (N : Named (idfm_product_to_short code) r old new) where
+  module _ {r : Option ℕ} {new : List ℕ} (room : 3 ≤ length old)
+      (N : Named (idfm_product_to_short code) r old new) where
     shown : (l : Option ℕ) → r ≡ l → take (taken l) new ≡ line_in (shown_in new l) → LineShown code (taken l) old new
     shown l e t = record {
       no_room = λ h. absurd (omega (arith, room, h));

@@ -69,7 +69,8 @@ one_byte : (n : ℕ) → n ≤ 32 → number_w n ≡ n ∷ []
 one_byte n h = rw (lt-ltb n 128 (omega arith)) refl
 
 -- the ids with their count in front
-pub ids_adds : {kind : ℕ} {name s : List ℕ} {i n : ℕ} {l₀ l₁ l₂ l₃ : List ℕ} {r₀ r₁ r₃ : Option ℕ} {k : Ids} → Writable s i n
+pub ids_adds : {kind : ℕ} {name s : List ℕ} {i n : ℕ} {l₀ l₁ l₂ l₃ : List ℕ} {r₀ r₁ r₃ : Option ℕ} {k : Ids}
+    → Writable s i n
     → Adds l₀ r₀ l₁ r₁ (0 ∷ []) → ListedIds kind name s i n l₁ r₁ l₂ k → Adds l₂ r₀ l₃ r₃ (k.count ∷ [])
     → WrittenIds kind name s i n l₀ r₀ l₃ k.next
 ids_adds {kind} {name} {k} W a L b = record {

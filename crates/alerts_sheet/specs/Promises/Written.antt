@@ -28,7 +28,8 @@ abbrev pub named_ids : ℕ → List ℕ → Tree → List (List ℕ)
 named_ids kind name e = ids_by (id_of kind) name (selectors e)
 
 -- one after the other, and how many they are
-pub record ListedIds (kind : ℕ) (name s : List ℕ) (i n : ℕ) (l : List ℕ) (r : Option ℕ) (m : List ℕ) (k : Ids) : Type 0 where
+pub record ListedIds (kind : ℕ) (name s : List ℕ) (i n : ℕ) (l : List ℕ) (r : Option ℕ) (m : List ℕ)
+    (k : Ids) : Type 0 where
   pub adds : (e : Tree) → entity_at s i n ≡ some e → Adds l r m k.next (many_w text_w (named_ids kind name e))
   pub counted : (e : Tree) → entity_at s i n ≡ some e → k.count ≡ length (named_ids kind name e)
 
@@ -37,7 +38,8 @@ pub record WrittenIds (kind : ℕ) (name s : List ℕ) (i n : ℕ) (l : List ℕ
   pub of : (e : Tree) → entity_at s i n ≡ some e → Adds l r m q (write ids (named_ids kind name e))
 
 -- an entity's alert
-pub record WrittenAlert (name s : List ℕ) (i n : ℕ) (l : List ℕ) (r : Option ℕ) (m : List ℕ) (q : Option ℕ) : Type 0 where
+pub record WrittenAlert (name s : List ℕ) (i n : ℕ) (l : List ℕ) (r : Option ℕ) (m : List ℕ)
+    (q : Option ℕ) : Type 0 where
   pub of : (e : Tree) → entity_at s i n ≡ some e → Adds l r m q (write alert (alert_in name e))
 
 -- a message whose alerts can be written: not broken, and each that is kept has few ids

@@ -44,6 +44,7 @@ pub record Again (l : List ℕ) (w : Option ℕ) (m : List ℕ) (r : Option ℕ)
       → Adds l w m r x
 
 -- a slot's entry is written, and the next can follow
-pub record EntryPut (s o keys marks : List ℕ) (j : ℕ) (l : List ℕ) (w : Option ℕ) (m : List ℕ) (r : Entered) : Type 0 where
+pub record EntryPut (s o keys marks : List ℕ) (j : ℕ) (l : List ℕ) (w : Option ℕ) (m : List ℕ)
+    (r : Entered) : Type 0 where
   pub adds : Adds l w m r.put (write trip_entry (held_entry s o (slot_entry keys marks j)))
   pub ready : Ready s o m r.put r.last

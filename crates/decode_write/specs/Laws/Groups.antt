@@ -24,7 +24,8 @@ pub room_left : (l : List ℕ) (at k n v : ℕ) → 128 ≤ n → n < top k → 
 room_left l at k n v h u i = rw (length-set l at v) (omega (arith, laws.another k n h u))
 
 -- from a place that is one
-pub from_at : {l m : List ℕ} {w q : Option ℕ} {at : ℕ} {x : List ℕ} → w ≡ Some at → Adds l (Some at) m q x → Adds l w m q x
+pub from_at : {l m : List ℕ} {w q : Option ℕ} {at : ℕ} {x : List ℕ} → w ≡ Some at → Adds l (Some at) m q x
+    → Adds l w m q x
 from_at e a = rw e a
 
 pub was_full : {l : List ℕ} {w : Option ℕ} (x : List ℕ) → w ≡ None → Adds l w l None x

@@ -42,7 +42,8 @@ pub record ReadsTimes (S : code.Survey) (s : List ℕ) (p : ℕ) (r : CardTimes)
   pub departs : {e : ℕ} {v : Value card} → Here card s p e v → r.departure ≡ departure_by v (gathered_of S)
   pub arrives : {e : ℕ} {v : Value card} → Here card s p e v → r.arrival ≡ arrival_by v (gathered_of S)
 
-pub record PutsHead (S : code.Survey) (s : List ℕ) (p : ℕ) (l : List ℕ) (w : Option ℕ) (m : List ℕ) (r : Option ℕ) : Type 0 where
+pub record PutsHead (S : code.Survey) (s : List ℕ) (p : ℕ) (l : List ℕ) (w : Option ℕ) (m : List ℕ)
+    (r : Option ℕ) : Type 0 where
   pub opens : {e : ℕ} {v : Value card} → Here card s p e v → mag (departure_by v (gathered_of S)) < 4611686018427387904
       → mag (arrival_by v (gathered_of S)) < 4611686018427387904
       → Opens card (part 5 card) l w m r (new_head v (gathered_of S))

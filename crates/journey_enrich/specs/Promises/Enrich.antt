@@ -18,7 +18,8 @@ use Rattle.journey_card.specs.Promises.Survey.{nothing, look, gathered_of}
 use Rattle.journey_finish.specs.Promises.Finish.{StateIn}
 
 -- the texts of the first i of n labels, one after another
-pub record HeadersUpTo (i : ℕ) (b f t : List ℕ) (n : ℕ) (l : List ℕ) (w : Option ℕ) (m : List ℕ) (r : Option ℕ) : Type 0 where
+pub record HeadersUpTo (i : ℕ) (b f t : List ℕ) (n : ℕ) (l : List ℕ) (w : Option ℕ) (m : List ℕ)
+    (r : Option ℕ) : Type 0 where
   pub adds : SoundLabels b f t n → Adds l w m r (many_w text_w (keys (labels b f t i)))
 
 -- the list of them
@@ -27,7 +28,8 @@ pub record HeadersPut (b f t : List ℕ) (n : ℕ) (l : List ℕ) (w : Option �
 
 -- THE CARD at p, finished over the state that stands in b: where g is what its legs give, and the labels that were
 -- noted are its headers
-pub record Enriches (g : code.Survey) (n : ℕ) (s : List ℕ) (p : ℕ) (b f t l : List ℕ) (w : Option ℕ) (m : List ℕ) (r : Option ℕ)
+pub record Enriches (g : code.Survey) (n : ℕ) (s : List ℕ) (p : ℕ) (b f t l : List ℕ) (w : Option ℕ) (m : List ℕ)
+    (r : Option ℕ)
     : Type 0 where
   pub adds : {q : ℕ} {v : Value card} → Here card s p q v → Judged56 card v → {st : State} → StateIn b st
       → gathered_of g ≡ foldl (look (shown st)) nothing (card_of v).legs → SoundLabels b f t n

@@ -63,19 +63,23 @@ pub record FinishesBy (s : List ℕ) (p q : ℕ) (b : List ℕ) (x : Option ℕ)
       → Holds b x f (trip_rt (shown st) (transit_of v))
       → Adds l w m r (write transit (transit_value (enrich_transit (shown st) (transit_of v))))
 
-pub record Finishes (s : List ℕ) (p q : ℕ) (b : List ℕ) (l : List ℕ) (w : Option ℕ) (m : List ℕ) (r : Option ℕ) : Type 0 where
+pub record Finishes (s : List ℕ) (p q : ℕ) (b : List ℕ) (l : List ℕ) (w : Option ℕ) (m : List ℕ)
+    (r : Option ℕ) : Type 0 where
   pub adds : {v : Value transit} → Here transit s p q v → Judged56 transit v → {st : State} → StateIn b st
       → Adds l w m r (write transit (transit_value (enrich_transit (shown st) (transit_of v))))
 
 -- any leg, the n legs from p on, and the list of them
-pub record LegDone (s : List ℕ) (p q : ℕ) (b : List ℕ) (l : List ℕ) (w : Option ℕ) (m : List ℕ) (r : Option ℕ) : Type 0 where
+pub record LegDone (s : List ℕ) (p q : ℕ) (b : List ℕ) (l : List ℕ) (w : Option ℕ) (m : List ℕ)
+    (r : Option ℕ) : Type 0 where
   pub adds : {v : Value leg} → Here leg s p q v → Judged56 leg v → {st : State} → StateIn b st
       → Adds l w m r (write leg (enrich_leg (shown st) v))
 
-pub record EachDone (s : List ℕ) (p n : ℕ) (b : List ℕ) (l : List ℕ) (w : Option ℕ) (m : List ℕ) (r : Option ℕ) : Type 0 where
+pub record EachDone (s : List ℕ) (p n : ℕ) (b : List ℕ) (l : List ℕ) (w : Option ℕ) (m : List ℕ)
+    (r : Option ℕ) : Type 0 where
   pub adds : {st : State} → StateIn b st → (vs : List (Value leg)) (q : ℕ) → length vs ≡ n → Many leg s p q vs
       → All (Judged56 leg) vs → Adds l w m r (many_w (λ v. write leg (enrich_leg (shown st) v)) vs)
 
-pub record LegsDone (s : List ℕ) (p : ℕ) (b : List ℕ) (l : List ℕ) (w : Option ℕ) (m : List ℕ) (r : Option ℕ) : Type 0 where
+pub record LegsDone (s : List ℕ) (p : ℕ) (b : List ℕ) (l : List ℕ) (w : Option ℕ) (m : List ℕ)
+    (r : Option ℕ) : Type 0 where
   pub adds : {st : State} → StateIn b st → {q : ℕ} {vs : List (Value leg)} → Here (list 16 leg) s p q vs
       → Judged56 (list 16 leg) vs → Adds l w m r (write (list 16 leg) (map (enrich_leg (shown st)) vs))

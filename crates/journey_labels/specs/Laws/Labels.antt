@@ -153,7 +153,8 @@ module _ {o f t : List ℕ} {n : ℕ} (S : SoundLabels o f t n) {p : Place} wher
   pub stands_beyond : {r : ℕ} → n ≤ r → StandsAt o f t n r p false
   stands_beyond {r} h = record { is = rw (le-ltb r n h) refl }
 
-  pub stands_so : {r : ℕ} {b : Bool} {x : Ordering} → r < n → b ≡ is_same x → OrderAt o f t r p x → StandsAt o f t n r p b
+  pub stands_so : {r : ℕ} {b : Bool} {x : Ordering} → r < n → b ≡ is_same x → OrderAt o f t r p x
+      → StandsAt o f t n r p b
   stands_so {r} h e d = record { is = rw (lt-ltb r n h) (e ∙ ap is_same d.is) }
 
 pub rank_few : {o f t : List ℕ} {n : ℕ} {p : Place} {r : ℕ} → SoundLabels o f t n → Ranks o f t n p r → r ≤ n

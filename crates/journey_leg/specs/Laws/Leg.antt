@@ -92,7 +92,8 @@ module _ {v : Option VehiclePlace} {s : List ℕ} {p t : ℕ} {l m : List ℕ} {
   })
 
 -- times, flag and place one after another
-pub marks_put : {R : LegRealtime} {b : Bool} {s : List ℕ} {p n t : ℕ} {l m o : List ℕ} {w r k : Option ℕ} → b ≡ live_of R
+pub marks_put : {R : LegRealtime} {b : Bool} {s : List ℕ} {p n t : ℕ} {l m o : List ℕ} {w r k : Option ℕ}
+    → b ≡ live_of R
     → PutsTimes b R.departs R.arrives s p n l w m r → PutsFlag R.cancels s n t m r o k
     → PutsMarks R s p n t l w o k
 marks_put {R} {b} {s} {p} {n} {t} {l} {m} {o} {w} {r} e A B =

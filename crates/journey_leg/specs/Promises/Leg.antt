@@ -52,17 +52,20 @@ pub record PutsTimes (b : Bool) (d a : StopRealtime) (s : List ℕ) (p t : ℕ) 
   pub opens : {e : ℕ} {x : Value (part 11 transit)} → Field 4 (part 11 transit) tt s p e x t
       → Opens (part 11 transit) (part 15 transit) l w m r (new_times b d a x)
 
-pub record PutsFlag (b : Bool) (s : List ℕ) (p t : ℕ) (l : List ℕ) (w : Option ℕ) (m : List ℕ) (r : Option ℕ) : Type 0 where
+pub record PutsFlag (b : Bool) (s : List ℕ) (p t : ℕ) (l : List ℕ) (w : Option ℕ) (m : List ℕ)
+    (r : Option ℕ) : Type 0 where
   pub opens : {e : ℕ} {x : Value (part 15 transit)} → Field 1 (part 15 transit) tt s p e x t
       → Opens (part 15 transit) (part 16 transit) l w m r (new_flag b x)
 
-pub record PutsPlace (v : Option VehiclePlace) (s : List ℕ) (p t : ℕ) (l : List ℕ) (w : Option ℕ) (m : List ℕ) (r : Option ℕ) : Type 0
+pub record PutsPlace (v : Option VehiclePlace) (s : List ℕ) (p t : ℕ) (l : List ℕ) (w : Option ℕ) (m : List ℕ)
+    (r : Option ℕ) : Type 0
   where
     pub opens : (o : LogicOption Vehicle) → Sees v o → {e : ℕ} {x : Value (part 16 transit)}
         → Field 3 (part 16 transit) tt s p e x t
         → Opens (part 16 transit) (part 19 transit) l w m r (new_place o x)
 
-pub record PutsMarks (R : LegRealtime) (s : List ℕ) (p n t : ℕ) (l : List ℕ) (w : Option ℕ) (m : List ℕ) (r : Option ℕ) : Type 0
+pub record PutsMarks (R : LegRealtime) (s : List ℕ) (p n t : ℕ) (l : List ℕ) (w : Option ℕ) (m : List ℕ)
+    (r : Option ℕ) : Type 0
   where
     pub opens : {e : ℕ} {x : Value (part 11 transit)} → Field 4 (part 11 transit) tt s p e x n
         → Field 1 (part 15 transit) tt s n e (tail 4 (part 11 transit) tt x) t
@@ -77,11 +80,13 @@ new_leg R o v u =
 
 pub record PutsFore (R : LegRealtime) (y : Option VehiclePlace) (s : List ℕ) (p : ℕ) (c : ChangingPlaces) (l : List ℕ)
     (w : Option ℕ) (m : List ℕ) (r : Option ℕ) : Type 0 where
-  pub opens : ChangingAt s p c → (o : LogicOption Vehicle) → Sees y o → {e : ℕ} {v : Value transit} → Here transit s p e v
+  pub opens : ChangingAt s p c → (o : LogicOption Vehicle) → Sees y o → {e : ℕ} {v : Value transit}
+      → Here transit s p e v
       → Opens transit (part 19 transit) l w m r (new_leg R o v)
 
 -- an event of a middle stop, and the stop
-pub record PutsEvent (x : StopRealtime) (s : List ℕ) (p q : ℕ) (l : List ℕ) (w : Option ℕ) (m : List ℕ) (r : Option ℕ) : Type 0
+pub record PutsEvent (x : StopRealtime) (s : List ℕ) (p q : ℕ) (l : List ℕ) (w : Option ℕ) (m : List ℕ)
+    (r : Option ℕ) : Type 0
   where
     pub adds : {lo hi : ℤ} {v : Maybe ℤ} → Here (optional (signed lo hi)) s p q v
         → Adds l w m r (write (optional (signed lo hi)) (taken x.has x.time v))
@@ -90,6 +95,7 @@ abbrev pub new_middle : StopRealtime → StopRealtime → Value middle → Value
 new_middle a d v =
     with 3 middle tt v (taken a.has a.time v.1.1.1.0, taken d.has d.time v.1.1.1.1)
 
-pub record PutsMiddle (a d : StopRealtime) (s : List ℕ) (p q : ℕ) (l : List ℕ) (w : Option ℕ) (m : List ℕ) (r : Option ℕ)
+pub record PutsMiddle (a d : StopRealtime) (s : List ℕ) (p q : ℕ) (l : List ℕ) (w : Option ℕ) (m : List ℕ)
+    (r : Option ℕ)
     : Type 0 where
   pub adds : {v : Value middle} → Here middle s p q v → Adds l w m r (write middle (new_middle a d v))

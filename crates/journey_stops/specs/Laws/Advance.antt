@@ -29,11 +29,13 @@ module _ {A : Type 0} (P : A → Type 0) where
   last [] v x = x.0
   last (u ∷ us) v x = last us v x.1
 
-module _ {f : Format} {P : Value f → Type 0} (g : Value f → List ℕ) {s : List ℕ} {a n : ℕ} {l : List ℕ} {r : Option ℕ} where
+module _ {f : Format} {P : Value f → Type 0} (g : Value f → List ℕ) {s : List ℕ} {a n : ℕ} {l : List ℕ}
+    {r : Option ℕ} where
   pub start : Advance f P g s a n a n l r l r
   start = begin (λ x. none)
 
-  pub step : {p left : ℕ} {m : List ℕ} {k : Option ℕ} {m' : List ℕ} {k' : Option ℕ} (e : ℕ) → Advance f P g s a n p left l r m k
+  pub step : {p left : ℕ} {m : List ℕ} {k : Option ℕ} {m' : List ℕ} {k' : Option ℕ} (e : ℕ)
+      → Advance f P g s a n p left l r m k
       → 0 < left → ((v : Value f) (q : ℕ) → Here f s p q v → e ≡ q)
       → ((v : Value f) → Here f s p e v → P v → Adds m k m' k' (g v)) → Advance f P g s a n e (left - 1) l r m' k'
   step e W z ends adds =

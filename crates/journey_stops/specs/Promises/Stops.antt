@@ -41,11 +41,13 @@ pub record LooksUp (b : List ℕ) (x : Option ℕ) (f : List ℕ) (n : Maybe ℕ
 pub record EventsAt (s : List ℕ) (p : ℕ) (b : List ℕ) (k : Known) (r : StopEvents) : Type 0 where
   pub arrives : {f : Format} {q : ℕ} {x : Value (scheduled & (scheduled & f))}
       → Here (scheduled & (scheduled & f)) s p q x
-      → Judged56 (scheduled & (scheduled & f)) x → (o : LogicOption FeedTrip) (n : Maybe ℕ) (y : List ℕ) → Knows b k o n y
+      → Judged56 (scheduled & (scheduled & f)) x → (o : LogicOption FeedTrip) (n : Maybe ℕ) (y : List ℕ)
+      → Knows b k o n y
       → realtime_of r.arrival ≡ apply_time o arrival x.0 n y
   pub departs : {f : Format} {q : ℕ} {x : Value (scheduled & (scheduled & f))}
       → Here (scheduled & (scheduled & f)) s p q x
-      → Judged56 (scheduled & (scheduled & f)) x → (o : LogicOption FeedTrip) (n : Maybe ℕ) (y : List ℕ) → Knows b k o n y
+      → Judged56 (scheduled & (scheduled & f)) x → (o : LogicOption FeedTrip) (n : Maybe ℕ) (y : List ℕ)
+      → Knows b k o n y
       → realtime_of r.departure ≡ apply_time o departure x.1.0 n y
 
 -- the events of the middle stop at p
@@ -71,7 +73,8 @@ pub record StopsAnew (s : List ℕ) (p n : ℕ) (b : List ℕ) (x : Option ℕ) 
 
 pub record ListAnew (s : List ℕ) (p : ℕ) (b : List ℕ) (x : Option ℕ) (f : List ℕ) (l : List ℕ) (w : Option ℕ)
     (m : List ℕ) (r : Option ℕ) : Type 0 where
-  pub adds : (o : LogicOption FeedTrip) → Holds b x f o → {q : ℕ} {vs : List (Value middle)} → Here (list 64 middle) s p q vs
+  pub adds : (o : LogicOption FeedTrip) → Holds b x f o → {q : ℕ} {vs : List (Value middle)}
+      → Here (list 64 middle) s p q vs
       → Judged56 (list 64 middle) vs → Adds l w m r (write (list 64 middle) (map (stop_by o) vs))
 
 -- a leg by what look-ups gave for it

@@ -49,7 +49,8 @@ front_w F =
     ++ (number_w (length (trips_of F)) ++ write (list most_trips trip_entry) (trips_of F))
 
 -- the list of the vehicles that are left: `kept` of them
-pub record Lists (l : List ℕ) (r : Option ℕ) (m : List ℕ) (q : Option ℕ) (sheet old : List ℕ) (at limit kept : ℕ) : Type 0 where
+pub record Lists (l : List ℕ) (r : Option ℕ) (m : List ℕ) (q : Option ℕ) (sheet old : List ℕ)
+    (at limit kept : ℕ) : Type 0 where
   pub of : (xs ys : Vehicles) (clock : ℤ) → zag limit ≡ clock -ℤ pos 900 → VehiclesIn sheet old at xs ys
       → kept ≡ length (without_stale clock (puts texts xs ys))
       → Adds l r m q (write (list 1024 vehicle_entry) (without_stale clock (puts texts xs ys)))

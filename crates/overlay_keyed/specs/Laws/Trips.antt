@@ -63,7 +63,8 @@ module _ {s : List ℕ} {at : ℕ} {r : Option (ℕ × ℕ)} (S : Spans 137 prin
         pub trip_so : b ≡ true → Entered 137 printable (entry_good f) s at (Some (a, e, q))
         trip_so j = enter_so S h (more_so (entry_so S h T) _ i keyed_fine tells j) refl
 
-pub entered_inside : {s : List ℕ} {at : ℕ} {r : Option (ℕ × ℕ × ℕ)} {l : ℕ} {c : Class} {g : Format} {t : Test (text l c & g)}
+pub entered_inside : {s : List ℕ} {at : ℕ} {r : Option (ℕ × ℕ × ℕ)} {l : ℕ} {c : Class} {g : Format}
+    {t : Test (text l c & g)}
     → Entered l c t s at r → {a e q : ℕ} → r ≡ Some (a, e, q) → Inside s a e
 entered_inside E h = record { forward = entered_forward E h; within = entered_in E h }
 

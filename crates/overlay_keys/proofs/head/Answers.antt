@@ -17,7 +17,8 @@ pub piece-requires-2 : goal.piece-requires-2
 piece-requires-2 c = search (route_inside, piece_inside, c.in_ok-q.was)
 
 pub returns-in_err-u : goal.returns-in_err-u
-returns-in_err-u c = rw c.from_residual-in_err-u.ensures (search (head_between, c.in_ok-p.was, c.in_ok-q.was, c.in_err-u.was))
+returns-in_err-u c = rw c.from_residual-in_err-u.ensures
+    (search (head_between, c.in_ok-p.was, c.in_ok-q.was, c.in_err-u.was))
 
 pub direction-requires : goal.direction-requires
 direction-requires c = record { forward = search (piece_forward, c.in_ok-u.was); within = omega arith }

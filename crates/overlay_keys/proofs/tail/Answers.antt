@@ -16,7 +16,8 @@ pub piece-requires-3 : goal.piece-requires-3
 piece-requires-3 c = search (piece_inside, c.in_ok-q.was)
 
 pub returns-in_err-w : goal.returns-in_err-w
-returns-in_err-w c = rw c.from_residual-in_err-w.ensures (search (tail_between, c.in_ok-p.was, c.in_ok-q.was, c.in_err-w.was))
+returns-in_err-w c = rw c.from_residual-in_err-w.ensures
+    (search (tail_between, c.in_ok-p.was, c.in_ok-q.was, c.in_err-w.was))
 
 pub piece-requires-4 : goal.piece-requires-4
 piece-requires-4 c = search (piece_inside, c.in_ok-w.was)

@@ -75,7 +75,8 @@ module _ {s : List ℕ} {y at e : ℕ} where
           on = λ w u q. none_some (rw (no_number N k) at (given s y (get_or s y 0) h refl z q));
         }
 
-    pub direction_so : {n p : ℕ} → o ≡ Some (n, p) → {r : Option ℕ} → Piece (decimal_of 10 n) s at e r → Direction s y at e r
+    pub direction_so : {n p : ℕ} → o ≡ Some (n, p) → {r : Option ℕ} → Piece (decimal_of 10 n) s at e r
+        → Direction s y at e r
     direction_so {n} {p} k {r} P =
         record {
           moves = piece_moves P;

@@ -166,7 +166,8 @@ module _ (k n : ℕ) {s : List ℕ} {at e : ℕ} where
   pub decimal_none : Inside s at e → k ≡ 0 → Piece (decimal_of k n) s at e (Some at)
   decimal_none I z = rw z (piece_empty I)
 
-  pub decimal_one : (k ≡ 0 → ⊥) → n < 10 → {r : Option ℕ} → Piece ((48 + n) ∷ []) s at e r → Piece (decimal_of k n) s at e r
+  pub decimal_one : (k ≡ 0 → ⊥) → n < 10 → {r : Option ℕ} → Piece ((48 + n) ∷ []) s at e r
+      → Piece (decimal_of k n) s at e r
   decimal_one z h {r} P =
       let j : k ≡ suc (k - 1) = omega arith in
       rw (j, lt-ltb n 10 h) P

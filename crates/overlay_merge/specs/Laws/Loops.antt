@@ -94,5 +94,6 @@ module _ {l : List ℕ} {r : Option ℕ} {m : List ℕ} {q : Option ℕ} {sheet 
       gone = λ y. false_true (sym y ∙ k);
     }
 
-pub put_none : {l : List ℕ} {r : Option ℕ} {sheet old : List ℕ} (t : Turn) → t.keep ≡ false → PutsEntry l r l r sheet old t
+pub put_none : {l : List ℕ} {r : Option ℕ} {sheet old : List ℕ} (t : Turn) → t.keep ≡ false
+    → PutsEntry l r l r sheet old t
 put_none t k = record { kept = λ v h y. false_true (sym k ∙ y); gone = λ y. none }

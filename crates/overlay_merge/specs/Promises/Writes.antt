@@ -12,7 +12,8 @@ use Rattle.overlay_merge.specs.declared.Turn.{Turn}
 use Rattle.overlay_merge.specs.Promises.Merge.{Both, In}
 
 -- the entry of a turn is written where it stays
-pub record PutsEntry (l : List ℕ) (r : Option ℕ) (m : List ℕ) (q : Option ℕ) (sheet old : List ℕ) (t : Turn) : Type 0 where
+pub record PutsEntry (l : List ℕ) (r : Option ℕ) (m : List ℕ) (q : Option ℕ) (sheet old : List ℕ)
+    (t : Turn) : Type 0 where
   pub kept : (v : List ℕ × Vehicle) → In t.sheet sheet old t.from t.to v → t.keep ≡ true
       → Adds l r m q (write vehicle_entry v)
   pub gone : t.keep ≡ false → Adds l r m q []

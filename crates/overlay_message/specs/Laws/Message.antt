@@ -112,7 +112,8 @@ module _ {o h f : List ℕ} {end from body count : ℕ} {known : Bool} (K : Read
 
   -- ---- what the index says
 
-  module _ {s keys marks order : List ℕ} {left : Result (ℕ × ℕ) TooMany} (L : Leaves f s h p.trips keys marks order left) where
+  module _ {s keys marks order : List ℕ} {left : Result (ℕ × ℕ) TooMany}
+      (L : Leaves f s h p.trips keys marks order left) where
     pub writable : {n v : ℕ} → left ≡ Ok (n, v) → Writable s h keys marks order n
     writable e = record { sound = L.sound e; fit = L.fit e; calm = L.calm e }
 

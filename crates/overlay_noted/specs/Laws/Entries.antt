@@ -43,7 +43,8 @@ module _ {s : List ℕ} {a n base : ℕ} {old : List ℕ} where
     pub noting_kept : length l ≡ length old
     noting_kept = N.kept
 
-    pub noting_on : {t : Test trip_entry} {r : Option (ℕ × ℕ × ℕ)} {m : List ℕ} {x y e : ℕ} → n ≤ most_trips → base ≤ 6144 → 0 < left
+    pub noting_on : {t : Test trip_entry} {r : Option (ℕ × ℕ × ℕ)} {m : List ℕ} {x y e : ℕ} → n ≤ most_trips
+        → base ≤ 6144 → 0 < left
         → p ≤ length s → Put l i p m → Entered 137 printable t s p r → r ≡ Some (x, y, e)
         → Noting s a n base old e (i + 1) (left - 1) m
     noting_on {m} {e} k b z f Q E h = record {
@@ -75,7 +76,8 @@ module _ {s : List ℕ} {a n base : ℕ} {old : List ℕ} where
     }
 
 -- the list, behind whose count the trips stand
-pub trips_put : {s : List ℕ} {at base : ℕ} {old new : List ℕ} {o : Option (ℕ × ℕ)} → Number s at o → {n p : ℕ} → o ≡ Some (n, p)
+pub trips_put : {s : List ℕ} {at base : ℕ} {old new : List ℕ} {o : Option (ℕ × ℕ)} → Number s at o → {n p : ℕ}
+    → o ≡ Some (n, p)
     → {r : Option ℕ} → Unless r None (EntriesPut s p n base old new) → Unless r None (TripsPut s at base old new)
 trips_put {s} {base} {new} N h U =
     unless_map (λ E. record {

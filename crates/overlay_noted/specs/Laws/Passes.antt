@@ -20,7 +20,8 @@ use Rattle.overlay_noted.specs.Promises.Noting.{Unless, Fits}
 same_place : {p q : ℕ} → Some p ≡ Some q → p ≡ q
 same_place e = cc
 
-pub checked_passes : {f : Format} {P : Value f → Bool} {s : List ℕ} {at : ℕ} {r : Option ℕ} → Checked f P s at r → {q : ℕ}
+pub checked_passes : {f : Format} {P : Value f → Bool} {s : List ℕ} {at : ℕ} {r : Option ℕ} → Checked f P s at r
+    → {q : ℕ}
     → r ≡ Some q → Passes f s at q
 checked_passes {f} {s} {at} c {q} h =
     let G = good c h in
@@ -31,7 +32,8 @@ pub tested_passes : {f : Format} {t : Test f} {s : List ℕ} {at : ℕ} {r : Opt
     → r ≡ Some q → Passes f s at q
 tested_passes T h = checked_passes T.is h
 
-pub entered_passes : {l : ℕ} {c : Class} {g : Format} {t : Test (text l c & g)} {s : List ℕ} {at : ℕ} {r : Option (ℕ × ℕ × ℕ)}
+pub entered_passes : {l : ℕ} {c : Class} {g : Format} {t : Test (text l c & g)} {s : List ℕ} {at : ℕ}
+    {r : Option (ℕ × ℕ × ℕ)}
     → Entered l c t s at r → {a e q : ℕ} → r ≡ Some (a, e, q) → Passes (text l c & g) s at q
 entered_passes E h = tested_passes (entered_tested E h) refl
 

@@ -12,5 +12,6 @@ abbrev pub invariant-loop-r : goal.invariant-loop-r
 invariant-loop-r l =
     (l.p ≤ length l.old) × (l.b ≤ l.d) × (l.d ≤ length l.old)
     × (length l.noted ≡ length l.initial.noted)
-    × Climbing 16 token entry_good weightless (whatever l.n) l.n l.old l.at (known l.first l.old l.b l.d) 0 (l.n - l.r) l.p
+    × Climbing 16 token entry_good weightless (whatever l.n) l.n l.old l.at (known l.first l.old l.b l.d) 0
+    (l.n - l.r) l.p
     × Feeding l.old l.at l.n l.p (l.n - l.r) l.r l.noted

@@ -11,7 +11,8 @@ pub returns-in_err-p-clause-unless : goal.returns-in_err-p-clause-unless
 returns-in_err-p-clause-unless c = rw c.from_residual.ensures unless_no
 
 pub returns-in_err-q-clause-tested : goal.returns-in_err-q-clause-tested
-returns-in_err-q-clause-tested c = rw c.from_residual-in_err-q.ensures (search (both_so, both_no, c.in_ok-p.was, c.in_err-q.was))
+returns-in_err-q-clause-tested c = rw c.from_residual-in_err-q.ensures
+    (search (both_so, both_no, c.in_ok-p.was, c.in_err-q.was))
 
 pub returns-in_err-q-clause-unless : goal.returns-in_err-q-clause-unless
 returns-in_err-q-clause-unless c = rw c.from_residual-in_err-q.ensures unless_no

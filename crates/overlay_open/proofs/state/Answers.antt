@@ -11,7 +11,8 @@ pub returns-in_err-p-clause-unless : goal.returns-in_err-p-clause-unless
 returns-in_err-p-clause-unless c = rw c.from_residual.ensures unless_no
 
 pub returns-in_err-v-clause-tested : goal.returns-in_err-v-clause-tested
-returns-in_err-v-clause-tested c = rw c.from_residual-in_err-v.ensures (search (state_version, c.in_ok-p.was, c.in_err-v.was))
+returns-in_err-v-clause-tested c = rw c.from_residual-in_err-v.ensures
+    (search (state_version, c.in_ok-p.was, c.in_err-v.was))
 
 pub returns-in_err-v-clause-unless : goal.returns-in_err-v-clause-unless
 returns-in_err-v-clause-unless c = rw c.from_residual-in_err-v.ensures unless_no

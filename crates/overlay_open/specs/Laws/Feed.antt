@@ -60,7 +60,8 @@ module _ {s : List ℕ} {at : ℕ} {r : Option (ℕ × ℕ)} (S : Spans 16 token
   pub feed_id : r ≡ None → Entered 16 token entry_good s at None
   feed_id h = enter_no (keyed_no S feed_good h)
 
-  module _ {a e : ℕ} (h : r ≡ Some (a, e)) {x : Option ℕ} (T : Tested feed (feed_good (take (e - a) (drop a s))) s e x) where
+  module _ {a e : ℕ} (h : r ≡ Some (a, e)) {x : Option ℕ}
+      (T : Tested feed (feed_good (take (e - a) (drop a s))) s e x) where
     pub feed_none : x ≡ None → Entered 16 token entry_good s at None
     feed_none i = enter_bad (keyed_so S h T) i
 
@@ -76,5 +77,6 @@ module _ {s : List ℕ} {at : ℕ} {r : Option ℕ} (e : r ≡ skipped s (const_
     pub state_version : o ≡ None → Tested overlay state_good s at None
     state_version i = behind_so (constant_so 1 e) h (behind_no (version_no n i) feeds_good refl)
 
-    pub state_so : {v q : ℕ} → o ≡ Some (v, q) → {x : Option ℕ} → Tested _ feeds_good s q x → Tested overlay state_good s at x
+    pub state_so : {v q : ℕ} → o ≡ Some (v, q) → {x : Option ℕ} → Tested _ feeds_good s q x
+        → Tested overlay state_good s at x
     state_so i T = behind_so (constant_so 1 e) h (behind_so (version_so n i) refl T)

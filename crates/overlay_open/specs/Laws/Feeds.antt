@@ -70,7 +70,8 @@ module _ {s : List ℕ} {a n : ℕ} where
         record { so = λ _. record { kept = k; each = λ o vs q c g. (ended (F.walk o) z vs q c g).noted } }
 
 -- THE LIST, AND THE STATE
-pub feeds_put : {s : List ℕ} {at : ℕ} {old l : List ℕ} {o : Option (ℕ × ℕ)} → Number s at o → {n p : ℕ} → o ≡ Some (n, p)
+pub feeds_put : {s : List ℕ} {at : ℕ} {old l : List ℕ} {o : Option (ℕ × ℕ)} → Number s at o → {n p : ℕ}
+    → o ≡ Some (n, p)
     → {x : Option ℕ} → Unless x None (FeedsPut s p n old l)
     → Unless x None (HeldPut (list 4 feed_entry) (λ v. v) s at old l)
 feeds_put {s} {l} N h U =

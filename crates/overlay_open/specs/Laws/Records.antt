@@ -70,7 +70,8 @@ pub counted_put : {s : List ℕ} {at r entry : ℕ} {old new : List ℕ} {o : Op
     → Unless x None (RecordsPut counted (λ v. v.1) s at r entry old new)
 counted_put N h U = unless_map (behind_put (number_passes N h)) U
 
-pub feed_put : {s : List ℕ} {at r entry : ℕ} {old new : List ℕ} {y : Option ℕ} → Fine (optional timestamp) s at y → {p : ℕ}
+pub feed_put : {s : List ℕ} {at r entry : ℕ} {old new : List ℕ} {y : Option ℕ} → Fine (optional timestamp) s at y
+    → {p : ℕ}
     → y ≡ Some p → {x : Option ℕ} → Unless x None (RecordsPut counted (λ v. v.1) s p r entry old new)
     → Unless x None (RecordsPut feed (λ v. v.1.1) s at r entry old new)
 feed_put C h U = unless_map (behind_put (checked_passes C h)) U

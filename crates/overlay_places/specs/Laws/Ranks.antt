@@ -21,7 +21,8 @@ use Rattle.overlay_feeds.specs.Laws.Map.{get_past, back_ascending, get_below}
 use Rattle.overlay_places.specs.Promises.Ranks.{RanksFeed}
 
 -- one state stands at 0
-one_read : {A : Type 0} {o : LogicOption (A × List ℕ)} {v u : A} {x y : List ℕ} → o ≡ some (v, x) → o ≡ some (u, y) → v ≡ u
+one_read : {A : Type 0} {o : LogicOption (A × List ℕ)} {v u : A} {x y : List ℕ} → o ≡ some (v, x) → o ≡ some (u, y)
+    → v ≡ u
 one_read {A} {v} {u} {x} {y} e f = let p : ◌≡◌ {A = A × List ℕ} (v, x) (u, y) = cc in ap (λ z. z.0) p
 
 pub one_state : {s : List ℕ} {st u : State} {p q : ℕ} → Here overlay s 0 p st → Here overlay s 0 q u → st ≡ u

@@ -9,7 +9,8 @@ pub returns-in_err-q : goal.returns-in_err-q
 returns-in_err-q c = rw c.from_residual-in_err-q.ensures (search (then_so, then_no, c.in_ok-p.was, c.in_err-q.was))
 
 pub returns-in_err-u : goal.returns-in_err-u
-returns-in_err-u c = rw c.from_residual-in_err-u.ensures (search (then_so, then_no, c.in_ok-p.was, c.in_ok-q.was, c.in_err-u.was))
+returns-in_err-u c = rw c.from_residual-in_err-u.ensures
+    (search (then_so, then_no, c.in_ok-p.was, c.in_ok-q.was, c.in_err-u.was))
 
 pub returns : goal.returns
 returns c = search (then_so, c.in_ok-p.was, c.in_ok-q.was, c.in_ok-u.was)

@@ -9,5 +9,6 @@ use Rattle.overlay_records.proofs.vehicles_from.Given as goal
 abbrev pub invariant-loop : goal.invariant-loop
 invariant-loop l =
     (l.p ≤ length l.old) × (l.b ≤ l.d) × (l.d ≤ length l.old)
-    × Climbing 64 printable vehicle_good weightless (whatever l.n) l.n l.old l.at (known l.first l.old l.b l.d) 0 (l.n - l.counter)
+    × Climbing 64 printable vehicle_good weightless (whatever l.n) l.n l.old l.at (known l.first l.old l.b l.d) 0
+    (l.n - l.counter)
     l.p

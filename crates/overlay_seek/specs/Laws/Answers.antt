@@ -27,7 +27,8 @@ module _ {f : Format} {s : List ℕ} where
   reworded e A = rw e A
 
   -- one look-up, else another
-  pub first_found : {o : LogicOption (Value f)} (u : LogicOption (Value f)) {r : Option ℕ} {p : ℕ} → Answers f s o r → r ≡ Some p
+  pub first_found : {o : LogicOption (Value f)} (u : LogicOption (Value f)) {r : Option ℕ} {p : ℕ} → Answers f s o r
+      → r ≡ Some p
       → Answers f s (or_else o u) (Some p)
   first_found u {p} A e =
       let S = A.found p e in

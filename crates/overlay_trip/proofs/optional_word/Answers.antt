@@ -10,11 +10,13 @@ use Rattle.overlay_trip.proofs.optional_word.Goals as goal
 pub returns-in-1-clause-fine : goal.returns-in-1-clause-fine
 returns-in-1-clause-fine c =
     let inside : c.args.at < length c.args.old.now = grind (arith, common_steps, c.in_ok-get.ensures) in
-    let byte : c.in_ok-get.field-0.now ≡ get_or c.args.old.now c.args.at 0 = grind (arith, common_steps, c.in_ok-get.ensures) in
+    let byte : c.in_ok-get.field-0.now ≡ get_or c.args.old.now c.args.at 0 = grind
+    (arith, common_steps, c.in_ok-get.ensures) in
     search (optional_given, inside, byte, c.in-1)
 
 pub returns-in-1-clause-fine_2 : goal.returns-in-1-clause-fine_2
 returns-in-1-clause-fine_2 c =
     let inside : c.args.at < length c.args.old.now = grind (arith, common_steps, c.in_ok-get.ensures) in
-    let byte : c.in_ok-get.field-0.now ≡ get_or c.args.old.now c.args.at 0 = grind (arith, common_steps, c.in_ok-get.ensures) in
+    let byte : c.in_ok-get.field-0.now ≡ get_or c.args.old.now c.args.at 0 = grind
+    (arith, common_steps, c.in_ok-get.ensures) in
     search (optional_given, inside, byte, c.in-1)

@@ -20,7 +20,8 @@ returns-then-makes_trip c =
 pub loop-preserved : goal.loop-preserved
 loop-preserved c =
     let more : 0 < c.number-c.result.value - c.loop.counter = omega arith in
-    let one : c.number-c.result.value - (c.loop.counter + 1) ≡ c.number-c.result.value - c.loop.counter - 1 = omega arith in
+    let one : c.number-c.result.value -
+    (c.loop.counter + 1) ≡ c.number-c.result.value - c.loop.counter - 1 = omega arith in
     rw one (search (riding_on, more), search (keying_on, more))
 
 pub returns : goal.returns

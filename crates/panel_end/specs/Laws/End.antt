@@ -18,7 +18,8 @@ module _ (kind : ℕ) (s : List ℕ) {r : Option (ℕ × ℕ)} (j : r ≡ judge_
   unfolding end
   end_is = ap place_of j ∙ go (read (form_of kind) s)
     where
-      go : (o : LogicOption (Value (form_of kind) × List ℕ)) → place_of (judged (verdict (form_of kind)) s o) ≡ taken s o
+      go : (o : LogicOption (Value (form_of kind) × List ℕ))
+          → place_of (judged (verdict (form_of kind)) s o) ≡ taken s o
       go none = refl
       go (some (v, rest)) = refl
 

@@ -22,7 +22,8 @@ loop-at-smaller c =
 pub loop-at-preserved : goal.loop-at-preserved
 loop-at-preserved c =
     pass (here c.loop-at.invariant c.loop-at-test.true c.in-Some.ensures) _ _
-    (skipped_read c.args.s.now c.in-Some.next.at _ _ 16 _ c.in-Some-past.ensures).1 (is_unlisted _ c.in-Unlisted.ensures)
+    (skipped_read c.args.s.now c.in-Some.next.at _ _ 16 _ c.in-Some-past.ensures).1
+    (is_unlisted _ c.in-Unlisted.ensures)
 
 pub returns-in_default-number_behind : goal.returns-in_default-number_behind
 returns-in_default-number_behind c =

@@ -5,7 +5,8 @@ use Rattle.realtime.specs.Tree.{Schema, Tree, end, num, txt, msg, join, sub, rep
 use Rattle.realtime_views.specs.Promises.Seeks.{Seeks}
 
 -- an answer, by what it was taken apart to
-pub seek_is : {σ : Schema} {k : ℕ} {s : List ℕ} {at : ℕ} {r q : Option (ℕ × ℕ × ℕ)} → Seeks σ k s at r → r ≡ q → Seeks σ k s at q
+pub seek_is : {σ : Schema} {k : ℕ} {s : List ℕ} {at : ℕ} {r q : Option (ℕ × ℕ × ℕ)} → Seeks σ k s at r → r ≡ q
+    → Seeks σ k s at q
 seek_is {σ} {k} {s} {at} S e = subst (λ j. Seeks σ k s at j) e S
 
 abbrev joined : List Tree → Tree

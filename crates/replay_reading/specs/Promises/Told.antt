@@ -12,7 +12,8 @@ use Rattle.replay_script.specs.declared.Asked.{Asked}
 use Rattle.replay_reading.specs.declared.CardWork.{CardWork}
 
 -- a report
-pub record ToldReport (L : Lengths) (s : List ℕ) (q : Asked) (old out : List ℕ) (p : ℕ) (next : List ℕ) (place : Option ℕ) :
+pub record ToldReport (L : Lengths) (s : List ℕ) (q : Asked) (old out : List ℕ) (p : ℕ) (next : List ℕ)
+    (place : Option ℕ) :
     Type 0 where
   pub told : Adds out (Some p) next place
       (telling (report (slice q.feed.from q.feed.to s) q.out)
@@ -46,7 +47,8 @@ pub record ToldCardOf (L : Lengths) (s : List ℕ) (q : Asked) (work old out : L
       (gives L old (card (slice q.input.from q.input.to s) q.out work)))
 
 -- a card of a script, over working buffers of the published lengths
-pub record ToldCard (L : Lengths) (s : List ℕ) (q : Asked) (old out : List ℕ) (p : ℕ) (next : List ℕ) (place : Option ℕ) :
+pub record ToldCard (L : Lengths) (s : List ℕ) (q : Asked) (old out : List ℕ) (p : ℕ) (next : List ℕ)
+    (place : Option ℕ) :
     Type 0 where
   pub unlent : {w : List ℕ} {e : ℕ} → Here lengths_form s q.work e w
       → within (as_many card_work w) card_work ≡ false → place ≡ None

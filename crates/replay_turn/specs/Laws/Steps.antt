@@ -41,7 +41,8 @@ tells_number {out} {next} {p} {k} {o} {r} {w} e b a = record {
 
 -- ---- a writing call
 
-module _ (L : Lengths) (R : Lent) {old new out next : List ℕ} {p : ℕ} {r : Option ℕ} {place : Option ℕ} {moved : Bool} (c : Call)
+module _ (L : Lengths) (R : Lent) {old new out next : List ℕ} {p : ℕ} {r : Option ℕ} {place : Option ℕ}
+    {moved : Bool} (c : Call)
     (w : writes c ≡ true) (A : RanAs (lends R c) L old c new r) (T : TellsNumber out p next r place)
     (m : moved ≡ accepted_of r) where
   ended_so : (b : Bool) → lends R c ≡ b → r ≡ ran_of b (gives L old c).number
@@ -66,7 +67,8 @@ module _ (L : Lengths) (R : Lent) {old new out next : List ℕ} {p : ℕ} {r : O
     after = goes_on;
   }
 
-pub writing_told : {L : Lengths} {lent : ℕ} {work s : List ℕ} {q : Asked} {old new out next : List ℕ} {p : ℕ} {r : Option ℕ}
+pub writing_told : {L : Lengths} {lent : ℕ} {work s : List ℕ} {q : Asked} {old new out next : List ℕ} {p : ℕ}
+    {r : Option ℕ}
     {place : Option ℕ} {moved : Bool} → WritesAs L lent work s q old new r → TellsNumber out p next r place
     → moved ≡ accepted_of r → ToldWriting L lent work s q old new out p next place moved q.next
 writing_told {L} W T m = record {

@@ -15,7 +15,8 @@ abbrev pub current : ℕ → Bool → List ℕ → List ℕ → List ℕ
 current n first a b = take n (cond first a b)
 
 -- the call c, run over `old`, went from `out` and the place p to `next` and a place, and `left` is the overlay then
-pub record Stepped (L : Lengths) (R : Lent) (c : Call) (old out : List ℕ) (p : ℕ) (left next : List ℕ) (place : Option ℕ) :
+pub record Stepped (L : Lengths) (R : Lent) (c : Call) (old out : List ℕ) (p : ℕ) (left next : List ℕ)
+    (place : Option ℕ) :
     Type 0 where
   pub unlent : lends R c ≡ false → place ≡ None
   pub told : lends R c ≡ true → Adds out (Some p) next place (telling c (gives L old c))

@@ -47,13 +47,15 @@ pub record Fits (a b c k m o out room : ℕ) : Type 0 where
   pub overlay : out ≤ room
 
 -- a message whose working buffers' lengths stand in the script
-pub record MessageRan (L : Lengths) (lent : ℕ) (work s : List ℕ) (q : Asked) (old new : List ℕ) (r : Option ℕ) : Type 0 where
+pub record MessageRan (L : Lengths) (lent : ℕ) (work s : List ℕ) (q : Asked) (old new : List ℕ)
+    (r : Option ℕ) : Type 0 where
   pub of : {w : List ℕ} {e : ℕ} → Here lengths_form s q.work e w
       → RanAs (within (as_many (0 ∷ 0 ∷ 0 ∷ []) w) work && leb q.out lent) L old
       (message (slice q.feed.from q.feed.to s) (slice q.input.from q.input.to s) q.out
       (as_many (0 ∷ 0 ∷ 0 ∷ []) w)) new r
 
 -- a writing call of a script, over what is lent
-pub record WritesAs (L : Lengths) (lent : ℕ) (work s : List ℕ) (q : Asked) (old new : List ℕ) (r : Option ℕ) : Type 0 where
+pub record WritesAs (L : Lengths) (lent : ℕ) (work s : List ℕ) (q : Asked) (old new : List ℕ)
+    (r : Option ℕ) : Type 0 where
   pub of : {v : Value call_form} {e : ℕ} → Reads s q v e → writes (call_of L v) ≡ true → (R : Lent)
       → R.overlay ≡ lent → R.message_work ≡ work → RanAs (lends R (call_of L v)) L old (call_of L v) new r
