@@ -51,12 +51,6 @@ pub struct Span {
     pub to: usize,
 }
 
-pub fn wide(b: u8) -> u64
-    ensures { (result ≡ b) × (result < 256) }
-{
-    u64::from(b)
-}
-
 // The number whose first group says `low`, by the groups at `at` that follow it, and the place past it: each group
 // counts for 128 times the one before.
 fn more(s: &[u8], at: usize, low: u64) -> Option<(u64, usize)>
