@@ -8,7 +8,13 @@ use crate::texts::{road_known, text_fits};
 fn is_hit(h: Hit) -> bool
     ensures { result ≡ hit_any h }
 {
-    h.trip || h.stop || h.route
+    if h.trip {
+        return true;
+    }
+    if h.stop {
+        return true;
+    }
+    h.route
 }
 
 // Whether the alert isn't one about road traffic that meets a rail leg.

@@ -15,7 +15,10 @@ pub struct Hit {
 fn unless_empty(n: usize, hit: bool) -> bool
     ensures { result ≡ unless n hit }
 {
-    n != 0 && hit
+    if n == 0 {
+        return false;
+    }
+    hit
 }
 
 // The short name is trimmed.

@@ -26,35 +26,46 @@ fn text_at(s: &[u8], at: usize) -> Span
 fn is_given(s: &[u8], at: usize) -> bool
     ensures { Given s.now at result }
 {
-    at < s.len() && s[at] == 1
+    if s.len() <= at {
+        return false;
+    }
+    s[at] == 1
 }
 
 // The label of the alert at `at`: its header, or else its description's first 120 characters.
 pub fn label(s: &[u8], at: usize) -> Span
     ensures { Labelled s.now at result.from result.to }
 {
-    let h = text_at(s, at);
-    let d = text_at(s, past_optional_text(s, at));
-    let description = &s[d.from..d.to];
-    if is_given(s, at) {
-        let n = alerts_label::label(Some(&s[h.from..h.to]), description).len();
-        return Span {
-            from: h.from,
-            to: h.from + n,
-        };
+    let present = is_given(s, at);
+    let header = text_at(s, at);
+    let description = text_at(s, past_optional_text(s, at));
+    let h = header.from;
+    let i = header.to;
+    let d = description.from;
+    let e = description.to;
+    let n = alerts_label::label(present, &s[h..i], &s[d..e]).len();
+    if present {
+        return Span { from: h, to: h + n };
     }
-    let n = alerts_label::label(None, description).len();
-    Span {
-        from: d.from,
-        to: d.from + n,
-    }
+    Span { from: d, to: d + n }
 }
 
 // Whether three texts and a byte are shorter than a buffer.
 fn has_room(room: usize, a: usize, b: usize, c: usize) -> bool
     ensures { result ≡ ltb (a + b + c + 1) room }
 {
-    a < room && b < room - a && c < room - a - b && 1 < room - a - b - c
+    if room <= a {
+        return false;
+    }
+    let x = room - a;
+    if x <= b {
+        return false;
+    }
+    let y = x - b;
+    if y <= c {
+        return false;
+    }
+    1 < y - c
 }
 
 // The text test where the lines that the texts name are known, as bits of a word.

@@ -13,16 +13,51 @@ ghost use Rattle.alerts.specs.Applies.{is_code, rfind, segment, tails_match, rou
 ghost use Rattle.alerts.specs.Applies.{by_name, rail_modes, is_rail_like_mode, stop_tail};
 ghost use Rattle.alerts_ids.specs.Promises.Cuts.{LastOf, cuts, LastPiece, takes, FirstPiece, Coded};
 
+fn capital(b: u8) -> u8
+    ensures { result ≡ upper_byte b }
+{
+    if b < 97 {
+        return b;
+    }
+    if 122 < b {
+        return b;
+    }
+    b - 32
+}
+
+fn is_digit(b: u8) -> bool
+    ensures { result ≡ digit b }
+{
+    if b < 48 {
+        return false;
+    }
+    b <= 57
+}
+
+fn is_alphanumeric(b: u8) -> bool
+    ensures { result ≡ alphanumeric b }
+{
+    if b < 65 {
+        return is_digit(b);
+    }
+    if b < 97 {
+        return b <= 90;
+    }
+    b <= 122
+}
+
 pub fn same_ignoring_case(a: &[u8], b: &[u8]) -> bool
     ensures { result ≡ same_ignoring_case a.now b.now }
 {
     if a.len() != b.len() {
         return false;
     }
-    for (x, y) in a.iter().zip(b) {
-        if x.to_ascii_uppercase() != y.to_ascii_uppercase() {
+    let mut i = 0;
+    while i < a.len() {
+        if capital(a[i]) != capital(b[i]) {
             return false;
         }
+        i += 1;
     }
     true
 }
@@ -30,21 +65,28 @@ pub fn same_ignoring_case(a: &[u8], b: &[u8]) -> bool
 fn trim_start(s: &[u8]) -> &[u8]
     ensures { result.now ≡ trim_start s.now }
 {
-    let mut rest = s;
-    while let [b' ', tail @ ..] = rest {
-        rest = tail;
+    let mut a = 0;
+    while a < s.len() {
+        if s[a] != b' ' {
+            return &s[a..];
+        }
+        a += 1;
     }
-    rest
+    &s[a..]
 }
 
 fn trim_end(s: &[u8]) -> &[u8]
     ensures { result.now ≡ trim_end s.now }
 {
-    let mut rest = s;
-    while let [front @ .., b' '] = rest {
-        rest = front;
+    let mut e = s.len();
+    while 0 < e {
+        let k = e - 1;
+        if s[k] != b' ' {
+            return &s[..e];
+        }
+        e = k;
     }
-    rest
+    &s[..e]
 }
 
 pub fn trimmed(s: &[u8]) -> &[u8]
@@ -84,14 +126,21 @@ pub fn ends_after_colon(t: &[u8], x: &[u8]) -> bool
         return false;
     }
     let a = t.len() - x.len();
-    t[a - 1] == b':' && slices::same(x, &t[a..])
+    let k = a - 1;
+    if t[k] != b':' {
+        return false;
+    }
+    slices::same(x, &t[a..])
 }
 
 // Whether an id is cut at a byte: at ':' and '/'.
 fn is_cut(b: u8) -> bool
     ensures { result ≡ cuts b }
 {
-    matches!(b, b':' | b'/')
+    if b == b':' {
+        return true;
+    }
+    b == b'/'
 }
 
 // Where the last piece of x up to e begins.
@@ -113,13 +162,26 @@ fn piece_start(x: &[u8], e: usize) -> usize
 fn has_alphanumeric(p: &[u8]) -> bool
     ensures { result ≡ any alphanumeric p.now }
 {
-    p.iter().any(|b| b.is_ascii_alphanumeric())
+    let mut i = 0;
+    while i < p.len() {
+        if is_alphanumeric(p[i]) {
+            return true;
+        }
+        i += 1;
+    }
+    false
 }
 
 fn is_taken(p: &[u8], lettered: bool) -> bool
     ensures { result ≡ takes lettered p.now }
 {
-    !p.is_empty() && (!lettered || has_alphanumeric(p))
+    if p.len() == 0 {
+        return false;
+    }
+    if lettered {
+        return has_alphanumeric(p);
+    }
+    true
 }
 
 // The last piece that is taken, or else all of x: from the end, so that most of x isn't read.
@@ -151,16 +213,33 @@ pub fn stop_tail(x: &[u8]) -> &[u8]
     last_piece(x, true)
 }
 
-fn are_digits(p: &[u8]) -> bool
-    ensures { result ≡ all digit p.now }
+// Whether the bytes from i on are digits.
+fn digits_from(p: &[u8], i: usize) -> bool
+    ensures { result ≡ all digit (drop i p.now) }
 {
-    p.iter().all(|b| b.is_ascii_digit())
+    let mut k = i;
+    while k < p.len() {
+        if !is_digit(p[k]) {
+            return false;
+        }
+        k += 1;
+    }
+    true
 }
 
 fn is_code(p: &[u8]) -> bool
     ensures { result ≡ is_code p.now }
 {
-    5 <= p.len() && p.len() <= 8 && p[0].to_ascii_uppercase() == b'C' && are_digits(&p[1..])
+    if p.len() < 5 {
+        return false;
+    }
+    if 8 < p.len() {
+        return false;
+    }
+    if capital(p[0]) != b'C' {
+        return false;
+    }
+    digits_from(p, 1)
 }
 
 // Where the letters and digits from a on end.
@@ -168,12 +247,14 @@ fn run_end(x: &[u8], a: usize) -> usize
     requires { a ≤ length x.now }
     ensures { FirstPiece x.now a result }
 {
-    for e in a..x.len() {
-        if !x[e].is_ascii_alphanumeric() {
+    let mut e = a;
+    while e < x.len() {
+        if !is_alphanumeric(x[e]) {
             return e;
         }
+        e += 1;
     }
-    x.len()
+    e
 }
 
 pub fn product_code_token(x: &[u8]) -> Option<(usize, usize)>
@@ -197,13 +278,19 @@ fn tails_match(leg: &[u8], informed: &[u8]) -> bool
     ensures { result ≡ tails_match (segment leg.now) (segment informed.now) }
 {
     let q = segment(leg);
-    3 <= q.len() && same_ignoring_case(q, segment(informed))
+    if q.len() < 3 {
+        return false;
+    }
+    same_ignoring_case(q, segment(informed))
 }
 
 pub fn route_refs_match(leg: &[u8], informed: &[u8]) -> bool
     ensures { result ≡ route_refs_match leg.now informed.now }
 {
-    if leg.is_empty() || informed.is_empty() {
+    if leg.len() == 0 {
+        return false;
+    }
+    if informed.len() == 0 {
         return false;
     }
     if slices::same(leg, informed) {
@@ -222,8 +309,14 @@ pub fn short_names_equal(leg: &[u8], other: &[u8]) -> bool
     ensures { result ≡ short_names_equal leg.now other.now }
 {
     let s = trimmed(leg);
+    if s.len() == 0 {
+        return false;
+    }
     let t = trimmed(other);
-    !s.is_empty() && !t.is_empty() && same_ignoring_case(s, t)
+    if t.len() == 0 {
+        return false;
+    }
+    same_ignoring_case(s, t)
 }
 
 // Whether a route id ends in the line's name and holds no product code.
@@ -231,17 +324,44 @@ pub fn by_name(short: &[u8], x: &[u8]) -> bool
     ensures { result ≡ by_name short.now x.now }
 {
     let g = segment(x);
-    g.len() <= 4 && short_names_equal(short, g) && product_code_token(x).is_none()
+    if 4 < g.len() {
+        return false;
+    }
+    if !short_names_equal(short, g) {
+        return false;
+    }
+    match product_code_token(x) {
+        Some((_, _)) => false,
+        None => true,
+    }
+}
+
+fn is_tram_like(mode: &[u8]) -> bool
+    ensures { result ≡ any (same (upper mode.now)) (drop 4 rail_modes) }
+{
+    if same_ignoring_case(mode, b"TRAM") {
+        return true;
+    }
+    if same_ignoring_case(mode, b"TRAMWAY") {
+        return true;
+    }
+    same_ignoring_case(mode, b"RER")
 }
 
 pub fn is_rail_like_mode(mode: &[u8]) -> bool
     ensures { result ≡ is_rail_like_mode mode.now }
 {
-    same_ignoring_case(mode, b"RAIL")
-        || same_ignoring_case(mode, b"TRAIN")
-        || same_ignoring_case(mode, b"METRO")
-        || same_ignoring_case(mode, b"SUBWAY")
-        || same_ignoring_case(mode, b"TRAM")
-        || same_ignoring_case(mode, b"TRAMWAY")
-        || same_ignoring_case(mode, b"RER")
+    if same_ignoring_case(mode, b"RAIL") {
+        return true;
+    }
+    if same_ignoring_case(mode, b"TRAIN") {
+        return true;
+    }
+    if same_ignoring_case(mode, b"METRO") {
+        return true;
+    }
+    if same_ignoring_case(mode, b"SUBWAY") {
+        return true;
+    }
+    is_tram_like(mode)
 }

@@ -17,7 +17,9 @@ fn row_name(table: &[u8], at: usize, out: &mut [u8]) -> usize
     requires { (at + 9 ≤ length table.now) × (3 ≤ length out.old) }
     ensures { Wrote (name_in table.now at) result out.old out.new }
 {
-    write_name(out, crate::trim_end(&table[at + 6..at + 9]))
+    let from = at + 6;
+    let to = at + 9;
+    write_name(out, crate::trim_end(&table[from..to]))
 }
 
 // The line of a code, by a table of n rows: six bytes of code, and three of name filled with spaces.
@@ -26,11 +28,15 @@ fn line_of(table: &[u8], n: usize, code: &[u8], out: &mut [u8]) -> Option<usize>
     ensures { Named (name_of (upper code.now) (rows n table.now)) result out.old
         out.new }
 {
-    for row in 0..n {
-        let at = 9 * row;
-        if crate::same_ignoring_case(code, &table[at..at + 6]) {
+    let mut at = 0;
+    let mut left = n;
+    while 0 < left {
+        let e = at + 6;
+        if crate::same_ignoring_case(code, &table[at..e]) {
             return Some(row_name(table, at, out));
         }
+        at += 9;
+        left -= 1;
     }
     None
 }
@@ -52,7 +58,17 @@ fn value(b: u8) -> u64
     ensures value { result ≡ b - 48 }
     ensures bounded { result ≤ 207 }
 {
-    u64::from(b.saturating_sub(b'0'))
+    if b < 48 {
+        return 0;
+    }
+    (b - 48) as u64
+}
+
+fn joined(a: u64, b: u64, c: u64, d: u64, e: u64) -> u64
+    requires { (a ≤ 207) × (b ≤ 207) × (c ≤ 207) × (d ≤ 207) × (e ≤ 207) }
+    ensures { result ≡ 10000 * a + 1000 * b + 100 * c + 10 * d + e }
+{
+    10000 * a + 1000 * b + 100 * c + 10 * d + e
 }
 
 // The number that the digits from 1 to 5 are.
@@ -60,18 +76,26 @@ fn digits_value(p: &[u8]) -> u64
     requires { length p.now ≡ 6 }
     ensures { result ≡ decimal_value 0 (drop 1 p.now) }
 {
-    10000 * value(p[1]) + 1000 * value(p[2]) + 100 * value(p[3]) + 10 * value(p[4]) + value(p[5])
+    joined(
+        value(p[1]),
+        value(p[2]),
+        value(p[3]),
+        value(p[4]),
+        value(p[5]),
+    )
 }
 
 // The number of a product code; 0 where a text is none.
 fn code_number(code: &[u8]) -> u64
     ensures { result ≡ code_number (upper code.now) }
 {
-    if code.len() == 6 && crate::is_code(code) {
-        digits_value(code)
-    } else {
-        0
+    if code.len() != 6 {
+        return 0;
     }
+    if crate::is_code(code) {
+        return digits_value(code);
+    }
+    0
 }
 
 // By the table, where the code's number is none of those that are worked out.
@@ -93,8 +117,10 @@ pub fn idfm_product_to_short(code: &[u8], out: &mut [u8]) -> Option<usize>
     ensures { Named (idfm_product_to_short code.now) result out.old out.new }
 {
     let n = code_number(code);
-    match n {
-        1371..=1384 => Some(number_name(n - 1370, out)),
-        _ => listed(code, out),
+    if 1371 <= n {
+        if n <= 1384 {
+            return Some(number_name(n - 1370, out));
+        }
     }
+    listed(code, out)
 }

@@ -60,8 +60,8 @@ stops s n left i p h e z = record {
   taken = sym (p.whole ∙ ap (λ l. take i s ++ l) (rw (z, drop-cons s i 0, e) refl) ∙ append-nil (take i s));
 }
 
-ended_at : (s : List ℕ) (n left i : ℕ) → Passed s n left i → length s ≤ i → Ends s n i
-ended_at s n left i p h = record {
+pub ended : (s : List ℕ) (n left i : ℕ) → Passed s n left i → length s ≤ i → Ends s n i
+ended s n left i p h = record {
   within = p.within;
   taken = sym (p.whole ∙ ap (λ l. take i s ++ l) (rw (drop_of_length-le s h) (none left)) ∙ append-nil (take i s));
 }
@@ -69,6 +69,3 @@ ended_at s n left i p h = record {
     none : (left : ℕ) → characters left [] ≡ []
     none zero = refl
     none (suc left) = refl
-
-pub ended : (s : List ℕ) (n left i : ℕ) → Passed s n left i → length s ≤ i → Ends s n (length s)
-ended s n left i p h = let e : length s ≡ i = omega (arith, p.within) in rw e (ended_at s n left i p h)

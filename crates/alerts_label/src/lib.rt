@@ -1,8 +1,7 @@
 // The label of an alert, as a part of lent bytes.
 #![tactic(auto)]
 
-ghost use Rattle.std.specs.Prelude.{◌≡◌, true, false, []};
-ghost use Rattle.std.specs.Option.{IfSome, IfNone};
+ghost use Rattle.std.specs.Prelude.{◌≡◌};
 ghost use Rattle.alerts.specs.Label.{continues, label_of};
 ghost use Rattle.alerts.specs.Promises.Label.{Ends};
 
@@ -10,7 +9,10 @@ ghost use Rattle.alerts.specs.Promises.Label.{Ends};
 fn goes_on(b: u8) -> bool
     ensures { result ≡ continues b }
 {
-    matches!(b, 128..=191)
+    if 128 <= b {
+        return b <= 191;
+    }
+    false
 }
 
 // Where the first n characters of s end.
@@ -18,24 +20,26 @@ fn characters_end(s: &[u8], n: usize) -> usize
     ensures { Ends s.now n result }
 {
     let mut left = n;
-    for i in 0..s.len() {
+    let mut i = 0;
+    while i < s.len() {
         if !goes_on(s[i]) {
             if left == 0 {
                 return i;
             }
             left -= 1;
         }
+        i += 1;
     }
-    s.len()
+    i
 }
 
 // An alert's label: its header, or else its description's first 120 characters.
-pub fn label<'a>(header: Option<&'a [u8]>, description: &'a [u8]) -> &'a [u8]
-    ensures given { IfSome header.entry (λ h. result.now ≡ label_of true h.now description.now) }
-    ensures absent { IfNone header.entry (result.now ≡ label_of false [] description.now) }
+pub fn label<'a>(present: bool, header: &'a [u8], description: &'a [u8]) -> &'a [u8]
+    ensures { result.now ≡ label_of present header.now description.now }
 {
-    match header {
-        Some(h) => h,
-        None => &description[..characters_end(description, 120)],
+    if present {
+        return header;
     }
+    let e = characters_end(description, 120);
+    &description[..e]
 }

@@ -2,41 +2,91 @@
 // scan for each text that stands before a name.
 #![tactic(auto)]
 
-ghost use Rattle.std.specs.Prelude.{◌≡◌, ◌+◌, ◌*◌, ◌<◌, ◌≤◌, length, get_or, take, drop};
-ghost use Rattle.std.specs.Option.{IfSome};
-ghost use Rattle.alerts_lines.specs.Promises.Lines.{width_of, line_at, short_of, long_of, last_of, bare_of};
+ghost use Rattle.std.specs.Prelude.{◌≡◌, ◌||◌, ◌+◌, ◌-◌, ◌<◌, ◌≤◌, eqb, length, get_or, take, drop};
+ghost use Rattle.basics.specs.Texts.{same};
+ghost use Rattle.alerts.specs.Text.{begins};
+ghost use Rattle.alerts_lines.specs.Promises.Lines.{width_of, line_at, short_of, ten_of, long_of, last_of, bare_of};
 ghost use Rattle.alerts_lines.specs.Promises.Lines.{number_of, tram_of, named_of, subject_of, stands_at, row_at, row};
-ghost use Rattle.alerts_lines.specs.Promises.Lines.{family_of, table_of, IsLine, numbered};
-ghost use Rattle.alerts_lines.specs.Promises.Marks.{on, Marked, MarkedBy, MarkedOne};
+ghost use Rattle.alerts_lines.specs.Promises.Lines.{family_of, table_of, IsLine};
+ghost use Rattle.alerts_lines.specs.Promises.Marks.{on, any_from, pick_of, picks, Marked, MarkedBy, MarkedOne};
 ghost use Rattle.alerts_lines.specs.Promises.Marks.{MarkedIn, Begin, Cleared};
+
+// What is asked of each line.
+#[derive(Clone, Copy)]
+pub enum Pick {
+    // It is named.
+    Named,
+    // It is named, and the one given.
+    Own,
+    // It is named, and another.
+    Another,
+    // It is named, another, and a subject.
+    Subject,
+}
 
 // How long the name of line k is.
 fn width(k: usize) -> usize
     ensures { result ≡ width_of k }
 {
-    match k {
-        0..=5 | 11..=18 => 1,
-        20..=23 => 3,
-        _ => 2,
+    if k < 6 {
+        return 1;
     }
+    if k < 11 {
+        return 2;
+    }
+    if k < 19 {
+        return 1;
+    }
+    if k < 20 {
+        return 2;
+    }
+    if k < 24 { 3 } else { 2 }
 }
 
-// Name k of a table: three bytes each, filled with spaces.
-fn name_in(table: &[u8], k: usize) -> &[u8]
-    requires { (k < 32) × (length table.now ≡ 96) }
-    ensures { result.now ≡ take (width_of k) (drop (3 * k) table.now) }
+// Whether a part of a table stands in s at j.
+fn part_at(s: &[u8], j: usize, table: &[u8], a: usize, e: usize) -> bool
+    requires { (a ≤ e) × (e ≤ length table.now) }
+    ensures { result ≡ begins (take (e - a) (drop a table.now)) (drop j s.now) }
+{
+    alerts_patterns::begins_at(s, j, &table[a..e])
+}
+
+// Whether a part of a table is the name.
+fn part_is(table: &[u8], a: usize, e: usize, name: &[u8]) -> bool
+    requires { (a ≤ e) × (e ≤ length table.now) }
+    ensures { result ≡ same (take (e - a) (drop a table.now)) name.now }
+{
+    slices::same(&table[a..e], name)
+}
+
+// Whether the name of line k stands in s at j.
+fn line_at(s: &[u8], j: usize, k: usize) -> bool
+    requires { k < 32 }
+    ensures { result ≡ begins (line_at k) (drop j s.now) }
 {
     let a = 3 * k;
-    &table[a..a + width(k)]
+    let e = a + width(k);
+    part_at(
+        s,
+        j,
+        b"A  B  C  D  E  1  10 11 12 13 14 2  3  4  5  6  7  8  9  T1 T10T11T12T13T2 T3 T4 T5 T6 T7 T8 T9 ",
+        a,
+        e,
+    )
 }
 
-fn name(k: usize) -> &'static [u8]
+// Whether line k has the name.
+fn line_is(k: usize, name: &[u8]) -> bool
     requires { k < 32 }
-    ensures { result.now ≡ line_at k }
+    ensures { result ≡ same (line_at k) name.now }
 {
-    name_in(
+    let a = 3 * k;
+    let e = a + width(k);
+    part_is(
         b"A  B  C  D  E  1  10 11 12 13 14 2  3  4  5  6  7  8  9  T1 T10T11T12T13T2 T3 T4 T5 T6 T7 T8 T9 ",
-        k,
+        a,
+        e,
+        name,
     )
 }
 
@@ -45,53 +95,106 @@ fn stands_at(s: &[u8], j: usize, afters: &[u8], k: usize) -> bool
     requires { k < 32 }
     ensures { result ≡ stands_at s.now j afters.now k }
 {
-    let name = name(k);
-    alerts_patterns::begins_at(s, j, name) && alerts_patterns::any_at(afters, s, j + name.len())
+    if !line_at(s, j, k) {
+        return false;
+    }
+    let i = j + width(k);
+    alerts_patterns::any_at(afters, s, i)
 }
 
-// The line with a short name, of one digit at most, whose name may begin with two bytes.
-fn short_line(b: u8, c: u8) -> Option<usize>
-    ensures value { numbered result ≡ short_of b c }
-    ensures bounded { IfSome result (λ k. k < 32) }
+// The line with a short name, of one digit at most, whose name may begin with two bytes, or 32.
+fn short_line(b: u8, c: u8) -> usize
+    ensures { result ≡ short_of b c }
 {
-    match (b, c) {
-        (b'1', _) => Some(5),
-        (b'2'..=b'9', _) => Some((b - 39) as usize),
-        (b'A'..=b'E', _) => Some((b - b'A') as usize),
-        (b'T', b'1') => Some(19),
-        (b'T', b'2'..=b'9') => Some((c - 26) as usize),
-        _ => None,
+    if b < 49 {
+        return 32;
     }
+    if b == 49 {
+        return 5;
+    }
+    if b < 58 {
+        return (b - 39) as usize;
+    }
+    if b < 65 {
+        return 32;
+    }
+    if b < 70 {
+        return (b - 65) as usize;
+    }
+    if b != 84 {
+        return 32;
+    }
+    if c == 49 {
+        return 19;
+    }
+    if c < 50 {
+        return 32;
+    }
+    if c < 58 { (c - 26) as usize } else { 32 }
 }
 
-// The line with a long name, of two digits, whose name may begin with three bytes.
-fn long_line(b: u8, c: u8, d: u8) -> Option<usize>
-    ensures value { numbered result ≡ long_of b c d }
-    ensures bounded { IfSome result (λ k. k < 32) }
+fn long_number(c: u8) -> usize
+    ensures { result ≡ ten_of c }
 {
-    match (b, c, d) {
-        (b'1', b'0'..=b'4', _) => Some((c - 42) as usize),
-        (b'T', b'1', b'0'..=b'3') => Some((d - 28) as usize),
-        _ => None,
+    if c < 48 {
+        return 32;
     }
+    if c < 53 { (c - 42) as usize } else { 32 }
+}
+
+// The line with a long name, of two digits, whose name may begin with three bytes, or 32.
+fn long_line(b: u8, c: u8, d: u8) -> usize
+    ensures { result ≡ long_of b c d }
+{
+    if b == 49 {
+        return long_number(c);
+    }
+    if b != 84 {
+        return 32;
+    }
+    if c != 49 {
+        return 32;
+    }
+    if d < 48 {
+        return 32;
+    }
+    if d < 52 { (d - 28) as usize } else { 32 }
 }
 
 // The byte at i, or 0.
 fn byte_at(s: &[u8], i: usize) -> u8
     ensures { result ≡ get_or s.now i 0 }
 {
-    s.get(i).copied().unwrap_or(0)
+    if i < s.len() { s[i] } else { 0 }
 }
 
-// Marks line k, if it stands at j.
+fn long_at(s: &[u8], j: usize, b: u8, c: u8) -> usize
+    requires { j < length s.now }
+    ensures { result ≡ long_of b c (get_or s.now (j + 2) 0) }
+{
+    if s.len() - j <= 2 {
+        return long_line(b, c, 0);
+    }
+    let i = j + 2;
+    long_line(b, c, s[i])
+}
+
+// Marks line k, if there is one and it stands at j.
 fn mark_one(marks: &mut [u8], s: &[u8], j: usize, afters: &[u8], k: usize)
-    requires { (length marks.old ≡ 32) × (k < 32) }
+    requires { length marks.old ≡ 32 }
     ensures { MarkedOne (stands_at s.now j afters.now) k
         marks.old marks.new }
 {
-    if marks[k] != 1 && stands_at(s, j, afters, k) {
-        marks[k] = 1;
+    if 32 <= k {
+        return;
     }
+    if marks[k] == 1 {
+        return;
+    }
+    if !stands_at(s, j, afters, k) {
+        return;
+    }
+    marks[k] = 1;
 }
 
 // Marks the lines that stand at j.
@@ -105,13 +208,12 @@ fn mark_at(marks: &mut [u8], s: &[u8], j: usize, afters: &[u8])
     }
     let b = s[j];
     let c = byte_at(s, j + 1);
-    let Some(short) = short_line(b, c) else {
-        return
-    };
+    let short = short_line(b, c);
+    if short == 32 {
+        return;
+    }
     mark_one(marks, s, j, afters, short);
-    let Some(long) = long_line(b, c, byte_at(s, j + 2)) else {
-        return
-    };
+    let long = long_at(s, j, b, c);
     mark_one(marks, s, j, afters, long);
 }
 
@@ -121,9 +223,11 @@ fn mark_place(marks: &mut [u8], s: &[u8], i: usize, before: &[u8], afters: &[u8]
     ensures { Marked (row_at s.now before.now afters.now i)
         marks.old marks.new }
 {
-    if alerts_patterns::begins_at(s, i, before) {
-        mark_at(marks, s, i + before.len(), afters);
+    if !alerts_patterns::begins_at(s, i, before) {
+        return;
     }
+    let j = i + before.len();
+    mark_at(marks, s, j, afters);
 }
 
 // Marks the lines that stand anywhere in s behind `before`, of those whose names begin with a byte from the first of
@@ -171,15 +275,22 @@ fn mark_table(marks: &mut [u8], s: &[u8], first: &[u8], table: &[u8])
     mark_family(marks, s, first, &table[at..]);
 }
 
+fn either(a: u8, b: bool) -> u8
+    ensures { eqb result 1 ≡ eqb a 1 || b }
+{
+    if b { 1 } else { a }
+}
+
 // Adds the marks of l, for the lines from one on up to another.
 fn add(marks: &mut [u8], l: &[u8], from: usize, past: usize)
     requires { (length marks.old ≡ 32) × (length l.now ≡ 32) × (from ≤ past) × (past ≤ 32) }
     ensures { MarkedIn (on l.now) from past marks.old marks.new }
 {
-    for k in from..past {
-        if l[k] == 1 {
-            marks[k] = 1;
-        }
+    let mut k = from;
+    while k < past {
+        let t = l[k] == 1;
+        marks[k] = either(marks[k], t);
+        k += 1;
     }
 }
 
@@ -188,8 +299,10 @@ fn clear(l: &mut [u8], from: usize, past: usize)
     requires { (length l.old ≡ 32) × (from ≤ past) × (past ≤ 32) }
     ensures { Cleared from past l.new }
 {
-    for k in from..past {
+    let mut k = from;
+    while k < past {
         l[k] = 0;
+        k += 1;
     }
 }
 
@@ -211,12 +324,16 @@ fn line_last(s: &[u8], k: usize) -> bool
     requires { k < 32 }
     ensures { result ≡ last_of s.now k }
 {
-    let name = name(k);
-    if s.len() <= name.len() {
+    let w = width(k);
+    if s.len() <= w {
         return false;
     }
-    let j = s.len() - name.len();
-    s[j - 1] == b' ' && alerts_patterns::begins_at(s, j, name)
+    let j = s.len() - w;
+    let i = j - 1;
+    if s[i] != b' ' {
+        return false;
+    }
+    line_at(s, j, k)
 }
 
 // Marks the numbers that stand last in s, behind a space.
@@ -224,10 +341,11 @@ fn mark_last(marks: &mut [u8], s: &[u8])
     requires { length marks.old ≡ 32 }
     ensures { MarkedIn (last_of s.now) 5 19 marks.old marks.new }
 {
-    for k in 5..19 {
-        if line_last(s, k) {
-            marks[k] = 1;
-        }
+    let mut k = 5;
+    while k < 19 {
+        let t = line_last(s, k);
+        marks[k] = either(marks[k], t);
+        k += 1;
     }
 }
 
@@ -245,9 +363,10 @@ fn mark_numbers(marks: &mut [u8], s: &[u8])
     ensures { MarkedIn (number_of s.now) 5 19 marks.old marks.new }
 {
     mark_class(marks, s, b"19", b"METRO #;METRO#;LIGNE #;LIGNES #", 5, 19);
-    if alerts_patterns::any_in(b"LIGNE|METRO", s, s) {
-        mark_bare(marks, s);
+    if !alerts_patterns::any_in(b"LIGNE|METRO", s, s) {
+        return;
     }
+    mark_bare(marks, s);
 }
 
 fn mark_trams(marks: &mut [u8], s: &[u8])
@@ -256,9 +375,9 @@ fn mark_trams(marks: &mut [u8], s: &[u8])
 {
     if alerts_patterns::any_in(b"TRAM", s, s) {
         mark_class(marks, s, b"TT", b"#", 19, 32);
-    } else {
-        mark_class(marks, s, b"TT", b" #", 19, 32);
+        return;
     }
+    mark_class(marks, s, b"TT", b" #", 19, 32);
 }
 
 // Marks the lines that s names.
@@ -285,20 +404,62 @@ pub fn mark_subjects(marks: &mut [u8], s: &[u8])
     mark_place(marks, s, 0, b"LIGNE ", b"");
 }
 
-// The line that has the name.
-pub fn line_of(name: &[u8]) -> Option<usize>
-    ensures { IsLine name.now (numbered result) }
+// The line that has the name, or 32.
+pub fn line_of(name: &[u8]) -> usize
+    ensures { IsLine name.now result }
 {
-    let b = byte_at(name, 0);
+    if name.len() == 0 {
+        return 32;
+    }
+    let b = name[0];
     let c = byte_at(name, 1);
-    let short = short_line(b, c)?;
-    if slices::same(crate::name(short), name) {
-        return Some(short);
+    let short = short_line(b, c);
+    if 32 <= short {
+        return 32;
     }
-    let long = long_line(b, c, byte_at(name, 2))?;
-    if slices::same(crate::name(long), name) {
-        Some(long)
-    } else {
-        None
+    if line_is(short, name) {
+        return short;
     }
+    let long = long_at(name, 0, b, c);
+    if 32 <= long {
+        return 32;
+    }
+    if line_is(long, name) { long } else { 32 }
+}
+
+fn picked(pick: Pick, named: bool, subject: bool, own: bool) -> bool
+    ensures { result ≡ pick_of pick named subject own }
+{
+    if !named {
+        return false;
+    }
+    match pick {
+        Pick::Named => true,
+        Pick::Own => own,
+        Pick::Another => !own,
+        Pick::Subject => {
+            if own {
+                return false;
+            }
+            subject
+        }
+    }
+}
+
+// Whether a line is so.
+pub fn any_line(pick: Pick, named: &[u8], subject: &[u8], own: usize) -> bool
+    requires { (length named.now ≡ 32) × (length subject.now ≡ 32) }
+    ensures { result ≡ any_from 0 32 (picks pick named.now subject.now own) }
+{
+    let mut k = 0;
+    while k < 32 {
+        let n = named[k] == 1;
+        let p = subject[k] == 1;
+        let o = k == own;
+        if picked(pick, n, p, o) {
+            return true;
+        }
+        k += 1;
+    }
+    false
 }

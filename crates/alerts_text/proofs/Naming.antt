@@ -1,14 +1,13 @@
 -- Whether a text is about a line: each return of the functions of lines.rt, over plain variables.
-use Rattle.std.specs.List.{list_any, range_with_len}
 use Rattle.std.specs.Prelude.{Option, Some, None}
 use mathlib.Core.Path.{◌≡◌, refl, sym, ap, ◌∙◌}
 use mathlib.Core.List.{List, [], ◌∷◌, ◌++◌}
 use mathlib.Core.Option.{Option as LogicOption, none, some}
 use mathlib.Core.Bool.{Bool, true, false, cond, not, ◌&&◌, ◌||◌}
-use Prim.Native.Nat.{ℕ, zero, suc, ◌+◌, ◌-◌, ◌≤◌, ◌<◌}
+use Prim.Native.Nat.{ℕ, suc, ◌+◌, ◌-◌, ◌≤◌, ◌<◌}
 use native.Mathlib.Omega.{arith}
-use lib.Dec.{leb, eqb}
-use lib.ListN.{length, get_or, take, drop, replicate, length-append, length-drop}
+use lib.Dec.{leb}
+use lib.ListN.{length, take, drop, replicate, length-append, length-drop}
 use lib.Seq.{take_all, length-take-le}
 use borrow.Author.Tests.{le-leb, lt-leb, leb-true, leb-false, not-true, not-false}
 use Rattle.basics.specs.Laws.Options.{none_some}
@@ -21,9 +20,10 @@ use Rattle.alerts.specs.Promises.Reduced.{advice_markers, primary, secondary, te
 use Rattle.alerts_patterns.specs.Promises.Tables.{up_to, name_filled, patterns, any_in}
 use Rattle.alerts_patterns.specs.Promises.Occurrence.{found_of}
 use Rattle.alerts_patterns.specs.Laws.Patterns.{filled_none, filled_here, tail_whole}
-use Rattle.alerts_lines.specs.Promises.Lines.{all_lines, numbered, IsLine, mentions, named_of, subject_of, other_subject}
-use Rattle.alerts_lines.specs.Promises.Marks.{on, Lines, Marked, any_from}
-use Rattle.alerts_lines.specs.Laws.Choosing.{named_lines, own_lines, no_own, other_lines, subject_lines}
+use Rattle.alerts_lines.specs.Promises.Lines.{all_lines, IsLine, mentions, named_of, subject_of, other_subject}
+use Rattle.alerts_lines.specs.Promises.Marks.{Lines, Marked, any_from, picks}
+use Rattle.alerts_lines.specs.declared.Pick.TheVariants.{Named, Own, Another, Subject}
+use Rattle.alerts_lines.specs.Laws.Choosing.{named_lines, own_lines, other_lines, subject_lines}
 use Rattle.alerts_text.specs.Promises.Tables.{lesser, near_marker, near_filled}
 use Rattle.alerts_text.specs.Promises.Marked.{ok_for, not_advised, Others, Settles, Opened, MarkedOk}
 use Rattle.alerts_text.specs.declared.lines.Settled.{Settled}
@@ -153,11 +153,11 @@ module _ (s n : List ℕ) (t v : Bool)
       (sym (or_false (contains (text "TRAVAUX SUR") s)))
       ∙ ap (λ x. any_marker advice_markers s && x) (sym k)
 
-  pub secondary_not : v ≡ false → v ≡ secondary s n
-  secondary_not g = g ∙ sym (elsewhere ∙ rw g (and_no (any_marker advice_markers s)))
+  pub secondary_not : not v ≡ true → false ≡ secondary s n
+  secondary_not g = sym (elsewhere ∙ rw (not-true v g) (and_no (any_marker advice_markers s)))
 
-  pub secondary_all : (u : Bool) → v ≡ true → u ≡ any_marker advice_markers s → u ≡ secondary s n
-  secondary_all u g f = f ∙ sym (elsewhere ∙ rw g (and_yes (any_marker advice_markers s)))
+  pub secondary_all : (u : Bool) → not v ≡ false → u ≡ any_marker advice_markers s → u ≡ secondary s n
+  secondary_all u g f = f ∙ sym (elsewhere ∙ rw (not-false v g) (and_yes (any_marker advice_markers s)))
 
 -- the lines of a text, asked as one list
 any_filter : (q p : List ℕ → Bool) (l : List (List ℕ)) → any q (filter p l) ≡ any (λ m. p m && q m) l
@@ -240,42 +240,16 @@ module _ (s u : List ℕ) where
       (λ x. not (any (mentions s) all_lines) || x && not (secondary s u && any (other_subject s u) all_lines))
       (sym (own_line s u all_lines))
 
--- some mark, and some line
-later_any : (f : ℕ → Bool) (n k : ℕ) → any_from (suc k) n f ≡ any_from k n (λ i. f (suc i))
-later_any f zero k = refl
-later_any f (suc n) k = ap (λ x. f (suc k) || x) (later_any f n (suc k))
-
-listed_any : (p : ℕ → Bool) (m : List ℕ) → list_any p m ≡ any_from 0 (length m) (λ k. p (get_or m k 0))
-listed_any p [] = refl
-listed_any p (b ∷ m) =
-    ap (λ x. p b || x) (listed_any p m ∙ sym (later_any (λ k. p (get_or (b ∷ m) k 0)) (length m) 0))
-
-pub some_on : (m : List ℕ) (r : Bool) → length m ≡ 32 → r ≡ list_any (λ y. eqb y 1) m → r ≡ any_from 0 32 (on m)
-unfolding on
-some_on m r h e =
-    e ∙ listed_any (λ y. eqb y 1) m ∙ ap (λ n. any_from 0 n (λ k. eqb (get_or m k 0) 1)) h
-
--- whether k is another line
-abbrev pub other : Option ℕ → ℕ → Bool
-other None k = true
-other (Some j) k = not (eqb k j)
-
-pub ranged_other : (m : List ℕ) (j : ℕ)
-    → list_any (λ k. eqb (get_or m k 0) 1 && not (eqb k j)) (range_with_len 0 32)
-    ≡ any_from 0 32 (λ k. on m k && not (eqb k j))
-unfolding on
-ranged_other m j = refl
-
-pub ranged_subject : (m n : List ℕ) (own : Option ℕ)
-    → list_any (λ k. eqb (get_or m k 0) 1 && (other own k && eqb (get_or n k 0) 1)) (range_with_len 0 32)
-    ≡ any_from 0 32 (λ k. on m k && (not (eqb k (numbered own)) && on n k))
-unfolding on
-ranged_subject m n None = refl
-ranged_subject m n (Some j) = refl
-
 -- what the named lines say
 module _ (s u named : List ℕ) (own : ℕ) (N : Lines (named_of s) named) (O : IsLine u own) where
-  alone : (a : Bool) → a ≡ any_from 0 32 (λ k. on named k && not (eqb k own)) → a ≡ false
+  as_named : (n : Bool) → n ≡ any_from 0 32 (picks Named named named own) → any (mentions s) all_lines ≡ n
+  as_named n hn = sym (named_lines s u named named own N O n hn)
+
+  as_own : (o : Bool) → o ≡ any_from 0 32 (picks Own named named own)
+      → any (λ m. mentions s m && same m u) all_lines ≡ o
+  as_own o ho = sym (own_lines s u named named own N O o ho)
+
+  alone : (a : Bool) → a ≡ any_from 0 32 (picks Another named named own) → a ≡ false
       → any (other_subject s u) all_lines ≡ false
   alone a ha h =
       implied_false (any (other_subject s u) all_lines) a
@@ -288,52 +262,43 @@ module _ (s u named : List ℕ) (own : ℕ) (N : Lines (named_of s) named) (O : 
           let g = and_true {x = not (same m u)} h.1 in
           rw (h.0, g.0) refl
 
-module _ (named : List ℕ) (own : ℕ) (n : Bool) (hn : n ≡ any_from 0 32 (on named)) where
-  named_is : (s u : List ℕ) → Lines (named_of s) named → IsLine u own → any (mentions s) all_lines ≡ n
-  named_is s u N O = sym (named_lines s u named named own N O n hn)
+module _ (named : List ℕ) (own : ℕ) (n : Bool) (hn : n ≡ any_from 0 32 (picks Named named named own)) where
+  pub settle_none : not n ≡ true → Settles named own Right
+  settle_none h = record { is = λ s {u} N O. text_marked s u ∙ rw (as_named s u named own N O n hn, not-true n h) refl }
 
-  pub settle_none : n ≡ false → Settles named own Right
-  settle_none h = record { is = λ s {u} N O. text_marked s u ∙ rw (named_is s u N O, h) refl }
-
-  module _ (some : n ≡ true) where
-    pub settle_no_own : 32 ≤ own → Settles named own Wrong
-    settle_no_own h = record {
-      is = λ s {u} N O. text_marked s u ∙ rw (named_is s u N O, some, no_own s u named named own N O false h) refl;
-    }
-
-    pub settle_unnamed : own < 32 → on named own ≡ false → Settles named own Wrong
-    settle_unnamed h f = record {
+  module _ (some : not n ≡ false) (o : Bool) (ho : o ≡ any_from 0 32 (picks Own named named own)) where
+    pub settle_unnamed : not o ≡ true → Settles named own Wrong
+    settle_unnamed h = record {
       is = λ s {u} N O.
           text_marked s u
-          ∙ rw (named_is s u N O, some, sym (own_lines s u named named own N O (on named own) h refl) ∙ f) refl;
+          ∙ rw (as_named s u named own N O n hn, not-false n some, as_own s u named own N O o ho, not-true o h) refl;
     }
 
-    open_is : own < 32 → on named own ≡ true → (s u : List ℕ) → Lines (named_of s) named → IsLine u own
-        → ok_for s u ≡ not_advised s u
-    open_is h f s u N O =
+    open_is : not o ≡ false → (s u : List ℕ) → Lines (named_of s) named → IsLine u own → ok_for s u ≡ not_advised s u
+    open_is mine s u N O =
         text_marked s u
-        ∙ rw (named_is s u N O, some, sym (own_lines s u named named own N O (on named own) h refl) ∙ f) refl
+        ∙ rw (as_named s u named own N O n hn, not-false n some, as_own s u named own N O o ho, not-false o mine) refl
 
-    module _ (h : own < 32) (f : on named own ≡ true) (a : Bool)
-        (ha : a ≡ any_from 0 32 (λ k. on named k && not (eqb k own))) where
-      pub settle_alone : a ≡ false → Settles named own Right
-      settle_alone g = record {
-        is = λ s {u} N O. open_is h f s u N O ∙ rw (alone s u named own N O a ha g, and_no (secondary s u)) refl;
+    module _ (mine : not o ≡ false) (a : Bool) (ha : a ≡ any_from 0 32 (picks Another named named own)) where
+      pub settle_alone : not a ≡ true → Settles named own Right
+      settle_alone h = record {
+        is = λ s {u} N O.
+            open_is mine s u N O ∙ rw (alone s u named own N O a ha (not-true a h), and_no (secondary s u)) refl;
       }
 
-      pub settle_open : a ≡ true → Settles named own Open
-      settle_open g = record { is = λ s {u} N O. open_is h f s u N O }
+      pub settle_open : not a ≡ false → Settles named own Open
+      settle_open h = record { is = λ s {u} N O. open_is mine s u N O }
 
 -- whether the text names the line as advice and is about another
 module _ (s named u : List ℕ) (own : ℕ) (x : Bool) (hx : x ≡ secondary s u) where
-  pub opened_first : not x ≡ true → Opened s named u own (not x)
+  pub opened_first : not x ≡ true → Opened s named u own true
   opened_first h = record { is = λ N O. sym (rw (← hx, not-true x h) refl) }
 
   pub opened_last : not x ≡ false → (y : Bool) → Others s named own y → Opened s named u own (not y)
   opened_last h y Y = record { is = λ N O. sym (rw (← hx, not-false x h, ← Y.is N O) refl) }
 
 pub others : (s named subject : List ℕ) (own : ℕ) (r : Bool) → Marked (subject_of s) (replicate 32 0) subject
-    → r ≡ any_from 0 32 (λ k. on named k && (not (eqb k own) && on subject k)) → Others s named own r
+    → r ≡ any_from 0 32 (picks Subject named subject own) → Others s named own r
 others s named subject own r P e = record { is = λ {u} N O. subject_lines s u named subject own N O r P e }
 
 module _ (s named u : List ℕ) (own : ℕ) (O : IsLine u own) (w : Settled) (S : Settles named own w) where

@@ -4,7 +4,7 @@ ghost use Rattle.std.specs.Prelude.{◌≡◌, ◌+◌, ◌-◌, ◌<◌, ◌≤
 ghost use Rattle.alerts.specs.Promises.Reduced.{road};
 ghost use Rattle.alerts.specs.Text.{upper_byte};
 ghost use Rattle.alerts.specs.Applies.{unaccented};
-ghost use Rattle.alerts_lines.specs.Promises.Lines.{named_of, numbered, IsLine};
+ghost use Rattle.alerts_lines.specs.Promises.Lines.{named_of, IsLine};
 ghost use Rattle.alerts_lines.specs.Promises.Marks.{Marked};
 ghost use Rattle.alerts_text.specs.Promises.Blob.{letter_of, Stepped, Written, Answered, fits_of, road_of};
 ghost use Rattle.alerts_text.specs.Promises.Marked.{Roomy, MarkedOk, NamedFits, FirstFits, SettlesName};
@@ -25,14 +25,33 @@ const PLAIN: [u8; 64] = [
     79, 0, 79, 0, 0, 85, 85, 85, 85, 0, 0, 0,
 ];
 
+fn upper(b: u8) -> u8
+    ensures { result ≡ upper_byte b }
+{
+    if b < 97 {
+        return b;
+    }
+    if 122 < b {
+        return b;
+    }
+    b - 32
+}
+
 // The plain capital of an accented letter's two bytes, or 0.
 fn plain(a: u8, b: u8) -> u8
     ensures { result ≡ letter_of (unaccented a b) }
 {
-    if a != 0xc3 || b < 128 || 191 < b {
+    if a != 0xc3 {
         return 0;
     }
-    PLAIN[(b - 128) as usize]
+    if b < 128 {
+        return 0;
+    }
+    if 191 < b {
+        return 0;
+    }
+    let k = (b - 128) as usize;
+    PLAIN[k]
 }
 
 // A place that gives one byte, in capitals.
@@ -41,7 +60,7 @@ fn single(s: &[u8], i: usize) -> Step
     ensures { (result.byte ≡ upper_byte (get_or s.now i 0)) × (result.next ≡ i + 1) }
 {
     Step {
-        byte: s[i].to_ascii_uppercase(),
+        byte: upper(s[i]),
         next: i + 1,
     }
 }
@@ -89,7 +108,8 @@ fn write_next(out: &mut [u8], at: usize, s: &[u8], fold: bool) -> usize
     ensures { Written out.old out.new at (32 ∷ s.now) fold result }
 {
     out[at] = b' ';
-    write(out, at + 1, s, fold)
+    let next = at + 1;
+    write(out, next, s, fold)
 }
 
 // Two texts with a space between go to the front of out.
@@ -154,9 +174,9 @@ pub fn first_fits(
 }
 
 // The line that a text in capitals names, which ends at e.
-fn own_at(s: &[u8], e: usize) -> Option<usize>
+fn own_at(s: &[u8], e: usize) -> usize
     requires { e ≤ length s.now }
-    ensures { IsLine (take e s.now) (numbered result) }
+    ensures { IsLine (take e s.now) result }
 {
     alerts_lines::line_of(&s[..e])
 }
@@ -177,7 +197,7 @@ pub fn text_fits(out: &mut [u8], header: &[u8], description: &[u8], short: &[u8]
     ensures { Answered out.old out.new result
         (fits_of header.now description.now short.now) }
 {
-    if short.is_empty() {
+    if short.len() == 0 {
         return true;
     }
     let mut named = [0u8; 32];

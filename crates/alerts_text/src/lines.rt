@@ -1,11 +1,10 @@
 // Whether a folded text is about a line, names it as advice, or names others.
-ghost use Rattle.std.specs.Prelude.{◌≡◌, ◌+◌, ◌≤◌, length};
+ghost use Rattle.std.specs.Prelude.{◌≡◌, ◌+◌, ◌-◌, ◌≤◌, length};
 ghost use Rattle.basics.specs.Lists.{any};
 ghost use Rattle.alerts.specs.Applies.{any_marker, window};
 ghost use Rattle.alerts.specs.Promises.Reduced.{advice_markers, secondary, road};
-ghost use Rattle.alerts_lines.specs.Promises.Lines.{numbered};
 ghost use Rattle.alerts_patterns.specs.Promises.Tables.{name_filled, patterns};
-ghost use Rattle.alerts_text.specs.Promises.Tables.{near_marker, near_filled};
+ghost use Rattle.alerts_text.specs.Promises.Tables.{lesser, near_marker, near_filled};
 ghost use Rattle.alerts_text.specs.Promises.Marked.{Others, Settles, Opened, MarkedOk};
 
 // Whether s has a marker of advice.
@@ -19,17 +18,30 @@ fn marked(s: &[u8]) -> bool
     )
 }
 
-// Whether a marker stands in the window around the n bytes at i: from 48 bytes before them up to 24 bytes behind.
+// 48 bytes back, or the start.
+fn back(i: usize) -> usize
+    ensures { result ≡ i - 48 }
+{
+    if i < 48 { 0 } else { i - 48 }
+}
+
+// 24 bytes on, or the end.
+fn ahead(i: usize, end: usize) -> usize
+    requires { i ≤ end }
+    ensures { result ≡ lesser (i + 24) end }
+{
+    if end - i < 24 { end } else { i + 24 }
+}
+
+// Whether a marker stands in the window around the n bytes at i.
 fn marked_near(s: &[u8], i: usize, n: usize) -> bool
     requires { i + n ≤ length s.now }
     ensures { result ≡ any_marker advice_markers (window s.now i n) }
 {
-    let e = if s.len() - (i + n) < 24 {
-        s.len()
-    } else {
-        i + n + 24
-    };
-    marked(&s[i.saturating_sub(48)..e])
+    let start = back(i);
+    let past = i + n;
+    let e = ahead(past, s.len());
+    marked(&s[start..e])
 }
 
 // How long a pattern is with the name in its place.
@@ -48,7 +60,10 @@ fn near_marker(s: &[u8], name: &[u8], pattern: &[u8]) -> bool
     ensures { result ≡ near_filled s.now name.now pattern.now }
 {
     match alerts_patterns::find_filled(s, name, pattern) {
-        Some(i) => marked_near(s, i, filled_len(name, pattern)),
+        Some(i) => {
+            let n = filled_len(name, pattern);
+            marked_near(s, i, n)
+        }
         None => false,
     }
 }
@@ -73,18 +88,23 @@ fn any_near(table: &[u8], name: &[u8], s: &[u8]) -> bool
 fn secondary(s: &[u8], name: &[u8]) -> bool
     ensures { result ≡ secondary s.now name.now }
 {
-    any_near(b"LIGNE #|LIGNES #|METRO #| ET #| # | #.", name, s)
-        || alerts_patterns::any_in(b"RER |TRAVAUX SUR", name, s) && marked(s)
+    if any_near(b"LIGNE #|LIGNES #|METRO #| ET #| # | #.", name, s) {
+        return true;
+    }
+    if !alerts_patterns::any_in(b"RER |TRAVAUX SUR", name, s) {
+        return false;
+    }
+    marked(s)
 }
 
 // Whether another line than the one given is named and a subject.
-fn other_subject(s: &[u8], named: &[u8], own: Option<usize>) -> bool
+fn other_subject(s: &[u8], named: &[u8], own: usize) -> bool
     requires { length named.now ≡ 32 }
-    ensures { Others s.now named.now (numbered own) result }
+    ensures { Others s.now named.now own result }
 {
     let mut subject = [0u8; 32];
     alerts_lines::mark_subjects(&mut subject, s);
-    (0..32).any(|k| named[k] == 1 && own != Some(k) && subject[k] == 1)
+    alerts_lines::any_line(alerts_lines::Pick::Subject, named, &subject, own)
 }
 
 // What the lines that a text names say of one line, before the text is read.
@@ -98,32 +118,31 @@ pub enum Settled {
     Open,
 }
 
-pub fn settle(named: &[u8], own: Option<usize>) -> Settled
+pub fn settle(named: &[u8], own: usize) -> Settled
     requires { length named.now ≡ 32 }
-    ensures { Settles named.now (numbered own) result }
+    ensures { Settles named.now own result }
 {
-    if !named.contains(&1) {
+    if !alerts_lines::any_line(alerts_lines::Pick::Named, named, named, own) {
         return Settled::Right;
     }
-    let Some(own) = own else {
-        return Settled::Wrong
-    };
-    if 32 <= own || named[own] != 1 {
+    if !alerts_lines::any_line(alerts_lines::Pick::Own, named, named, own) {
         return Settled::Wrong;
     }
-    if (0..32).any(|k| named[k] == 1 && k != own) {
-        Settled::Open
-    } else {
-        Settled::Right
+    if !alerts_lines::any_line(alerts_lines::Pick::Another, named, named, own) {
+        return Settled::Right;
     }
+    Settled::Open
 }
 
 // Whether a folded text that names the line and others may be about it.
-fn not_advised(s: &[u8], named: &[u8], name: &[u8], own: Option<usize>) -> bool
+fn not_advised(s: &[u8], named: &[u8], name: &[u8], own: usize) -> bool
     requires { length named.now ≡ 32 }
-    ensures { Opened s.now named.now name.now (numbered own) result }
+    ensures { Opened s.now named.now name.now own result }
 {
-    !secondary(s, name) || !other_subject(s, named, own)
+    if !secondary(s, name) {
+        return true;
+    }
+    !other_subject(s, named, own)
 }
 
 // Whether a folded text that names the marked lines may be about the line.
@@ -143,8 +162,14 @@ pub fn marked_ok(s: &[u8], named: &[u8], name: &[u8]) -> bool
 pub fn road_traffic(s: &[u8]) -> bool
     ensures { result ≡ road s.now }
 {
-    alerts_patterns::any_in(b"TRAFIC ROUTIER", s, s)
-        || alerts_patterns::any_in(b"ARRET", s, s)
-            && alerts_patterns::any_in(b"D\xc3\x89PLAC\xc3\x89|DEPLAC", s, s)
-            && alerts_patterns::any_in(b"CIRCULATION", s, s)
+    if alerts_patterns::any_in(b"TRAFIC ROUTIER", s, s) {
+        return true;
+    }
+    if !alerts_patterns::any_in(b"ARRET", s, s) {
+        return false;
+    }
+    if !alerts_patterns::any_in(b"D\xc3\x89PLAC\xc3\x89|DEPLAC", s, s) {
+        return false;
+    }
+    alerts_patterns::any_in(b"CIRCULATION", s, s)
 }

@@ -1,6 +1,12 @@
 // The marks of the 32 lines as the bits of a word, line 0 the lowest.
 ghost use Rattle.std.specs.Prelude.{◌≡◌, cond, ◌+◌, ◌*◌, ◌<◌, eqb, length};
-ghost use Rattle.alerts_text.specs.Promises.Word.{bits_of, word_of};
+ghost use Rattle.alerts_text.specs.Promises.Word.{bit_of, bits_of, word_of};
+
+fn bit(word: u32) -> u8
+    ensures { result ≡ bit_of word }
+{
+    if word % 2 == 1 { 1 } else { 0 }
+}
 
 // Marks each line whose bit is set, and no other.
 pub fn spread(marks: &mut [u8], word: u32)
@@ -8,9 +14,11 @@ pub fn spread(marks: &mut [u8], word: u32)
     ensures { marks.new ≡ bits_of 32 word }
 {
     let mut left = word;
-    for mark in marks.iter_mut() {
-        *mark = (left % 2) as u8;
-        left /= 2;
+    let mut k = 0;
+    while k < 32 {
+        marks[k] = bit(left);
+        left = left / 2;
+        k += 1;
     }
 }
 
@@ -31,7 +39,6 @@ pub fn gather(marks: &[u8]) -> u32
     ensures { result ≡ word_of marks.now }
 {
     let mut word: u32 = 0;
-    // From the end, by a count: with `iter().rev()` the proof that the word has room did not close.
     let mut k = 32;
     while 0 < k {
         k -= 1;

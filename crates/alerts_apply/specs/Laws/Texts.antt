@@ -124,11 +124,11 @@ module _ {s : List ℕ} {p : ℕ} where
 
   -- l is the label, of a header that stands from a up to e and of the text d
   pub label_header : (a e : ℕ) (d l : List ℕ) {t : Bool} → Given s p t → t ≡ true → Shown s p a e
-      → l ≡ label_of true (take (e - a) (drop a s)) d → Labelled s p a (a + length l)
+      → l ≡ label_of t (take (e - a) (drop a s)) d → Labelled s p a (a + length l)
   label_header a e d l G f S i =
       let b = take (e - a) (drop a s) in
       let n : length l ≡ e - a =
-      ap length i ∙ part_length s a e S.forward S.within in
+      ap length (i ∙ ap (λ t. label_of t b d) f) ∙ part_length s a e S.forward S.within in
       let z : a + length l ≡ e = omega (arith, n, S.forward) in
       rw z (at_header G f S)
 
@@ -158,12 +158,12 @@ module _ {s : List ℕ} {p : ℕ} where
           ∙ sym (take-take n (e - a) (drop a s) l')
 
   -- l is the label, of the text h and of a description that stands from a up to e
-  pub label_description : (a e : ℕ) (l : List ℕ) {m : ℕ} {t : Bool} → Given s p t → t ≡ false
-      → Passes (optional (text 0 Class.any)) s p m → Shown s m a e → l ≡ label_of false [] (take (e - a) (drop a s))
+  pub label_description : (a e : ℕ) (h l : List ℕ) {m : ℕ} {t : Bool} → Given s p t → t ≡ false
+      → Passes (optional (text 0 Class.any)) s p m → Shown s m a e → l ≡ label_of t h (take (e - a) (drop a s))
       → Labelled s p a (a + length l)
-  label_description a e l G f P S i =
+  label_description a e h l G f P S i =
       let b = take (e - a) (drop a s) in
-      let n : length l ≡ length (characters 120 b) = ap length i in
+      let n : length l ≡ length (characters 120 b) = ap length (i ∙ ap (λ t. label_of t h b) f) in
       rw n (at_description G f P S (characters_front 120 b))
 
 -- ---- room for the texts

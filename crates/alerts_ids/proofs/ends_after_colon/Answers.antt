@@ -5,8 +5,8 @@ use Rattle.alerts_ids.proofs.ends_after_colon.Goals as goal
 pub returns-then-t-x : goal.returns-then-t-x
 returns-then-t-x c = search (colon_short)
 
-pub returns-then-t-a-eq58 : goal.returns-then-t-a-eq58
-returns-then-t-a-eq58 c = search (colon_same)
+pub returns-then-t-k-ne58 : goal.returns-then-t-k-ne58
+returns-then-t-k-ne58 c = search (colon_differs)
 
-pub returns-else-t-a-eq58 : goal.returns-else-t-a-eq58
-returns-else-t-a-eq58 c = search (colon_differs)
+pub returns : goal.returns
+returns c = search (colon_same)

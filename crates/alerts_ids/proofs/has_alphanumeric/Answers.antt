@@ -1,13 +1,12 @@
--- `alerts_ids::has_alphanumeric` meets its contract.
-use Rattle.std.proofs.Common.{rules, tests, ◌∙◌}
-use Rattle.std.specs.Char.{is_ascii_alphanumeric}
-use Rattle.std.proofs.lemmas.Iterator.{YieldsList-from_slice}
-use Rattle.std.proofs.lemmas.Iterator.Search.{any_from_yields_List}
-use Rattle.alerts_ids.specs.Laws.Bytes.{any_alphanumeric}
+-- `alerts_ids::has_alphanumeric` meets its contract. The invariant: one is there where one is from i on.
+use Rattle.alerts_ids.specs.Laws.Pieces.{some_here, some_more, some_none}
 use Rattle.alerts_ids.proofs.has_alphanumeric.Goals as goal
 
+pub returns-then-is_alphanumeric : goal.returns-then-is_alphanumeric
+returns-then-is_alphanumeric c = search (some_here)
+
+pub loop-i-preserved : goal.loop-i-preserved
+loop-i-preserved c = search (some_more)
+
 pub returns : goal.returns
-returns c =
-    any_from_yields_List is_ascii_alphanumeric _ _ _ c.any.ensures.ran (YieldsList-from_slice c.args.p.now cc)
-    (λ x b q k. search (rules, tests))
-    ∙ any_alphanumeric c.args.p.now
+returns c = search (some_none)

@@ -1,11 +1,11 @@
--- `alerts_ids::trim_start` meets its contract. The invariant: the rest is trimmed to the same.
-use mathlib.Core.Path.{◌≡◌}
+-- `alerts_ids::trim_start` meets its contract.
+use Prim.Native.Nat.{◌-◌}
 use lib.ListN.{length}
-use Rattle.alerts.specs.Text.{trim_start}
+use Rattle.alerts_ids.specs.Laws.Ends.{Leads}
 use Rattle.alerts_ids.proofs.trim_start.Given as goal
 
-abbrev pub invariant-loop-rest : goal.invariant-loop-rest
-invariant-loop-rest l = trim_start l.fn.s ≡ trim_start l.rest
+abbrev pub invariant-loop-a : goal.invariant-loop-a
+invariant-loop-a l = Leads l.s l.a
 
-abbrev pub decreases-loop-rest : goal.decreases-loop-rest
-decreases-loop-rest l = length l.rest
+abbrev pub decreases-loop-a : goal.decreases-loop-a
+decreases-loop-a l = length l.s - l.a

@@ -1,17 +1,14 @@
 -- Law. Texts from their ends: what trimming leaves, the last byte of a kind, an end of a given length.
-use Rattle.std.specs.Prelude.{◌≡◌, refl, List, [], ◌∷◌, ◌++◌, Bool, true, false, cond, ◌&&◌, ℕ, zero, suc, ◌+◌, ◌-◌, ◌≤◌, ◌<◌, ◌⊎◌, eqb, ltb, length, get_or, take, drop}
+use Rattle.std.specs.Prelude.{◌≡◌, refl, List, [], ◌∷◌, ◌++◌, Bool, true, false, cond, ◌&&◌, ℕ, zero, suc, ◌+◌, ◌-◌, ◌≤◌, ◌<◌, eqb, ltb, length, get_or, take, drop}
 use Rattle.std.proofs.Common.{sym, ap, ◌∙◌, append-nil, add-one, arith, length-drop, drop_of_length-le, take-append-drop, drop-cons, take-suc, take_all, length-take-le, eq-eqb, ne_eqb, lt-ltb, le-ltb, ltb-false}
 use Rattle.std.proofs.Math.Option.{none, some}
 use Rattle.std.proofs.Math.Seq.{take-length, drop-length}
-use Rattle.std.specs.Char.{to_ascii_uppercase}
-use Rattle.std.proofs.Common.{inl, inr}
 use Rattle.basics.specs.Lists.{is_empty}
 use Rattle.basics.specs.Texts.{same}
 use Rattle.basics.specs.Laws.Booleans.{and_no, or_false}
 use Rattle.alerts.specs.Text.{text, ends, upper_byte, same_ignoring_case, trim_start, trim_end, trim, split_off, rsplit_once}
 use Rattle.alerts.specs.Index.{undated, part_before}
 use Rattle.alerts_ids.specs.Promises.Cuts.{LastOf}
-use Rattle.alerts_ids.specs.Laws.Bytes.{upper_is}
 
 -- ---- equality ignoring case, from i on
 
@@ -22,38 +19,64 @@ other_length (x ∷ a) [] h = refl
 other_length (x ∷ a) (y ∷ b) h =
     rw (← other_length a b (λ e. h (ap suc e))) (sym (and_no (eqb (upper_byte x) (upper_byte y))))
 
--- what is left of both is equal where the whole is
-pub record Alike (a b s t : List ℕ) : Type 0 where
-  pub long : length s ≡ length t
-  pub whole : same_ignoring_case a b ≡ same_ignoring_case s t
+pub record Alike (a b : List ℕ) (i : ℕ) : Type 0 where
+  pub within : i ≤ length a
+  pub long : length a ≡ length b
+  pub whole : same_ignoring_case a b ≡ same_ignoring_case (drop i a) (drop i b)
 
-module _ {a b s t u v : List ℕ} {x y p q : ℕ} (A : Alike a b s t) (es : s ≡ x ∷ u) (et : t ≡ y ∷ v)
-    (ep : p ≡ to_ascii_uppercase x) (eq : q ≡ to_ascii_uppercase y) where
-  alike_step : same_ignoring_case a b ≡ eqb p q && same_ignoring_case u v
-  alike_step =
-      A.whole ∙ rw (es, et, ep, eq, upper_is x, upper_is y) refl
+pub alike_start : (a b : List ℕ) → length a ≡ length b → Alike a b 0
+alike_start a b h = record { within = omega arith; long = h; whole = refl }
 
-  pub alike_more : p ≡ q → Alike a b u v
-  alike_more e = record {
-    long = omega (arith, A.long, ap length es, ap length et);
-    whole = alike_step ∙ rw (eq-eqb p q e) refl;
-  }
+alike_step : (a b : List ℕ) (i : ℕ) → Alike a b i → i < length a
+    → same_ignoring_case a b ≡ eqb (upper_byte (get_or a i 0)) (upper_byte (get_or b i 0))
+    && same_ignoring_case (drop (suc i) a) (drop (suc i) b)
+alike_step a b i s h =
+    let k : i < length b = omega (arith, s.long) in
+    s.whole ∙ rw (drop-cons a i 0, drop-cons b i 0) refl
 
-  pub alike_differs : (p ≡ q → ⊥) → false ≡ same_ignoring_case a b
-  alike_differs d = sym (alike_step ∙ rw (ne_eqb p q d) refl)
+pub alike_more : (a b : List ℕ) (i x y : ℕ) → Alike a b i → i < length a → x ≡ upper_byte (get_or a i 0)
+    → y ≡ upper_byte (get_or b i 0) → x ≡ y → Alike a b (i + 1)
+alike_more a b i x y s h ex ey e = record {
+  within = omega arith;
+  long = s.long;
+  whole = alike_step a b i s h ∙ rw (← ex, ← ey, eq-eqb x y e, add-one i) refl;
+}
 
-pub alike_whole : {a b s t : List ℕ} → Alike a b s t → (s ≡ []) ⊎ (t ≡ []) → true ≡ same_ignoring_case a b
-alike_whole {s = []} {t = []} A h = sym A.whole
-alike_whole {s = []} {t = y ∷ t} A h = absurd (omega (arith, A.long))
-alike_whole {s = x ∷ s} {t = []} A h = absurd (omega (arith, A.long))
-alike_whole {s = x ∷ s} {t = y ∷ t} A (inl e) = absurd (cc)
-alike_whole {s = x ∷ s} {t = y ∷ t} A (inr e) = absurd (cc)
+pub alike_differs : (a b : List ℕ) (i x y : ℕ) → Alike a b i → i < length a → x ≡ upper_byte (get_or a i 0)
+    → y ≡ upper_byte (get_or b i 0) → (x ≡ y → ⊥) → false ≡ same_ignoring_case a b
+alike_differs a b i x y s h ex ey d = sym (alike_step a b i s h ∙ rw (← ex, ← ey, ne_eqb x y d) refl)
+
+pub alike_whole : (a b : List ℕ) (i : ℕ) → Alike a b i → length a ≤ i → true ≡ same_ignoring_case a b
+alike_whole a b i s h =
+    let k : length b ≤ i = omega (arith, s.long) in
+    sym (s.whole ∙ rw (drop_of_length-le a h, drop_of_length-le b k) refl)
 
 -- what a part from a on holds
 pub rest : {A : Type 0} (s : List A) (a : ℕ) → take (length s - a) (drop a s) ≡ drop a s
 rest s a = take_all (length s - a) (drop a s) (omega (arith, length-drop a s))
 
 -- ---- trimming
+
+pub record Leads (s : List ℕ) (a : ℕ) : Type 0 where
+  pub within : a ≤ length s
+  pub whole : trim_start s ≡ trim_start (drop a s)
+
+pub leads_start : (s : List ℕ) → Leads s 0
+leads_start s = record { within = omega arith; whole = refl }
+
+pub leads_more : (s : List ℕ) (a : ℕ) → Leads s a → a < length s → get_or s a 0 ≡ 32 → Leads s (a + 1)
+leads_more s a l h e = record {
+  within = omega arith;
+  whole = l.whole ∙ rw (drop-cons s a 0, eq-eqb (get_or s a 0) 32 e, add-one a) refl;
+}
+
+pub leads_end : (s : List ℕ) (a : ℕ) → Leads s a → a < length s → (get_or s a 0 ≡ 32 → ⊥)
+    → take (length s - a) (drop a s) ≡ trim_start s
+leads_end s a l h d =
+    rest s a ∙ sym (l.whole ∙ rw (drop-cons s a 0, ne_eqb (get_or s a 0) 32 d) refl)
+
+pub leads_all : (s : List ℕ) (a : ℕ) → Leads s a → length s ≤ a → take (length s - a) (drop a s) ≡ trim_start s
+leads_all s a l h = rest s a ∙ sym (l.whole ∙ rw (drop_of_length-le s h) refl)
 
 -- a text and one byte more
 trim_space : (x : List ℕ) → trim_end (x ++ (32 ∷ [])) ≡ trim_end x
@@ -74,18 +97,30 @@ last_byte s e z h =
     let n : e ≡ suc (e - 1) = omega arith in
     ap (λ k. take k s) n ∙ take-suc s (e - 1) 0 (omega arith)
 
-pub trails_more : (s : List ℕ) → 0 < length s → get_or s (length s - 1) 0 ≡ 32
-    → trim_end s ≡ trim_end (take (length s - 1) s)
-trails_more s z h =
-    ap trim_end (sym (take-length s) ∙ last_byte s (length s) z (omega arith))
-    ∙ rw h (trim_space (take (length s - 1) s))
+pub record Trails (s : List ℕ) (e : ℕ) : Type 0 where
+  pub within : e ≤ length s
+  pub whole : trim_end s ≡ trim_end (take e s)
 
-pub trails_end : (s : List ℕ) → 0 < length s → (get_or s (length s - 1) 0 ≡ 32 → ⊥) → s ≡ trim_end s
-trails_end s z d =
-    let l = sym (take-length s) ∙ last_byte s (length s) z (omega arith) in
-    l
-    ∙ sym (trim_other (take (length s - 1) s) (get_or s (length s - 1) 0) (ne_eqb (get_or s (length s - 1) 0) 32 d))
-    ∙ ap trim_end (sym l)
+pub trails_part : {s : List ℕ} {e : ℕ} → Trails s e → e ≡ length (take e s)
+trails_part {s} {e} t = sym (length-take-le e s t.within)
+
+pub trails_start : (s : List ℕ) → Trails s (length s)
+trails_start s = record { within = omega arith; whole = ap trim_end (sym (take-length s)) }
+
+pub trails_more : (s : List ℕ) (e : ℕ) → Trails s e → 0 < e → get_or s (e - 1) 0 ≡ 32 → Trails s (e - 1)
+trails_more s e t z h = record {
+  within = omega (arith, t.within);
+  whole = t.whole ∙ ap trim_end (last_byte s e z t.within) ∙ rw h (trim_space (take (e - 1) s));
+}
+
+pub trails_end : (s : List ℕ) (e : ℕ) → Trails s e → 0 < e → (get_or s (e - 1) 0 ≡ 32 → ⊥) → take e s ≡ trim_end s
+trails_end s e t z d =
+    let l = last_byte s e z t.within in
+    sym (t.whole ∙ ap trim_end l ∙ trim_other (take (e - 1) s) (get_or s (e - 1) 0) (ne_eqb (get_or s (e - 1) 0) 32 d)
+    ∙ sym l)
+
+pub trails_none : (s : List ℕ) (e : ℕ) → Trails s e → e ≤ 0 → take e s ≡ trim_end s
+trails_none s e t z = let n : e ≡ 0 = omega arith in sym (t.whole ∙ rw n refl)
 
 -- trimming makes nothing longer
 start_shorter : (s : List ℕ) → length (trim_start s) ≤ length s
@@ -209,10 +244,9 @@ module _ (t x : List ℕ) where
       ∙ ap (λ j. eqb 0x3a (get_or t k 0) && same x (drop j t)) n
 
   pub colon_differs : length x < length t → (get_or t (length t - length x - 1) 0 ≡ 0x3a → ⊥)
-      → eqb (get_or t (length t - length x - 1) 0) 0x3a ≡ ends (text ":" ++ x) t
+      → false ≡ ends (text ":" ++ x) t
   colon_differs h d =
-      ne_eqb (get_or t (length t - length x - 1) 0) 0x3a d
-      ∙ sym (colon_end h ∙ rw (ne_eqb 0x3a (get_or t (length t - length x - 1) 0) (λ e. d (sym e))) refl)
+      sym (colon_end h ∙ rw (ne_eqb 0x3a (get_or t (length t - length x - 1) 0) (λ e. d (sym e))) refl)
 
   pub colon_same : (r : Bool) → length x < length t → get_or t (length t - length x - 1) 0 ≡ 0x3a
       → r ≡ same x (take (length t - (length t - length x)) (drop (length t - length x) t))

@@ -2,7 +2,6 @@
 -- product code.
 use Rattle.std.specs.Prelude.{◌≡◌, refl, List, [], ◌∷◌, ◌++◌, Bool, true, false, cond, not, ◌&&◌, ℕ, suc, ◌+◌, ◌-◌, ◌≤◌, ◌<◌, eqb, leb, length, get_or, take, drop, Some, None}
 use Rattle.std.proofs.Common.{sym, ap, ◌∙◌, append-nil, add-one, arith, length-drop, drop_of_length-le, take-append-drop, drop-cons, take-suc, take-add, get_or-drop, drop-drop, eq-eqb, ne_eqb, eqb-true, lt-ltb, le-ltb, le-leb}
-use Rattle.std.specs.Char.{is_ascii_alphanumeric}
 use Rattle.std.proofs.Math.Option.{some}
 use Rattle.std.proofs.Math.Seq.{take-length}
 use Rattle.std.proofs.lemmas.Bool.{lt-leb, not-false}
@@ -12,7 +11,6 @@ use Rattle.alerts.specs.Text.{upper_byte, upper, digit, alphanumeric, trim_end, 
 use Rattle.alerts.specs.Applies.{is_code, first_code, product_code_token, last_of, rfind}
 use Rattle.alerts_ids.specs.Promises.Cuts.{part_of, cuts, pieces_before, LastPiece, takes, breaks, pieces_after}
 use Rattle.alerts_ids.specs.Promises.Cuts.{FirstPiece, Coded}
-use Rattle.alerts_ids.specs.Laws.Bytes.{alphanumeric_is}
 
 -- ---- splits, at any cut
 
@@ -153,6 +151,33 @@ module _ (lettered : Bool) (x : List ℕ) (e a : ℕ) where
         whole = one_piece s l ∙ rw (sym et ∙ f, before) refl;
       }
 
+-- ---- a test of some or of every byte, from i on
+
+module _ (p : ℕ → Bool) (s : List ℕ) where
+  pub some_here : (i : ℕ) (t : Bool) → any p s ≡ any p (drop i s) → i < length s → t ≡ p (get_or s i 0) → t ≡ true
+      → true ≡ any p s
+  some_here i t w h et f = sym (w ∙ ap (any p) (drop-cons s i 0 h) ∙ rw (sym et ∙ f) refl)
+
+  pub some_more : (i : ℕ) (t : Bool) → any p s ≡ any p (drop i s) → i < length s → t ≡ p (get_or s i 0) → t ≡ false
+      → any p s ≡ any p (drop (i + 1) s)
+  some_more i t w h et f = w ∙ ap (any p) (drop-cons s i 0 h) ∙ rw (sym et ∙ f, add-one i) refl
+
+  pub some_none : (i : ℕ) → any p s ≡ any p (drop i s) → length s ≤ i → false ≡ any p s
+  some_none i w h = sym (w ∙ rw (drop_of_length-le s h) refl)
+
+  module _ (a : ℕ) where
+    pub every_not : (i : ℕ) (t : Bool) → all p (drop a s) ≡ all p (drop i s) → i < length s → t ≡ p (get_or s i 0)
+        → not t ≡ true → false ≡ all p (drop a s)
+    every_not i t w h et f = sym (w ∙ ap (all p) (drop-cons s i 0 h) ∙ rw (sym et ∙ not_true t f) refl)
+
+    pub every_more : (i : ℕ) (t : Bool) → all p (drop a s) ≡ all p (drop i s) → i < length s → t ≡ p (get_or s i 0)
+        → not t ≡ false → all p (drop a s) ≡ all p (drop (i + 1) s)
+    every_more i t w h et f =
+        w ∙ ap (all p) (drop-cons s i 0 h) ∙ rw (sym et ∙ not-false t f, add-one i) refl
+
+    pub every_all : (i : ℕ) → all p (drop a s) ≡ all p (drop i s) → length s ≤ i → true ≡ all p (drop a s)
+    every_all i w h = sym (w ∙ rw (drop_of_length-le s h) refl)
+
 -- ---- a piece that is taken
 
 pub empty_not_taken : (lettered : Bool) (p : List ℕ) → length p ≡ 0 → false ≡ takes lettered p
@@ -224,15 +249,13 @@ all_snoc : (p : ℕ → Bool) (l : List ℕ) (b : ℕ) → all p l ≡ true → 
 all_snoc p [] b e f = rw f refl
 all_snoc p (c ∷ l) b e f = let h = and_true {x = p c} e in rw (h.0, all_snoc p l b h.1 f) refl
 
-pub lettered_more : (x : List ℕ) (a e : ℕ) (t : Bool) → Lettered x a e → e < length x
-    → t ≡ is_ascii_alphanumeric (get_or x e 0)
+pub lettered_more : (x : List ℕ) (a e : ℕ) (t : Bool) → Lettered x a e → e < length x → t ≡ alphanumeric (get_or x e 0)
     → not t ≡ false → Lettered x a (e + 1)
 lettered_more x a e t l h et f = record {
   forward = omega (arith, l.forward);
   within = omega arith;
   plain = rw (part_snoc x a e l.forward h)
-      (all_snoc alphanumeric (part_of x a e) (get_or x e 0) l.plain
-      (sym (et ∙ alphanumeric_is (get_or x e 0)) ∙ not-false t f));
+      (all_snoc alphanumeric (part_of x a e) (get_or x e 0) l.plain (sym et ∙ not-false t f));
 }
 
 not_not : (x : Bool) → x ≡ true → not (not x) ≡ true
@@ -249,8 +272,7 @@ from_on x a e h =
     sym (take-append-drop (e - a) (drop a x))
     ∙ ap (λ l. part_of x a e ++ l) (drop-drop (e - a) a x ∙ ap (λ k. drop k x) n)
 
-pub run_broken : (x : List ℕ) (a e : ℕ) (t : Bool) → Lettered x a e → e < length x
-    → t ≡ is_ascii_alphanumeric (get_or x e 0)
+pub run_broken : (x : List ℕ) (a e : ℕ) (t : Bool) → Lettered x a e → e < length x → t ≡ alphanumeric (get_or x e 0)
     → not t ≡ true → FirstPiece x a e
 run_broken x a e t l h et f = record {
   forward = l.forward;
@@ -258,23 +280,20 @@ run_broken x a e t l h et f = record {
   plain = l.plain;
   pieces =
       ap (split breaks) (from_on x a e l.forward ∙ ap (λ y. part_of x a e ++ y) (drop-cons x e 0 h))
-      ∙ split_cut breaks (part_of x a e) (get_or x e 0) (drop (suc e) x)
-      (ap not (sym (et ∙ alphanumeric_is (get_or x e 0))) ∙ f)
+      ∙ split_cut breaks (part_of x a e) (get_or x e 0) (drop (suc e) x) (ap not (sym et) ∙ f)
       ∙ rw (split_plain breaks (part_of x a e) (unbroken (part_of x a e) l.plain), lt-ltb e (length x) h) refl;
 }
 
-pub run_whole : (x : List ℕ) (a e : ℕ) → Lettered x a e → length x ≤ e → FirstPiece x a (length x)
-run_whole x a e l h =
-    let n : length x ≡ e = omega (arith, l.within) in
-    rw n (record {
-      forward = l.forward;
-      within = l.within;
-      plain = l.plain;
-      pieces =
-          ap (split breaks)
-          (from_on x a e l.forward ∙ ap (λ y. part_of x a e ++ y) (drop_of_length-le x h) ∙ append-nil (part_of x a e))
-          ∙ split_plain breaks (part_of x a e) (unbroken (part_of x a e) l.plain) ∙ rw (le-ltb e (length x) h) refl;
-    })
+pub run_whole : (x : List ℕ) (a e : ℕ) → Lettered x a e → length x ≤ e → FirstPiece x a e
+run_whole x a e l h = record {
+  forward = l.forward;
+  within = l.within;
+  plain = l.plain;
+  pieces =
+      ap (split breaks)
+      (from_on x a e l.forward ∙ ap (λ y. part_of x a e ++ y) (drop_of_length-le x h) ∙ append-nil (part_of x a e))
+      ∙ split_plain breaks (part_of x a e) (unbroken (part_of x a e) l.plain) ∙ rw (le-ltb e (length x) h) refl;
+}
 
 -- ---- the first code: letters and digits have nothing to trim
 

@@ -41,15 +41,13 @@ module _ (t r : List ℕ) (at : ℕ) (e : r ≡ trim_end (take (at + 9 - (at + 6
 
 -- ---- the rows from a place on
 
-pub record Seeking (code t : List ℕ) (n row : ℕ) (old new : List ℕ) : Type 0 where
+pub record Seeking (code t : List ℕ) (n at left : ℕ) (old new : List ℕ) : Type 0 where
   pub kept : length new ≡ length old
-  pub within : row ≤ n
-  pub whole : name_of (upper code) (rows n t) ≡ name_of (upper code) (rows (n - row) (drop (9 * row) t))
+  pub within : at + 9 * left ≤ length t
+  pub whole : name_of (upper code) (rows n t) ≡ name_of (upper code) (rows left (drop at t))
 
-pub seeking_start : (code t old : List ℕ) (n : ℕ) → Seeking code t n 0 old old
-seeking_start code t old n =
-    let z : n - 0 ≡ n = omega arith in
-    record { kept = refl; within = omega arith; whole = rw z refl }
+pub seeking_start : (code t old : List ℕ) (n : ℕ) → 9 * n ≤ length t → Seeking code t n 0 n old old
+seeking_start code t old n h = record { kept = refl; within = omega arith; whole = refl }
 
 one_row : (code t : List ℕ) (at left : ℕ) → 0 < left
     → name_of (upper code) (rows left (drop at t))
@@ -60,26 +58,20 @@ one_row code t at (suc left) h =
     let n : suc left - 1 ≡ left = omega arith in
     rw (n, ← drop-drop 9 at t, ← drop-drop 6 at t) refl
 
-module _ {code t : List ℕ} {n row : ℕ} {old new : List ℕ} (S : Seeking code t n row old new) where
-  six : take (9 * row + 6 - 9 * row) (drop (9 * row) t) ≡ take 6 (drop (9 * row) t)
-  six = let k : 9 * row + 6 - 9 * row ≡ 6 = omega arith in ap (λ j. take j (drop (9 * row) t)) k
+module _ {code t : List ℕ} {n at left : ℕ} {old new : List ℕ} (S : Seeking code t n at left old new) where
+  six : take (at + 6 - at) (drop at t) ≡ take 6 (drop at t)
+  six = let k : at + 6 - at ≡ 6 = omega arith in ap (λ j. take j (drop at t)) k
 
-  told : {b : Bool} → row < n → b ≡ same_ignoring_case code (take (9 * row + 6 - 9 * row) (drop (9 * row) t))
+  told : {b : Bool} → 0 < left → b ≡ same_ignoring_case code (take (at + 6 - at) (drop at t))
       → name_of (upper code) (rows n t)
-      ≡ cond b (some (name_in t (9 * row))) (name_of (upper code) (rows (n - (row + 1)) (drop (9 * (row + 1)) t)))
+      ≡ cond b (some (name_in t at)) (name_of (upper code) (rows (left - 1) (drop (at + 9) t)))
   told {b} z e =
-      let left : n - row - 1 ≡ n - (row + 1) = omega arith in
-      let at : 9 * row + 9 ≡ 9 * (row + 1) = omega arith in
-      S.whole ∙ one_row code t (9 * row) (n - row) (omega arith)
-      ∙ ap (λ x. cond x (some (name_in t (9 * row)))
-      (name_of (upper code) (rows (n - row - 1) (drop (9 * row + 9) t))))
+      S.whole ∙ one_row code t at left z
+      ∙ ap (λ x. cond x (some (name_in t at)) (name_of (upper code) (rows (left - 1) (drop (at + 9) t))))
       (sym (e ∙ ap (same_ignoring_case code) six))
-      ∙ ap (λ j. cond b (some (name_in t (9 * row))) (name_of (upper code) (rows j (drop (9 * row + 9) t)))) left
-      ∙ ap (λ j. cond b (some (name_in t (9 * row))) (name_of (upper code) (rows (n - (row + 1)) (drop j t)))) at
 
-  pub row_found : {b : Bool} {k : ℕ} {out : List ℕ} → row < n
-      → b ≡ same_ignoring_case code (take (9 * row + 6 - 9 * row) (drop (9 * row) t)) → b ≡ true
-      → Wrote (name_in t (9 * row)) k new out
+  pub row_found : {b : Bool} {k : ℕ} {out : List ℕ} → 0 < left
+      → b ≡ same_ignoring_case code (take (at + 6 - at) (drop at t)) → b ≡ true → Wrote (name_in t at) k new out
       → Named (name_of (upper code) (rows n t)) (Some k) old out
   row_found z e f W = record {
     kept = W.kept ∙ S.kept;
@@ -87,12 +79,11 @@ module _ {code t : List ℕ} {n row : ℕ} {old new : List ℕ} (S : Seeking cod
     is = told z e ∙ rw f (ap some (sym W.is));
   }
 
-  pub seeking_on : {b : Bool} → row < n
-      → b ≡ same_ignoring_case code (take (9 * row + 6 - 9 * row) (drop (9 * row) t)) → b ≡ false
-      → Seeking code t n (row + 1) old new
-  seeking_on z e f = record { kept = S.kept; within = omega arith; whole = told z e ∙ rw f refl }
+  pub seeking_on : {b : Bool} → 0 < left → b ≡ same_ignoring_case code (take (at + 6 - at) (drop at t)) → b ≡ false
+      → Seeking code t n (at + 9) (left - 1) old new
+  seeking_on z e f = record { kept = S.kept; within = omega (arith, S.within); whole = told z e ∙ rw f refl }
 
-  pub none_found : n ≤ row → Named (name_of (upper code) (rows n t)) None old new
+  pub none_found : left ≤ 0 → Named (name_of (upper code) (rows n t)) None old new
   none_found z =
-      let k : n - row ≡ 0 = omega arith in
+      let k : left ≡ 0 = omega arith in
       record { kept = S.kept; within = omega arith; is = S.whole ∙ rw k refl }

@@ -2,11 +2,11 @@
 use Rattle.alerts_lines.specs.Laws.Rows.{last_short, last_other, last_name}
 use Rattle.alerts_lines.proofs.line_last.Goals as goal
 
-pub returns-then-s-name : goal.returns-then-s-name
-returns-then-s-name c = search (last_short)
+pub returns-then-s-w : goal.returns-then-s-w
+returns-then-s-w c = search (last_short)
 
-pub returns-then-s-j-eq32 : goal.returns-then-s-j-eq32
-returns-then-s-j-eq32 c = search (last_name)
+pub returns-then-s-i-ne32 : goal.returns-then-s-i-ne32
+returns-then-s-i-ne32 c = search (last_other)
 
-pub returns-else-s-j-eq32 : goal.returns-else-s-j-eq32
-returns-else-s-j-eq32 c = search (last_other)
+pub returns : goal.returns
+returns c = search (last_name)

@@ -1,18 +1,21 @@
 -- `alerts_lines::line_of` meets its contract.
-use Rattle.alerts_lines.specs.Laws.Rows.{none_short, one_named, none_long, none_line}
+use Rattle.alerts_lines.specs.Laws.Rows.{no_name, one_named, no_short, no_long, no_line}
 use Rattle.alerts_lines.proofs.line_of.Goals as goal
 
-pub returns-in_err-short : goal.returns-in_err-short
-returns-in_err-short c = search (none_short, c.in_err-short.was)
+pub returns-then-name-eq0 : goal.returns-then-name-eq0
+returns-then-name-eq0 c = search (no_name)
 
-pub returns-then-same : goal.returns-then-same
-returns-then-same c = let b = c.in_ok-short.ensures {u = tt} in search (one_named, b)
+pub returns-then-short-ge32 : goal.returns-then-short-ge32
+returns-then-short-ge32 c = search (no_short)
 
-pub returns-in_err-long : goal.returns-in_err-long
-returns-in_err-long c = search (none_long, c.in_ok-short.was, c.in_err-long.was)
+pub returns-then-line_is : goal.returns-then-line_is
+returns-then-line_is c = search (one_named)
 
-pub returns-then-same-2 : goal.returns-then-same-2
-returns-then-same-2 c = let b = c.in_ok-long.ensures {u = tt} in search (one_named, b)
+pub returns-then-long-ge32 : goal.returns-then-long-ge32
+returns-then-long-ge32 c = search (no_long)
 
-pub returns-else-same-2 : goal.returns-else-same-2
-returns-else-same-2 c = search (none_line, c.in_ok-short.was, c.in_ok-long.was)
+pub returns-then-line_is-2 : goal.returns-then-line_is-2
+returns-then-line_is-2 c = search (one_named)
+
+pub returns-else-line_is-2 : goal.returns-else-line_is-2
+returns-else-line_is-2 c = search (no_line)

@@ -1,14 +1,15 @@
 -- `alerts_lines::mark_one` meets its contract.
-use Rattle.alerts_lines.specs.Laws.Marking.{one_marked, one_absent, one_more}
+use Rattle.alerts_lines.specs.Laws.Marking.{one_none, one_marked, one_absent, one_more}
 use Rattle.alerts_lines.proofs.mark_one.Goals as goal
-use Rattle.alerts_lines.proofs.mark_one.Goals.{else-marks-k-ne1-via-then-marks-k-ne1+else-stands_at, else-marks-k-ne1-via-else-marks-k-ne1}
 
-pub returns-then-stands_at : goal.returns-then-stands_at
-returns-then-stands_at c = search (one_more)
+pub returns-then-k-ge32 : goal.returns-then-k-ge32
+returns-then-k-ge32 c = search (one_none)
 
-pub returns-else-marks-k-ne1 : goal.returns-else-marks-k-ne1
-returns-else-marks-k-ne1 c =
-    elim c.else-marks-k-ne1.branch [
-      | else-marks-k-ne1-via-then-marks-k-ne1+else-stands_at w ↦ search (one_absent)
-      | else-marks-k-ne1-via-else-marks-k-ne1 w ↦ search (one_marked)
-    ]
+pub returns-then-marks-k-eq1 : goal.returns-then-marks-k-eq1
+returns-then-marks-k-eq1 c = search (one_marked)
+
+pub returns-then-not-stands_at : goal.returns-then-not-stands_at
+returns-then-not-stands_at c = search (one_absent)
+
+pub returns : goal.returns
+returns c = search (one_more)

@@ -6,11 +6,11 @@ use Rattle.alerts_lines.proofs.mark_trams.Goals as goal
 pub mark_class-requires : goal.mark_class-requires
 mark_class-requires c = search (rules, begin_trams)
 
-pub mark_class-requires-else-any_in : goal.mark_class-requires-else-any_in
-mark_class-requires-else-any_in c = search (rules, begin_trams)
-
 pub returns-then-any_in : goal.returns-then-any_in
 returns-then-any_in c = search (tram_named)
 
-pub returns-else-any_in : goal.returns-else-any_in
-returns-else-any_in c = search (tram_spaced)
+pub mark_class-requires-2 : goal.mark_class-requires-2
+mark_class-requires-2 c = search (rules, begin_trams)
+
+pub returns : goal.returns
+returns c = search (tram_spaced)

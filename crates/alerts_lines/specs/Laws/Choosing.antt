@@ -1,21 +1,77 @@
--- Law. What the marks say is said of the lines.
-use Rattle.std.specs.Prelude.{◌≡◌, List, [], ◌∷◌, ◌++◌, Bool, true, false, not, ◌&&◌, ◌||◌, eqb, replicate}
+-- Law. What is asked of the marks is asked of the lines.
+use Rattle.std.specs.Prelude.{◌≡◌, List, [], ◌∷◌, ◌++◌, Bool, true, false, not, ◌&&◌, ◌||◌, eqb, get_or, replicate}
 use Rattle.std.proofs.Math.Path.{refl, ap}
-use Rattle.std.proofs.Common.{sym, ◌∙◌}
-use Prim.Native.Nat.{ℕ, zero, suc, ◌+◌, ◌≤◌, ◌<◌}
+use Rattle.std.proofs.Common.{sym, ◌∙◌, add-one}
+use Prim.Native.Nat.{ℕ, zero, suc, ◌+◌, ◌-◌, ◌≤◌, ◌<◌}
 use native.Mathlib.Omega.{arith}
+use Rattle.std.proofs.lemmas.Bool.{not-true, not-false}
 use Rattle.basics.specs.Lists.{any}
 use Rattle.basics.specs.Texts.{same}
-use Rattle.std.proofs.Common.{ne_eqb, eqb-true}
-use Rattle.std.proofs.lemmas.Bool.{eqb-false}
-use Rattle.basics.specs.Laws.Booleans.{or_comm, or_false, and_no, and_yes}
+use Rattle.basics.specs.Laws.Booleans.{or_comm}
 use Rattle.basics.specs.Laws.Lists.{any_append}
 use Rattle.alerts.specs.Text.{text}
 use Rattle.alerts.specs.Applies.{letters}
 use Rattle.alerts_lines.specs.Promises.Lines.{line_at, all_lines, IsLine, mentions, named_of}
 use Rattle.alerts_lines.specs.Promises.Lines.{subject_of, other_subject}
-use Rattle.alerts_lines.specs.Promises.Marks.{on, Marked, Lines, any_from}
+use Rattle.alerts_lines.specs.Promises.Marks.{on, Marked, Lines, any_from, pick_of, picks}
+use Rattle.alerts_lines.specs.declared.Pick.{Pick}
+use Rattle.alerts_lines.specs.declared.Pick.TheVariants.{Named, Own, Another, Subject}
 use Rattle.alerts_lines.specs.Laws.Rows.{fresh_on}
+
+-- what is asked of a line
+module _ (pick : Pick) (n p o : Bool) where
+  pub pick_unnamed : not n ≡ true → false ≡ pick_of pick n p o
+  pick_unnamed h = go pick (not-true n h)
+    where
+      go : (q : Pick) → n ≡ false → false ≡ pick_of q n p o
+      go Named e = sym e
+      go Own e = sym (rw e refl)
+      go Another e = sym (rw e refl)
+      go Subject e = sym (rw e refl)
+
+  pub pick_named : not n ≡ false → pick ≡ Named → true ≡ pick_of pick n p o
+  pick_named h e = rw (e, not-false n h) refl
+
+  pub pick_own : not n ≡ false → pick ≡ Own → o ≡ pick_of pick n p o
+  pick_own h e = rw (e, not-false n h) refl
+
+  pub pick_another : not n ≡ false → pick ≡ Another → not o ≡ pick_of pick n p o
+  pick_another h e = rw (e, not-false n h) refl
+
+  pub pick_not : not n ≡ false → pick ≡ Subject → o ≡ true → false ≡ pick_of pick n p o
+  pick_not h e g = rw (e, not-false n h, g) refl
+
+  pub pick_subject : not n ≡ false → pick ≡ Subject → o ≡ false → p ≡ pick_of pick n p o
+  pick_subject h e g = rw (e, not-false n h, g) refl
+
+-- the lines from k on are still to be asked
+pub record Unasked (f : ℕ → Bool) (k : ℕ) : Type 0 where
+  pub within : k ≤ 32
+  pub whole : any_from 0 32 f ≡ any_from k (32 - k) f
+
+pub unasked_start : (f : ℕ → Bool) → Unasked f 0
+unasked_start f = record { within = omega arith; whole = refl }
+
+pub unasked_end : (f : ℕ → Bool) (k : ℕ) → Unasked f k → 32 ≤ k → false ≡ any_from 0 32 f
+unasked_end f k U h = let z : 32 - k ≡ 0 = omega arith in sym (U.whole ∙ ap (λ n. any_from k n f) z)
+
+module _ (pick : Pick) (named subject : List ℕ) (own k : ℕ) (U : Unasked (picks pick named subject own) k) (h : k < 32)
+    (r : Bool) (hr : r ≡ pick_of pick (eqb (get_or named k 0) 1) (eqb (get_or subject k 0) 1) (eqb k own)) where
+  step : any_from 0 32 (picks pick named subject own)
+      ≡ r || any_from (k + 1) (32 - (k + 1)) (picks pick named subject own)
+  unfolding on
+  step =
+      let n : 32 - k ≡ suc (32 - (k + 1)) = omega arith in
+      U.whole ∙ ap (λ n. any_from k n (picks pick named subject own)) n ∙ rw (add-one k, hr) refl
+
+  pub asked_yes : r ≡ true → true ≡ any_from 0 32 (picks pick named subject own)
+  asked_yes e = sym (step ∙ ap (λ x. x || any_from (k + 1) (32 - (k + 1)) (picks pick named subject own)) e)
+
+  pub asked_no : r ≡ false → Unasked (picks pick named subject own) (k + 1)
+  asked_no e = record {
+    within = omega arith;
+    whole = step ∙ ap (λ x. x || any_from (k + 1) (32 - (k + 1)) (picks pick named subject own)) e;
+  }
 
 -- the lines in the order of the marks are the lines
 tens : List (List ℕ)
@@ -69,47 +125,23 @@ as_lines q f r e x = x ∙ any_agree f (λ k. q (line_at k)) e 32 0 (omega arith
 pub lines_fresh : (f : ℕ → Bool) (m : List ℕ) → Marked f (replicate 32 0) m → Lines f m
 lines_fresh f m M = record { each = λ k h. fresh_on f m M k h }
 
--- one's own line is named where it is marked
-any_never : (f : ℕ → Bool) → (n k : ℕ) → ((i : ℕ) → k ≤ i → f i ≡ false) → any_from k n f ≡ false
-any_never f zero k e = refl
-any_never f (suc n) k e = rw (e k (omega arith), any_never f n (suc k) (λ i h. e i (omega arith))) refl
-
-any_one : (f : ℕ → Bool) (j : ℕ) → (n k : ℕ) → k ≤ j → j < k + n → any_from k n (λ i. f i && eqb i j) ≡ f j
-any_one f j zero k h g = absurd (omega arith)
-any_one f j (suc n) k h g = go (eqb k j) refl (λ d. any_one f j n (suc k) (omega arith) (omega arith))
-  where
-    later : (i : ℕ) → suc k ≤ i → k ≡ j → f i && eqb i j ≡ false
-    later i x e = rw (ne_eqb i j (λ y. omega arith)) (and_no (f i))
-
-    go : (t : Bool) → eqb k j ≡ t → ((k ≡ j → ⊥) → any_from (suc k) n (λ i. f i && eqb i j) ≡ f j)
-        → f k && t || any_from (suc k) n (λ i. f i && eqb i j) ≡ f j
-    go true e r =
-        let h = eqb-true k j e in
-        rw (any_never (λ i. f i && eqb i j) n (suc k) (λ i x. later i x h), h) (or_false (f j && true) ∙ and_yes (f j))
-    go false e r = rw (and_no (f k)) (r (eqb-false k j e))
-
 module _ (s u named subject : List ℕ) (own : ℕ) (N : Lines (named_of s) named) (O : IsLine u own) (r : Bool) where
-  pub named_lines : r ≡ any_from 0 32 (on named) → r ≡ any (mentions s) all_lines
-  named_lines e = as_lines (mentions s) (on named) r N.each e
+  pub named_lines : r ≡ any_from 0 32 (picks Named named subject own) → r ≡ any (mentions s) all_lines
+  named_lines e = as_lines (mentions s) (picks Named named subject own) r (λ k h. N.each k h) e
 
-  pub own_lines : own < 32 → r ≡ on named own → r ≡ any (λ m. mentions s m && same m u) all_lines
-  own_lines h e =
-      as_lines (λ m. mentions s m && same m u) (λ k. on named k && eqb k own) r
-      (λ k h. rw (N.each k h, O.each k h) refl) (e ∙ sym (any_one (on named) own 32 0 (omega arith) h))
+  pub own_lines : r ≡ any_from 0 32 (picks Own named subject own) → r ≡ any (λ m. mentions s m && same m u) all_lines
+  own_lines e =
+      as_lines (λ m. mentions s m && same m u) (picks Own named subject own) r
+      (λ k h. rw (N.each k h, O.each k h) refl) e
 
-  pub no_own : 32 ≤ own → any (λ m. mentions s m && same m u) all_lines ≡ false
-  no_own h =
-      sym (as_lines (λ m. mentions s m && same m u) (λ k. false) false
-      (λ k g. sym (rw (O.each k g, ne_eqb k own (λ x. omega arith)) (and_no (mentions s (line_at k))))) refl)
-
-  pub other_lines : r ≡ any_from 0 32 (λ k. on named k && not (eqb k own))
+  pub other_lines : r ≡ any_from 0 32 (picks Another named subject own)
       → r ≡ any (λ m. mentions s m && not (same m u)) all_lines
   other_lines e =
-      as_lines (λ m. mentions s m && not (same m u)) (λ k. on named k && not (eqb k own)) r
+      as_lines (λ m. mentions s m && not (same m u)) (picks Another named subject own) r
       (λ k h. rw (N.each k h, O.each k h) refl) e
 
   pub subject_lines : Marked (subject_of s) (replicate 32 0) subject
-      → r ≡ any_from 0 32 (λ k. on named k && (not (eqb k own) && on subject k)) → r ≡ any (other_subject s u) all_lines
+      → r ≡ any_from 0 32 (picks Subject named subject own) → r ≡ any (other_subject s u) all_lines
   subject_lines P e =
-      as_lines (other_subject s u) (λ k. on named k && (not (eqb k own) && on subject k)) r
+      as_lines (other_subject s u) (picks Subject named subject own) r
       (λ k h. rw (N.each k h, O.each k h, fresh_on (subject_of s) subject P k h) refl) e

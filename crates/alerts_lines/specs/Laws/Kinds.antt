@@ -1,5 +1,5 @@
 -- Law. The names of the 32 lines: how wide each is, its bytes, and which lines may stand where some bytes do.
-use Rattle.std.specs.Prelude.{◌≡◌, refl, ◌⊎◌, Bool, true, false, cond, not, ◌&&◌, ◌||◌, ℕ, zero, suc, ◌+◌, ◌-◌, ◌*◌, ◌≤◌, ◌<◌, leb, ltb, eqb, length, get_or, drop}
+use Rattle.std.specs.Prelude.{◌≡◌, refl, List, ◌⊎◌, Bool, true, false, cond, not, ◌&&◌, ◌||◌, ℕ, zero, suc, ◌+◌, ◌-◌, ◌*◌, ◌≤◌, ◌<◌, leb, ltb, eqb, length, get_or, drop}
 use Rattle.std.proofs.Common.{sym, ◌∙◌, inl, inr, ⊎_elim, arith, ltb-true, leb-true, lt-ltb, le-ltb, eqb-true, ne_eqb}
 use Rattle.std.proofs.Math.Path.{ap}
 use Rattle.std.proofs.Math.ListN.{take}
@@ -7,9 +7,29 @@ use Rattle.std.proofs.lemmas.Bool.{eqb-false}
 use Rattle.basics.specs.Texts.{same}
 use Rattle.basics.specs.Laws.Booleans.{and_true, or_true, false_true}
 use Rattle.basics.specs.Laws.Texts.{same_refl}
+use Rattle.alerts.specs.Text.{begins}
 use Rattle.alerts_lines.specs.Promises.Lines.{width_of, line_table, line_at, short_of, ten_of, long_of}
 
 -- how wide a name is
+module _ (k : ℕ) where
+  pub width_1 : k < 6 → 1 ≡ width_of k
+  width_1 h = sym (rw (lt-ltb k 6 h) refl)
+
+  pub width_2 : 6 ≤ k → k < 11 → 2 ≡ width_of k
+  width_2 a h = sym (rw (le-ltb k 6 a, lt-ltb k 11 h) refl)
+
+  pub width_3 : 6 ≤ k → 11 ≤ k → k < 19 → 1 ≡ width_of k
+  width_3 a b h = sym (rw (le-ltb k 6 a, le-ltb k 11 b, lt-ltb k 19 h) refl)
+
+  pub width_4 : 6 ≤ k → 11 ≤ k → 19 ≤ k → k < 20 → 2 ≡ width_of k
+  width_4 a b d h = sym (rw (le-ltb k 6 a, le-ltb k 11 b, le-ltb k 19 d, lt-ltb k 20 h) refl)
+
+  pub width_5 : 6 ≤ k → 11 ≤ k → 19 ≤ k → 20 ≤ k → k < 24 → 3 ≡ width_of k
+  width_5 a b d e h = sym (rw (le-ltb k 6 a, le-ltb k 11 b, le-ltb k 19 d, le-ltb k 20 e, lt-ltb k 24 h) refl)
+
+  pub width_6 : 6 ≤ k → 11 ≤ k → 19 ≤ k → 20 ≤ k → 24 ≤ k → 2 ≡ width_of k
+  width_6 a b d e h = sym (rw (le-ltb k 6 a, le-ltb k 11 b, le-ltb k 19 d, le-ltb k 20 e, le-ltb k 24 h) refl)
+
 pub width_small : (k : ℕ) → width_of k ≤ 3
 width_small k = go (ltb k 6) (ltb k 11) (ltb k 19) (ltb k 20) (ltb k 24)
   where
@@ -21,13 +41,28 @@ width_small k = go (ltb k 6) (ltb k 11) (ltb k 19) (ltb k 20) (ltb k 24)
     go false false false false true = omega arith
     go false false false false false = omega arith
 
-pub name_fits : (k w : ℕ) → k < 32 → w ≡ width_of k → 3 * k + w ≤ 96
-name_fits k w h e = omega (arith, width_small k, e)
+pub part_ordered : (k w : ℕ) → w ≡ width_of k → 3 * k ≤ 3 * k + w
+part_ordered k w e = omega arith
+
+pub part_within : (k w : ℕ) → k < 32 → w ≡ width_of k → 3 * k + w ≤ 96
+part_within k w h e = omega (arith, width_small k, e)
+
+pub sum_fits : (k w : ℕ) → k < 32 → w ≡ width_of k → 3 * k + w < 18446744073709551616
+sum_fits k w h e = omega (arith, width_small k, e)
 
 -- a line's name, in the table
-pub named_part : (k : ℕ) → take (width_of k) (drop (3 * k) line_table) ≡ line_at k
-unfolding line_at
-named_part k = refl
+module _ (k w : ℕ) (e : w ≡ width_of k) where
+  part : take (3 * k + w - 3 * k) (drop (3 * k) line_table) ≡ line_at k
+  unfolding line_at
+  part = let n : 3 * k + w - 3 * k ≡ width_of k = omega (arith, e) in ap (λ n. take n (drop (3 * k) line_table)) n
+
+  pub line_begins : (s : List ℕ) (j : ℕ) (t : Bool)
+      → t ≡ begins (take (3 * k + w - 3 * k) (drop (3 * k) line_table)) (drop j s) → t ≡ begins (line_at k) (drop j s)
+  line_begins s j t x = x ∙ ap (λ l. begins l (drop j s)) part
+
+  pub line_same : (name : List ℕ) (t : Bool)
+      → t ≡ same (take (3 * k + w - 3 * k) (drop (3 * k) line_table)) name → t ≡ same (line_at k) name
+  line_same name t x = x ∙ ap (λ l. same l name) part
 
 -- a test of every number below n, computed
 below : ℕ → (ℕ → Bool) → Bool

@@ -1,25 +1,33 @@
 -- Law. Lines marked where they stand: each return of the functions that mark one place, one row, one family, one table.
-use Rattle.std.specs.Prelude.{◌≡◌, List, [], ◌∷◌, ◌++◌, ◌⊎◌, Bool, ◌&&◌, ◌||◌, ℕ, zero, suc, ◌+◌, ◌-◌, ◌≤◌, ◌<◌, leb, ltb, get_or, take, drop, set, Option, Some, None}
+use Rattle.std.specs.Prelude.{◌≡◌, List, [], ◌∷◌, ◌++◌, ◌⊎◌, Bool, not, ◌&&◌, ◌||◌, ℕ, zero, suc, ◌+◌, ◌-◌, ◌≤◌, ◌<◌, leb, ltb, get_or, take, drop, set}
 use Rattle.std.proofs.Math.Path.{refl, sym, ap}
 use Rattle.std.proofs.Common.{◌∙◌, ⊎_elim, add-one, add-zero, arith, drop_of_length-le, drop-cons, get_or-drop, get_or-set_other, length-take-le}
 use Rattle.std.proofs.Math.Bool.{true, false}
 use Rattle.std.proofs.Math.Dec.{eqb}
 use Rattle.std.proofs.Math.ListN.{length, length-set}
 use Rattle.std.proofs.Math.Seq.{get_or-set_same}
-use borrow.Author.Tests.{ltb-true, ltb-false, lt-ltb, le-ltb, le-leb, lt-leb, eqb-true, eqb-false, eq-eqb, ne_eqb}
+use borrow.Author.Tests.{ltb-true, ltb-false, lt-ltb, le-ltb, le-leb, lt-leb, eqb-true, eqb-false, eq-eqb}
+use borrow.Author.Tests.{not-true, not-false}
 use Rattle.basics.specs.Lists.{any}
 use Rattle.basics.specs.Laws.Booleans.{and_true, or_assoc, or_false, or_comm, and_no, false_true}
 use Rattle.basics.specs.Laws.Lists.{any_none, any_or, any_same}
 use Rattle.alerts.specs.Text.{begins, contains}
 use Rattle.alerts_patterns.specs.Promises.Tables.{up_to, patterns, any_at}
 use Rattle.alerts_patterns.specs.Promises.Occurrence.{SkipsName}
-use Rattle.alerts_patterns.specs.Laws.Searching.{parts}
+use Rattle.alerts_patterns.specs.Laws.Searching.{parts, room}
 use Rattle.alerts_patterns.specs.Laws.Patterns.{tail_whole, Piece, piece_at, piece_then, piece_last}
-use Rattle.alerts_lines.specs.Promises.Lines.{line_at, short_of, long_of, numbered, stands_at, row_at, row, family_of}
+use Rattle.alerts_lines.specs.Promises.Lines.{width_of, line_at, short_of, long_of, stands_at, row_at, row, family_of}
 use Rattle.alerts_lines.specs.Promises.Lines.{table_of}
 use Rattle.alerts_lines.specs.Promises.Marks.{on, Marked, Front, MarkedBy, MarkedOne, MarkedIn}
 use Rattle.alerts_lines.specs.Promises.Marks.{Cleared}
 use Rattle.alerts_lines.specs.Laws.Kinds.{kind, line_first, line_length, either_line, short_line}
+
+-- a mark, or one more
+pub either_yes : (a : ℕ) (b : Bool) → b ≡ true → eqb 1 1 ≡ eqb a 1 || b
+either_yes a b h = sym (ap (λ x. eqb a 1 || x) h ∙ or_comm (eqb a 1) true)
+
+pub either_no : (a : ℕ) (b : Bool) → b ≡ false → eqb a 1 ≡ eqb a 1 || b
+either_no a b h = sym (ap (λ x. eqb a 1 || x) h ∙ or_false (eqb a 1))
 
 -- the lines from one on up to k are marked where f says yes
 pub record Marking (f : ℕ → Bool) (from past : ℕ) (old m : List ℕ) (k : ℕ) : Type 0 where
@@ -83,46 +91,20 @@ module _ (f : ℕ → Bool) (from past : ℕ) (old m : List ℕ) (k : ℕ) (M : 
           ap (λ n. eqb n 1) (get_or-set_other m k i v 0 d) ∙ M.each i
           ∙ ap (λ z. eqb (get_or old i 0) 1 || leb from i && z && f i) (later i d)
 
-  pub marking_yes : {new : List ℕ} → new ≡ set m k 1 → k < past → past ≤ 32 → length old ≡ 32 → f k ≡ true
-      → Marking f from past old new (k + 1)
-  marking_yes x h w z e = rw x (marking_more 1 true h w z (sym e) (sym (or_comm (eqb (get_or m k 0) 1) true)))
-
-  passed : k < past → f k ≡ false → Marking f from past old m (k + 1)
-  passed h e = record {
-    kept = M.kept;
-    behind = omega (arith, M.behind);
-    within = omega arith;
-    each = λ i. go i (eqb i k) refl;
-  }
-    where
-      further : (i : ℕ) → (i ≡ k → ⊥) → (t : Bool) → ltb i k ≡ t → t ≡ ltb i (k + 1)
-      further i d true x = sym (lt-ltb i (k + 1) (let y = ltb-true i k x in omega arith))
-      further i d false x = sym (le-ltb i (k + 1) (let y = ltb-false i k x in omega arith))
-
-      go : (i : ℕ) (u : Bool) → eqb i k ≡ u → on m i ≡ on old i || leb from i && ltb i (k + 1) && f i
-      go i true x =
-          rw (eqb-true i k x, M.each k, e, and_no (leb from k && ltb k k), and_no (leb from k && ltb k (k + 1))) refl
-      go i false x =
-          M.each i
-          ∙ ap (λ z. on old i || leb from i && z && f i) (further i (eqb-false i k x) (ltb i k) refl)
-
-  pub marking_no : {new : List ℕ} → new ≡ m → k < past → f k ≡ false → Marking f from past old new (k + 1)
-  marking_no x h e = rw x (passed h e)
-
   pub marking_end : past ≤ k → MarkedIn f from past old m
   marking_end h = record { each = λ i. rw (sym end) (M.each i) }
     where
       end : k ≡ past
       end = omega (arith, M.within)
 
--- a mark is 1
-pub on_yes : (l : List ℕ) (k : ℕ) → get_or l k 0 ≡ 1 → on l k ≡ true
-unfolding on
-on_yes l k e = rw e refl
+-- the numbers, one after the other
+module _ (f : ℕ → Bool) (old : List ℕ) where
+  pub numbers_start : Marking f 5 19 old old 5
+  numbers_start = marking_start f 5 19 old (omega arith)
 
-pub on_no : (l : List ℕ) (k : ℕ) → (get_or l k 0 ≡ 1 → ⊥) → on l k ≡ false
-unfolding on
-on_no l k d = ne_eqb (get_or l k 0) 1 d
+  pub numbers_more : (m : List ℕ) (k : ℕ) → Marking f 5 19 old m k → (v : ℕ) (t : Bool) → k < 19 → length old ≡ 32
+      → t ≡ f k → eqb v 1 ≡ eqb (get_or m k 0) 1 || t → Marking f 5 19 old (set m k v) (k + 1)
+  numbers_more m k M v t h z e g = marking_more f 5 19 old m k M v t h (omega arith) z e g
 
 -- the lines from one on up to k are unmarked
 pub record Clearing (from past : ℕ) (old m : List ℕ) (k : ℕ) : Type 0 where
@@ -163,17 +145,30 @@ marking_added l from past old m k M v h w z g =
     marking_more (on l) from past old m k M v (eqb (get_or l k 0) 1) h w z refl g
 
 -- a byte past the end
+pub byte_past : (s : List ℕ) (i : ℕ) → length s ≤ i → 0 ≡ get_or s i 0
+byte_past [] i h = refl
+byte_past (b ∷ s) zero h = absurd (omega arith)
+byte_past (b ∷ s) (suc i) h = byte_past s i (omega arith)
+
+pub long_past : (s : List ℕ) (j b c r : ℕ) → j < length s → length s - j ≤ 2 → r ≡ long_of b c 0
+    → r ≡ long_of b c (get_or s (j + 2) 0)
+long_past s j b c r h g e = e ∙ ap (λ d. long_of b c d) (byte_past s (j + 2) (omega arith))
+
 -- one line, at a place
-module _ (s afters : List ℕ) (j k : ℕ) {n : List ℕ} (en : n ≡ line_at k) {t : Bool} (e : t ≡ begins n (drop j s))
-    (h : k < 32) where
-  stands_is : stands_at s j afters k ≡ t && any_at afters s (j + length n)
-  stands_is = rw (e, en, line_length k h) refl
+module _ (s afters : List ℕ) (j k : ℕ) (t : Bool) (e : t ≡ begins (line_at k) (drop j s)) where
+  pub stands_not : not t ≡ true → false ≡ stands_at s j afters k
+  stands_not h = sym (rw (← e, not-true t h) refl)
 
-  pub stands_not : t ≡ false → t ≡ stands_at s j afters k
-  stands_not x = sym (stands_is ∙ rw x refl)
+  pub stands_room : (w : ℕ) → not t ≡ false → k < 32 → w ≡ width_of k → j + w ≤ length s
+  stands_room w h l g = omega (arith, room (line_at k) s j t e h, line_length k l, some (line_at k) (line_first k l))
+    where
+      some : (p : List ℕ) → 0 < get_or p 0 0 → 0 < length p
+      some [] x = absurd (omega arith)
+      some (a ∷ p) x = omega arith
 
-  pub stands_then : (r : Bool) → t ≡ true → r ≡ any_at afters s (j + length n) → r ≡ stands_at s j afters k
-  stands_then r x y = sym (stands_is ∙ rw (x, ← y) refl)
+  pub stands_then : (w : ℕ) (r : Bool) → not t ≡ false → w ≡ width_of k → r ≡ any_at afters s (j + w)
+      → r ≡ stands_at s j afters k
+  stands_then w r h g x = x ∙ ap (λ n. any_at afters s (j + n)) g ∙ sym (rw (← e, not-false t h) refl)
 
 module _ (f : ℕ → Bool) (j : ℕ) (old : List ℕ) where
   kept_if : ((k : ℕ) → k < 32 → k ≡ j → on old k ≡ on old k || f k) → MarkedOne f j old old
@@ -183,24 +178,24 @@ module _ (f : ℕ → Bool) (j : ℕ) (old : List ℕ) where
       go k h true x = y k h (eqb-true k j x)
       go k h false x = sym (or_false (on old k))
 
-  one_none : 32 ≤ j → MarkedOne f j old old
+  pub one_none : 32 ≤ j → MarkedOne f j old old
   one_none h = kept_if (λ k g e. absurd (omega arith))
 
   pub one_marked : get_or old j 0 ≡ 1 → MarkedOne f j old old
   unfolding on
   one_marked h = kept_if (λ k g e. rw (e, h) refl)
 
-  pub one_absent : (t : Bool) → t ≡ f j → t ≡ false → MarkedOne f j old old
+  pub one_absent : (t : Bool) → t ≡ f j → not t ≡ true → MarkedOne f j old old
   one_absent t e h =
-      kept_if (λ k g x. sym (ap (λ y. on old k || y) (ap f x ∙ sym e ∙ h) ∙ or_false (on old k)))
+      kept_if (λ k g x. sym (ap (λ y. on old k || y) (ap f x ∙ sym e ∙ not-true t h) ∙ or_false (on old k)))
 
-  pub one_more : (t : Bool) → j < 32 → length old ≡ 32 → t ≡ f j → t ≡ true → MarkedOne f j old (set old j 1)
+  pub one_more : (t : Bool) → j < 32 → length old ≡ 32 → t ≡ f j → not t ≡ false → MarkedOne f j old (set old j 1)
   unfolding on
   one_more t h l e g = record { each = λ k _. go k (eqb k j) refl }
     where
       go : (k : ℕ) (u : Bool) → eqb k j ≡ u → eqb (get_or (set old j 1) k 0) 1 ≡ eqb (get_or old k 0) 1 || u && f k
       go k true x =
-          rw (eqb-true k j x, get_or-set_same old j 1 0 (omega (arith, l)), ← e, g)
+          rw (eqb-true k j x, get_or-set_same old j 1 0 (omega (arith, l)), ← e, not-false t g)
           (sym (or_comm (eqb (get_or old j 0) 1) true))
       go k false x =
           ap (λ n. eqb n 1) (get_or-set_other old j k 1 0 (eqb-false k j x)) ∙ sym (or_false (eqb (get_or old k 0) 1))
@@ -233,9 +228,9 @@ module _ (s afters : List ℕ) (j : ℕ) where
   pub nothing_stands : (m : List ℕ) → length s ≤ j → Marked (stands_at s j afters) m m
   nothing_stands m h = nothing_new (stands_at s j afters) m (past_end h)
 
-  pub none_stood : (c : ℕ) (o : Option ℕ) (m : List ℕ) → c ≡ get_or s (j + 1) 0
-      → numbered o ≡ short_of (get_or s j 0) c → o ≡ None → Marked (stands_at s j afters) m m
-  none_stood c o m e ea h = nothing_new (stands_at s j afters) m (λ k g. none k g (stands_at s j afters k) refl)
+  pub none_stood : (c a : ℕ) (m : List ℕ) → c ≡ get_or s (j + 1) 0 → a ≡ short_of (get_or s j 0) c → a ≡ 32
+      → Marked (stands_at s j afters) m m
+  none_stood c a m e ea h = nothing_new (stands_at s j afters) m (λ k g. none k g (stands_at s j afters k) refl)
     where
       none : (k : ℕ) → k < 32 → (t : Bool) → stands_at s j afters k ≡ t → t ≡ false
       none k g false x = refl
@@ -243,14 +238,14 @@ module _ (s afters : List ℕ) (j : ℕ) where
           absurd (let w =
           short_line k (get_or (line_at k) 0 0) (get_or (line_at k) 1 0) (get_or (line_at k) 2 0) (get_or s j 0)
           (get_or s (j + 1) 0) (kind k g) (first_stood k g x) (byte k x 1) in
-          let v : 32 ≡ short_of (get_or s j 0) (get_or s (j + 1) 0) = sym (ap numbered h) ∙ ea
+          let v : 32 ≡ short_of (get_or s j 0) (get_or s (j + 1) 0) = sym h ∙ ea
           ∙ ap (λ x. short_of (get_or s j 0) x) e in
           omega (arith, w, v))
 
-  both_stood : (c a l : ℕ) (m₀ m₁ m₂ : List ℕ) → c ≡ get_or s (j + 1) 0 → a ≡ short_of (get_or s j 0) c
+  pub all_stood : (c a l : ℕ) (m₀ m₁ m₂ : List ℕ) → c ≡ get_or s (j + 1) 0 → a ≡ short_of (get_or s j 0) c
       → l ≡ long_of (get_or s j 0) c (get_or s (j + 2) 0) → MarkedOne (stands_at s j afters) a m₀ m₁
       → MarkedOne (stands_at s j afters) l m₁ m₂ → Marked (stands_at s j afters) m₀ m₂
-  both_stood c a l m₀ m₁ m₂ e ea el A L = record {
+  all_stood c a l m₀ m₁ m₂ e ea el A L = record {
     each = λ k h.
         L.each k h ∙ ap (λ x. x || eqb k l && stands_at s j afters k) (A.each k h)
         ∙ go (on m₀ k) k h (stands_at s j afters k) refl;
@@ -270,31 +265,15 @@ module _ (s afters : List ℕ) (j : ℕ) where
           ⊎_elim (λ e. rw (eq-eqb k a e) refl)
           (λ e. rw (eq-eqb k l e) (or_comm (eqb k a && true) true)) (which k h x)
 
-  module _ (c d : ℕ) (o q : Option ℕ) {a : ℕ} (m₀ m₁ : List ℕ) (ec : c ≡ get_or s (j + 1) 0)
-      (eo : numbered o ≡ short_of (get_or s j 0) c) (x : o ≡ Some a) (A : MarkedOne (stands_at s j afters) a m₀ m₁)
-      (ed : d ≡ get_or s (j + 2) 0) (eq : numbered q ≡ long_of (get_or s j 0) c d) where
-    long : numbered q ≡ long_of (get_or s j 0) c (get_or s (j + 2) 0)
-    long = eq ∙ ap (λ y. long_of (get_or s j 0) c y) ed
-
-    pub one_stood : q ≡ None → Marked (stands_at s j afters) m₀ m₁
-    one_stood y =
-        both_stood c a 32 m₀ m₁ m₁ ec (ap numbered (sym x) ∙ eo) (ap numbered (sym y) ∙ long) A
-        (one_none (stands_at s j afters) 32 m₁ (omega arith))
-
-    pub all_stood : {l : ℕ} (m₂ : List ℕ) → q ≡ Some l → MarkedOne (stands_at s j afters) l m₁ m₂
-        → Marked (stands_at s j afters) m₀ m₂
-    all_stood {l} m₂ y L =
-        both_stood c a l m₀ m₁ m₂ ec (ap numbered (sym x) ∙ eo) (ap numbered (sym y) ∙ long) A L
-
 -- the lines that stand behind another text at a place
 module _ (s before afters : List ℕ) (i : ℕ) (t : Bool) (e : t ≡ begins before (drop i s)) where
-  pub place_none : (m : List ℕ) → t ≡ false → Marked (row_at s before afters i) m m
-  place_none m h = nothing_new (row_at s before afters i) m (λ k g. rw (← e, h) refl)
+  pub place_none : (m : List ℕ) → not t ≡ true → Marked (row_at s before afters i) m m
+  place_none m h = nothing_new (row_at s before afters i) m (λ k g. rw (← e, not-true t h) refl)
 
-  pub place_here : (old new : List ℕ) → t ≡ true → Marked (stands_at s (i + length before) afters) old new
+  pub place_here : (old new : List ℕ) → not t ≡ false → Marked (stands_at s (i + length before) afters) old new
       → Marked (row_at s before afters i) old new
   place_here old new h M =
-      record { each = λ k g. M.each k g ∙ ap (λ x. on old k || x) (sym (rw (← e, h) refl)) }
+      record { each = λ k g. M.each k g ∙ ap (λ x. on old k || x) (sym (rw (← e, not-false t h) refl)) }
 
 -- a row, place by place
 any_and : (x : Bool) (g : List ℕ → Bool) (l : List (List ℕ)) → any (λ a. x && g a) l ≡ x && any g l

@@ -1,8 +1,9 @@
 -- Law. The lines that whole tables mark: those that a text names, and those that it is about; and which line a name is.
-use Rattle.std.specs.Prelude.{◌≡◌, List, [], ◌∷◌, ◌++◌, ◌⊎◌, Bool, true, false, ◌&&◌, ◌||◌, ℕ, zero, suc, ◌+◌, ◌-◌, ◌≤◌, ◌<◌, leb, ltb, eqb, length, get_or, drop, replicate, Option, Some, None}
+use Rattle.std.specs.Prelude.{◌≡◌, List, [], ◌∷◌, ◌++◌, ◌⊎◌, Bool, true, false, not, ◌&&◌, ◌||◌, ℕ, zero, suc, ◌+◌, ◌-◌, ◌≤◌, ◌<◌, leb, ltb, eqb, length, get_or, drop, replicate}
 use Rattle.std.proofs.Math.Path.{refl, ap}
 use Rattle.std.proofs.Common.{sym, ◌∙◌, append-nil, ⊎_elim, arith, drop-cons}
 use borrow.Author.Tests.{lt-ltb, le-ltb, ltb-true, le-leb, lt-leb, leb-true, eq-eqb, ne_eqb, eqb-true, eqb-false}
+use Rattle.std.proofs.lemmas.Bool.{not-true, not-false}
 use Rattle.basics.specs.Texts.{same}
 use Rattle.basics.specs.Laws.Booleans.{or_assoc, or_false, and_yes, and_no, false_true}
 use Rattle.basics.specs.Laws.Texts.{same_refl, same_true}
@@ -12,13 +13,13 @@ use Rattle.alerts.specs.Promises.Reduced.{subject_rows}
 use Rattle.alerts.proofs.Laws.Text.{contains_append, contains_trans}
 use Rattle.alerts_patterns.specs.Promises.Tables.{any_in}
 use Rattle.alerts_patterns.specs.Laws.Searching.{ends_long, ends_begins}
-use Rattle.alerts_lines.specs.Promises.Lines.{line_at, last_of, bare_of, number_of, tram_of, named_of}
-use Rattle.alerts_lines.specs.Promises.Lines.{subject_of, row_at, table_of, IsLine, short_of, long_of, numbered}
+use Rattle.alerts_lines.specs.Promises.Lines.{width_of, line_at, last_of, bare_of, number_of, tram_of, named_of}
+use Rattle.alerts_lines.specs.Promises.Lines.{subject_of, row_at, table_of, IsLine, short_of, long_of}
 use Rattle.alerts_lines.specs.Promises.Marks.{on, Marked, Front, MarkedBy, MarkedIn, Begin}
 use Rattle.alerts_lines.specs.Promises.Marks.{Cleared}
 use Rattle.alerts_lines.specs.Laws.Kinds.{Kind, letter, one, ten, digit, tram, tower, second, kind}
 use Rattle.alerts_lines.specs.Laws.Marking.{row_here}
-use Rattle.alerts_lines.specs.Laws.Kinds.{either_line, short_line, line_once}
+use Rattle.alerts_lines.specs.Laws.Kinds.{either_line, short_line, line_once, line_length, line_first}
 
 -- marks after marks
 turned : {f : ℕ → Bool} (g : ℕ → Bool) {a b : List ℕ} → ((k : ℕ) → k < 32 → f k ≡ g k) → Marked f a b → Marked g a b
@@ -110,30 +111,26 @@ module _ (s : List ℕ) (k : ℕ) where
       ∙ ap (λ l. contains l s) (append-nil (line_at k))
 
 -- a name that stands last, behind a space
-module _ (s : List ℕ) (k : ℕ) {n : List ℕ} (h : k < 32) (en : n ≡ line_at k) where
-  spaced : length (around " " (line_at k) "") ≡ length n + 1
-  spaced = omega (arith, ap length (append-nil (line_at k)), ap length en)
+module _ (s : List ℕ) (k w : ℕ) (h : k < 32) (g : w ≡ width_of k) where
+  spaced : length (around " " (line_at k) "") ≡ w + 1
+  spaced = omega (arith, ap length (append-nil (line_at k)), line_length k h, g)
 
-  pub last_short : length s ≤ length n → false ≡ last_of s k
+  pub last_short : length s ≤ w → false ≡ last_of s k
   last_short l = sym (ends_long (around " " (line_at k) "") s (omega (arith, spaced)))
 
-  module _ (l : length n < length s) where
-    split : last_of s k ≡ eqb 32 (get_or s (length s - length n - 1) 0) && begins (line_at k)
-        (drop (length s - length n) s)
+  module _ (l : w < length s) where
+    split : last_of s k ≡ eqb 32 (get_or s (length s - w - 1) 0) && begins (line_at k) (drop (length s - w) s)
     split =
-        let past : suc (length s - length n - 1) ≡ length s - length n = omega arith in
-        ends_begins (around " " (line_at k) "") s (length s - length n - 1) (omega (arith, spaced))
-        ∙ rw (drop-cons s (length s - length n - 1) 0 (omega arith), append-nil (line_at k), past) refl
+        let past : suc (length s - w - 1) ≡ length s - w = omega arith in
+        ends_begins (around " " (line_at k) "") s (length s - w - 1) (omega (arith, spaced))
+        ∙ rw (drop-cons s (length s - w - 1) 0 (omega arith), append-nil (line_at k), past) refl
 
-    pub last_other : (get_or s (length s - length n - 1) 0 ≡ 32 → ⊥)
-        → eqb (get_or s (length s - length n - 1) 0) 32 ≡ last_of s k
-    last_other d =
-        ne_eqb (get_or s (length s - length n - 1) 0) 32 d ∙ sym
-        (split ∙ rw (ne_eqb 32 (get_or s (length s - length n - 1) 0) (λ e. d (sym e))) refl)
+    pub last_other : (get_or s (length s - w - 1) 0 ≡ 32 → ⊥) → false ≡ last_of s k
+    last_other d = sym (split ∙ rw (ne_eqb 32 (get_or s (length s - w - 1) 0) (λ e. d (sym e))) refl)
 
-    pub last_name : (t : Bool) → get_or s (length s - length n - 1) 0 ≡ 32 → t ≡ begins n (drop (length s - length n) s)
+    pub last_name : (t : Bool) → get_or s (length s - w - 1) 0 ≡ 32 → t ≡ begins (line_at k) (drop (length s - w) s)
         → t ≡ last_of s k
-    last_name t e x = x ∙ sym (split ∙ rw (e, en) refl)
+    last_name t e x = x ∙ sym (split ∙ rw e refl)
 
 -- some lines from fresh marks
 zeros : (n k : ℕ) → ◌≡◌ {A = ℕ} (get_or (replicate n 0) k 0) 0
@@ -237,18 +234,18 @@ module _ (s m₀ m₁ : List ℕ) (H : MarkedIn (table_of (text "METRO #;METRO#;
       ap (λ x. names number_rows s (line_at k) || bare_of s k && x)
       (sym (e ∙ ap (λ x. contains (text "LIGNE") s || x) (or_false (contains (text "METRO") s))))
 
-  pub number_heads : u ≡ false → MarkedIn (number_of s) 5 19 m₀ m₁
+  pub number_heads : not u ≡ true → MarkedIn (number_of s) 5 19 m₀ m₁
   number_heads h =
       turned_in (number_of s)
-      (λ k. sym (number_is k ∙ ap (λ x. names number_rows s (line_at k) || bare_of s k && x) h
+      (λ k. sym (number_is k ∙ ap (λ x. names number_rows s (line_at k) || bare_of s k && x) (not-true u h)
       ∙ ap (λ x. names number_rows s (line_at k) || x) (and_no (bare_of s k))
       ∙ or_false (names number_rows s (line_at k))))
       heads
 
-  pub number_all : (m₂ : List ℕ) → u ≡ true → MarkedIn (bare_of s) 5 19 m₁ m₂ → MarkedIn (number_of s) 5 19 m₀ m₂
+  pub number_all : (m₂ : List ℕ) → not u ≡ false → MarkedIn (bare_of s) 5 19 m₁ m₂ → MarkedIn (number_of s) 5 19 m₀ m₂
   number_all m₂ h B =
       turned_in (number_of s)
-      (λ k. sym (number_is k ∙ ap (λ x. names number_rows s (line_at k) || bare_of s k && x) h
+      (λ k. sym (number_is k ∙ ap (λ x. names number_rows s (line_at k) || bare_of s k && x) (not-false u h)
       ∙ ap (λ x. names number_rows s (line_at k) || x) (and_yes (bare_of s k))))
       (both_in heads B)
 
@@ -376,8 +373,15 @@ none_named name never = record { each = λ k h. go k h (same (line_at k) name) r
     go k h false e = sym (ne_eqb k 32 (λ x. omega arith))
 
 module _ (name : List ℕ) where
-  one_is : (k : ℕ) (t : Bool) → k < 32 → t ≡ same (line_at k) name → t ≡ true → IsLine name k
-  one_is k t h e y = record { each = λ j g. go j g (same (line_at j) name) refl (eqb j k) refl }
+  pub no_name : length name ≡ 0 → IsLine name 32
+  no_name h = none_named name (λ k g e. empty name h (rw e at (line_first k g)))
+    where
+      empty : (l : List ℕ) → length l ≡ 0 → 0 < get_or l 0 0 → ⊥
+      empty [] h x = omega arith
+      empty (b ∷ l) h x = omega (arith, h)
+
+  pub one_named : (k : ℕ) (t : Bool) → k < 32 → t ≡ same (line_at k) name → t ≡ true → IsLine name k
+  one_named k t h e y = record { each = λ j g. go j g (same (line_at j) name) refl (eqb j k) refl }
     where
       here : line_at k ≡ name
       here = same_true (line_at k) name (sym e ∙ y)
@@ -390,12 +394,8 @@ module _ (name : List ℕ) where
           sym x ∙ ap (λ i. same (line_at i) name) (eqb-true j k w) ∙ sym e ∙ y
       go j g false x false w = refl
 
-  pub one_named : (k : ℕ) {n : List ℕ} (t : Bool) → k < 32 → n ≡ line_at k → t ≡ same n name → t ≡ true
-      → IsLine name k
-  one_named k t h en x y = one_is k t h (x ∙ ap (λ l. same l name) en) y
-
   module _ (c a : ℕ) (ec : c ≡ get_or name 1 0) (ea : a ≡ short_of (get_or name 0 0) c) where
-    no_short : 32 ≤ a → IsLine name 32
+    pub no_short : 32 ≤ a → IsLine name 32
     no_short h = none_named name (λ k g e. absurd (omega (arith, h, short k g e)))
       where
         short : (k : ℕ) → k < 32 → line_at k ≡ name → a < 32
@@ -417,41 +417,11 @@ module _ (name : List ℕ) where
           false_true (sym (sym e ∙ y) ∙ ap (λ i. same (line_at i) name) (sym x) ∙ ap (λ l. same l name) n
           ∙ same_refl name)
 
-      no_long : (t : Bool) → t ≡ same (line_at a) name → t ≡ false → 32 ≤ l → IsLine name 32
+      pub no_long : (t : Bool) → t ≡ same (line_at a) name → t ≡ false → 32 ≤ l → IsLine name 32
       no_long t e y h =
           none_named name (λ k g n. ⊎_elim (absent a t e y k n) (λ x. absurd (omega arith)) (which k g n))
 
-      no_line : (t u : Bool) → t ≡ same (line_at a) name → t ≡ false → u ≡ same (line_at l) name → u ≡ false
+      pub no_line : (t u : Bool) → t ≡ same (line_at a) name → t ≡ false → u ≡ same (line_at l) name → u ≡ false
           → IsLine name 32
       no_line t u e y f z =
           none_named name (λ k g n. ⊎_elim (absent a t e y k n) (absent l u f z k n) (which k g n))
-
-  module _ (b c d : ℕ) (o q : Option ℕ) (eb : b ≡ get_or name 0 0) (ec : c ≡ get_or name 1 0)
-      (eo : numbered o ≡ short_of b c) where
-    short_is : numbered o ≡ short_of (get_or name 0 0) c
-    short_is = eo ∙ ap (λ x. short_of x c) eb
-
-    none_short_is : o ≡ None → IsLine name 32
-    none_short_is x = let z : numbered o ≡ 32 = ap numbered x in no_short c (numbered o) ec short_is (omega arith)
-
-    pub none_short : o ≡ None → {r : Option ℕ} → r ≡ None → IsLine name (numbered r)
-    none_short x y = rw y (none_short_is x)
-
-    module _ (k : ℕ) {n : List ℕ} (t : Bool) (x : o ≡ Some k) (en : n ≡ line_at k) (et : t ≡ same n name)
-        (y_ : t ≡ false) (ed : d ≡ get_or name 2 0) (eq : numbered q ≡ long_of b c d) where
-      long_is : numbered q ≡ long_of (get_or name 0 0) c (get_or name 2 0)
-      long_is = eq ∙ ap (λ i. long_of i c d) eb ∙ ap (λ i. long_of (get_or name 0 0) c i) ed
-
-      not_short : t ≡ same (line_at (numbered o)) name
-      not_short = et ∙ ap (λ l. same l name) (en ∙ ap (λ i. line_at (numbered i)) (sym x))
-
-      pub none_long : q ≡ None → {r : Option ℕ} → r ≡ None → IsLine name (numbered r)
-      none_long z y =
-          let w : numbered q ≡ 32 = ap numbered z in
-          rw y (no_long c (numbered o) ec short_is (numbered q) long_is t not_short y_ (omega arith))
-
-      pub none_line : (l : ℕ) {m : List ℕ} (u : Bool) → q ≡ Some l → m ≡ line_at l → u ≡ same m name → u ≡ false
-          → IsLine name 32
-      none_line l u z em eu v =
-          no_line c (numbered o) ec short_is (numbered q) long_is t u not_short y_
-          (eu ∙ ap (λ l. same l name) (em ∙ ap (λ i. line_at (numbered i)) (sym z))) v

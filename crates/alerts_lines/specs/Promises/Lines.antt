@@ -1,5 +1,5 @@
 -- Promise. The 32 lines, numbered so that those whose names begin alike stand together, and what a text says of line k.
-use Rattle.std.specs.Prelude.{◌≡◌, List, ◌++◌, Bool, cond, false, not, ◌&&◌, ◌||◌, ℕ, ◌+◌, ◌-◌, ◌*◌, ◌<◌, ltb, leb, eqb, length, get_or, take, drop, Option, Some, None}
+use Rattle.std.specs.Prelude.{◌≡◌, List, ◌++◌, Bool, cond, false, not, ◌&&◌, ◌||◌, ℕ, ◌+◌, ◌-◌, ◌*◌, ◌<◌, ltb, leb, eqb, length, get_or, take, drop}
 use Rattle.basics.specs.Lists.{any}
 use Rattle.basics.specs.Texts.{same}
 use Rattle.alerts.specs.Text.{text, begins, ends, contains}
@@ -25,11 +25,6 @@ all_lines = letters ++ numerals ++ trams
 -- line r has the name, and no other line; none has it where r is 32
 pub record IsLine (name : List ℕ) (r : ℕ) : Type 0 where
   pub each : (k : ℕ) → k < 32 → same (line_at k) name ≡ eqb k r
-
--- the number of a line, and 32 where there is none
-abbrev pub numbered : Option ℕ → ℕ
-numbered None = 32
-numbered (Some k) = k
 
 -- the only lines whose names may begin with some bytes, or 32: the one with one digit at most, and the one with two
 abbrev pub short_of : ℕ → ℕ → ℕ

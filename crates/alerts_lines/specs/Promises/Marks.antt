@@ -1,6 +1,8 @@
 -- Promise. A byte for each of the 32 lines: which are marked, and what is asked of the marks.
-use Rattle.std.specs.Prelude.{◌≡◌, List, Bool, false, ◌&&◌, ◌||◌, ℕ, zero, suc, ◌≤◌, ◌<◌, ltb, leb, eqb, get_or}
+use Rattle.std.specs.Prelude.{◌≡◌, List, Bool, false, not, ◌&&◌, ◌||◌, ℕ, zero, suc, ◌≤◌, ◌<◌, ltb, leb, eqb, get_or}
 use Rattle.alerts_lines.specs.Promises.Lines.{line_at}
+use Rattle.alerts_lines.specs.declared.Pick.{Pick}
+use Rattle.alerts_lines.specs.declared.Pick.TheVariants.{Named, Own, Another, Subject}
 
 -- whether line k is marked
 unfoldable pub on : List ℕ → ℕ → Bool
@@ -43,3 +45,13 @@ pub record Cleared (from past : ℕ) (m : List ℕ) : Type 0 where
 abbrev pub any_from : ℕ → ℕ → (ℕ → Bool) → Bool
 any_from k zero f = false
 any_from k (suc n) f = let r = any_from (suc k) n f in f k || r
+
+-- what is asked of a line that may be named, may be a subject and may be one's own
+abbrev pub pick_of : Pick → Bool → Bool → Bool → Bool
+pick_of Named n p o = n
+pick_of Own n p o = n && o
+pick_of Another n p o = n && not o
+pick_of Subject n p o = n && (not o && p)
+
+abbrev pub picks : Pick → List ℕ → List ℕ → ℕ → ℕ → Bool
+picks pick named subject own k = pick_of pick (on named k) (on subject k) (eqb k own)

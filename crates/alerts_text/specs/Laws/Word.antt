@@ -1,8 +1,7 @@
 -- Law. A word keeps marks: what is spread from it is marked as what it was gathered from.
 use Rattle.std.specs.Prelude.{◌≡◌, refl, Bool, true, false, eqb, length, get_or, drop, set}
 use Rattle.std.proofs.Math.Path.{sym, ap}
-use Rattle.std.proofs.Common.{◌∙◌, add-one, drop-cons, take-suc-set, take_all, eq-eqb, ne_eqb, eqb-true}
-use Rattle.std.proofs.lemmas.Bool.{eqb-false}
+use Rattle.std.proofs.Common.{◌∙◌, add-one, drop-cons, take-suc-set, take_all, eq-eqb, ne_eqb}
 use mathlib.Core.List.{List, [], ◌∷◌, ◌++◌, append_assoc, append-nil}
 use Rattle.std.proofs.Math.Bool.{cond}
 use Prim.Native.Nat.{ℕ, zero, suc, ◌+◌, ◌-◌, ◌*◌, ◌/◌, ◌%◌, ◌≤◌, ◌<◌}
@@ -14,12 +13,11 @@ use Rattle.alerts_text.specs.Promises.Word.{bit_of, bits_of, word_of}
 
 -- ---- a bit
 
-bit_is : (w : ℕ) → bit_of w ≡ w % 2
-bit_is w = go (eqb (w % 2) 1) refl
-  where
-    go : (t : Bool) → eqb (w % 2) 1 ≡ t → cond t 1 0 ≡ w % 2
-    go true e = sym (eqb-true (w % 2) 1 e)
-    go false e = let d = eqb-false (w % 2) 1 e in omega arith
+pub bit_set : (w : ℕ) → w % 2 ≡ 1 → 1 ≡ bit_of w
+bit_set w e = sym (rw (eq-eqb (w % 2) 1 e) refl)
+
+pub bit_clear : (w : ℕ) → (w % 2 ≡ 1 → ⊥) → 0 ≡ bit_of w
+bit_clear w e = sym (rw (ne_eqb (w % 2) 1 e) refl)
 
 pub below_set : (w b : ℕ) → b ≡ 1 → 1 + 2 * w ≡ cond (eqb b 1) 1 0 + 2 * w
 below_set w b e = rw (eq-eqb b 1 e) refl
@@ -39,9 +37,9 @@ pub spread_start : (word : ℕ) (marks : List ℕ) → length marks ≡ 32 → S
 spread_start word marks h = record { within = omega arith; long = h; is = refl }
 
 module _ {word : ℕ} {marks : List ℕ} {left k : ℕ} (S : Spreading word marks left k) where
-  spread_bit : {b : ℕ} → k < 32 → b ≡ bit_of left → Spreading word (set marks k b) (left / 2) (k + 1)
+  pub spread_more : {b : ℕ} → k < 32 → b ≡ bit_of left → Spreading word (set marks k b) (left / 2) (k + 1)
   unfolding bits_of
-  spread_bit {b} h e = record {
+  spread_more {b} h e = record {
     within = omega arith;
     long = length-set marks k b ∙ S.long;
     is =
@@ -53,13 +51,10 @@ module _ {word : ℕ} {marks : List ℕ} {left k : ℕ} (S : Spreading word mark
         ∙ S.is;
   }
 
-  pub spread_more : k < length marks → Spreading word (set marks k (left % 2)) (left / 2) (k + 1)
-  spread_more h = spread_bit (omega (arith, S.long)) (sym (bit_is left))
-
-  pub spread_end : length marks ≤ k → marks ≡ bits_of 32 word
+  pub spread_end : 32 ≤ k → marks ≡ bits_of 32 word
   unfolding bits_of
   spread_end h =
-      let z : 32 - k ≡ 0 = omega (arith, S.long) in
+      let z : 32 - k ≡ 0 = omega arith in
       sym (ap (λ l. l ++ bits_of (32 - k) left) (take_all k marks (omega (arith, S.long)))
       ∙ ap (λ n. marks ++ bits_of n left) z ∙ append-nil marks)
       ∙ S.is

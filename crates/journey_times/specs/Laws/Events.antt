@@ -46,12 +46,21 @@ time_or (Some x) b = refl
 -- the first given of the times, and of the delays of event, other event and trip
 pub told_by : {at : ℤ} (f : SFits w64 at) (own other : EventTimes) (trip : Option ℤ) (t : Option ℤ)
     (d e : Option ℤ) (x y : StopRealtime)
-    → d ≡ option_or own.delay other.delay → e ≡ option_or d trip → t ≡ option_or own.time other.time
+    → given_delay d ≡ or_other (given_delay own.delay) (given_delay other.delay)
+    → given_delay e ≡ or_other (given_delay d) (given_delay trip)
+    → given_signed t ≡ or_other (given_signed own.time) (given_signed other.time)
     → realtime_of x ≡ times.delayed (to_z w64 (of_z w64 at)) true (given_delay e)
     → realtime_of y ≡ times.timed (to_z w64 (of_z w64 at)) (given_signed t) (realtime_of x)
     → realtime_of y ≡ event_by at own other trip
 told_by {at} f own other trip t d e x y i j k l m =
-    let a = ap given_delay i ∙ delay_or own.delay other.delay in
-    let b = ap given_delay j ∙ delay_or d trip in
-    let g = ap given_signed k ∙ time_or own.time other.time in
-    m ∙ rw (to_z-of_z f, g, l, to_z-of_z f, b, a) refl
+    m ∙ rw (to_z-of_z f, k, l, to_z-of_z f, j, i) refl
+
+pub told_or : {at : ℤ} (f : SFits w64 at) (own other : EventTimes) (trip : Option ℤ) (t : Option ℤ)
+    (d e : Option ℤ) (x y : StopRealtime)
+    → d ≡ option_or own.delay other.delay → e ≡ option_or d trip → t ≡ option_or own.time other.time
+    → realtime_of x ≡ times.delayed (to_z w64 (of_z w64 at)) true (given_delay e)
+    → realtime_of y ≡ times.timed (to_z w64 (of_z w64 at)) (given_signed t) (realtime_of x)
+    → realtime_of y ≡ event_by at own other trip
+told_or f own other trip t d e x y i j k l m =
+    told_by f own other trip t d e x y (ap given_delay i ∙ delay_or own.delay other.delay)
+    (ap given_delay j ∙ delay_or d trip) (ap given_signed k ∙ time_or own.time other.time) l m

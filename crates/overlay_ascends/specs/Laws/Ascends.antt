@@ -24,10 +24,14 @@ less_is Greater = refl
 
 -- the order of two keys
 pub precedes_is : (s : List ℕ) {a e b f : ℕ} {o : Ordering} → a ≤ e → e ≤ length s → b ≤ f → f ≤ length s
+    → o ≡ lex_of (take (e - a) (drop a s)) (take (f - b) (drop b s))
+    → is_less o ≡ is_less (lex_of (slice a e s) (slice b f s))
+precedes_is s {a} {e} {b} {f} h k i j o = rw (← slice_is a e s h k, ← slice_is b f s i j) (ap is_less o)
+
+pub precedes_by : (s : List ℕ) {a e b f : ℕ} {o : Ordering} → a ≤ e → e ≤ length s → b ≤ f → f ≤ length s
     → o ≡ lex_of (take (e - a) (drop a s)) (take (f - b) (drop b s)) → {t : Bool} → t ≡ is_lt o
     → t ≡ is_less (lex_of (slice a e s) (slice b f s))
-precedes_is s {a} {e} {b} {f} {o} h k i j w m =
-    m ∙ less_is o ∙ rw (← slice_is a e s h k, ← slice_is b f s i j) (ap is_less w)
+precedes_by s {o = o} h k i j w m = m ∙ less_is o ∙ precedes_is s h k i j w
 
 -- the values from p on, behind a key
 record Ahead (s : List ℕ) (xs : Vehicles) (q : ℕ) (k : List ℕ) (p left : ℕ) : Type 0 where

@@ -38,6 +38,19 @@ module _ {s : List ℕ} {p a e : ℕ} (T : ReadsText s p a e) where
 pub any_direction : {s : List ℕ} {p : ℕ} {d : Option ℕ} → d ≡ None → DirectionIs s p d true
 any_direction e = record { is = λ h. rw e refl }
 
+module _ {s : List ℕ} {p n : ℕ} {d o : Option ℕ} (e : d ≡ Some n)
+    (O : (lo hi : ℕ) (v : Value (optional (number lo hi))) (q : ℕ) → Here (optional (number lo hi)) s p q v
+    → given_number o ≡ v) where
+  pub no_direction : o ≡ None → DirectionIs s p d false
+  no_direction k = record {
+    is = λ {v} {q} h. rw e (ap (given_and (eqb n)) (ap given_number (sym k) ∙ O _ _ v q h));
+  }
+
+  pub one_direction : {m : ℕ} → o ≡ Some m → DirectionIs s p d (eqb n m)
+  one_direction k = record {
+    is = λ {v} {q} h. rw e (ap (given_and (eqb n)) (ap given_number (sym k) ∙ O _ _ v q h));
+  }
+
 both : (n : ℕ) (o : Option ℕ) → option_eq eqb (Some n) o ≡ given_and (eqb n) (given_number o)
 both n None = refl
 both n (Some m) = refl

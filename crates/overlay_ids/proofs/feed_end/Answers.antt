@@ -1,5 +1,5 @@
 -- `feed_end` meets its contract.
-use Rattle.overlay_ids.specs.Laws.Feed.{feed_start, feed_next, feed_found, feed_all}
+use Rattle.overlay_ids.specs.Laws.Feed.{feed_start, feed_next, feed_found, feed_whole}
 use Rattle.overlay_ids.proofs.feed_end.Goals as goal
 
 pub loop-i-init : goal.loop-i-init
@@ -12,4 +12,4 @@ pub loop-i-preserved : goal.loop-i-preserved
 loop-i-preserved c = search feed_next
 
 pub returns : goal.returns
-returns c = search feed_all
+returns c = search feed_whole

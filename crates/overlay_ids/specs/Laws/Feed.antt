@@ -47,16 +47,18 @@ module _ {id : List ℕ} {i : ℕ} (S : Scanned id i) where
     within = S.within;
   }
 
-  read_all : i ≡ length id → FeedEnd id i
-  read_all e = record {
-    is = sym (append-nil (take i id))
-        ∙ ap (λ r. take i id ++ r) (sym feed_nil ∙ ap feed_of (sym (drop_all id i e)))
-        ∙ S.is;
-    within = S.within;
-  }
+  pub feed_all : length id ≤ i → FeedEnd id i
+  feed_all l = let e : i ≡ length id = omega (arith, S.within) in
+      record {
+        is = sym (append-nil (take i id))
+            ∙ ap (λ r. take i id ++ r) (sym feed_nil ∙ ap feed_of (sym (drop_all id i e)))
+            ∙ S.is;
+        within = S.within;
+      }
 
-  pub feed_all : length id ≤ i → FeedEnd id (length id)
-  feed_all l =
+  -- the same, said of the whole id
+  pub feed_whole : length id ≤ i → FeedEnd id (length id)
+  feed_whole l =
       let e : i ≡ length id = omega (arith, S.within) in
-      let F : FeedEnd id i = read_all e in
+      let F : FeedEnd id i = feed_all l in
       rw e at F

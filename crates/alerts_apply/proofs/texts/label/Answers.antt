@@ -2,8 +2,11 @@
 use Rattle.alerts_apply.specs.Laws.Texts.{label_header, label_description}
 use Rattle.alerts_apply.proofs.texts.label.Goals as goal
 
-pub returns-then-is_given : goal.returns-then-is_given
-returns-then-is_given c = search label_header
+pub returns-then-present : goal.returns-then-present
+returns-then-present c = search label_header
 
 pub returns : goal.returns
-returns c = search label_description
+returns c =
+    label_description c.text_at-description.result.from c.text_at-description.result.to _ _
+    c.is_given-present.ensures c.if-present.false c.past_optional_text.ensures c.text_at-description.ensures
+    c.label-n.ensures

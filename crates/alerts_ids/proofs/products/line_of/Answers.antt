@@ -1,15 +1,15 @@
--- `alerts_ids::products::line_of` meets its contract.
+-- `alerts_ids::products::line_of` meets its contract. The invariant: the rows before `at` have other codes.
 use Rattle.alerts_ids.specs.Laws.Products.{seeking_start, row_found, seeking_on, none_found}
 use Rattle.alerts_ids.proofs.products.line_of.Goals as goal
 
-pub loop-row-init : goal.loop-row-init
-loop-row-init c = seeking_start _ _ _ _
+pub loop-left-init : goal.loop-left-init
+loop-left-init c = search (seeking_start)
 
 pub returns-then-same_ignoring_case : goal.returns-then-same_ignoring_case
 returns-then-same_ignoring_case c = search (row_found)
 
-pub loop-row-preserved : goal.loop-row-preserved
-loop-row-preserved c = search (seeking_on)
+pub loop-left-preserved : goal.loop-left-preserved
+loop-left-preserved c = search (seeking_on)
 
 pub returns : goal.returns
 returns c = search (none_found)

@@ -5,5 +5,5 @@ use Rattle.alerts_text.proofs.lines.not_advised.Goals as goal
 pub returns-then-not-secondary : goal.returns-then-not-secondary
 returns-then-not-secondary c = search (opened_first)
 
-pub returns-else-not-secondary : goal.returns-else-not-secondary
-returns-else-not-secondary c = search (opened_last)
+pub returns : goal.returns
+returns c = search (opened_last)
