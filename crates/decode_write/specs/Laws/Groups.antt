@@ -1,14 +1,19 @@
 -- Law. A number's groups, where there is room for all of them.
-use Rattle.std.specs.Prelude.{ℕ, ◌+◌, ◌-◌, ◌/◌, ◌%◌, ◌≤◌, ◌<◌, ◌≡◌, refl, List, length, set, Option, Some, None}
-use Rattle.std.proofs.Common.{◌∙◌, arith, length-set}
+use Rattle.std.specs.Prelude.{ℕ, ◌+◌, ◌-◌, ◌/◌, ◌%◌, ◌≤◌, ◌<◌, ◌≡◌, refl, List, length, set, Option, Some, None, [], ◌∷◌}
+use Rattle.std.proofs.Common.{sym, ◌∙◌, arith, length-set}
+use Rattle.std.proofs.Math.Seq.{sets-eq}
 use Rattle.formats.specs.Number.{groups_w, number_w}
 use Rattle.formats.specs.Promises.Number.{top}
 use Rattle.formats_write.specs.Promises.Adds.{Adds}
 use Rattle.formats_write.proofs.Laws as laws
 
+-- a byte, where there is room for one
+byte_in : {l : List ℕ} {at b : ℕ} → at < length l → Adds l (Some at) (set l at b) (Some (at + 1)) (b ∷ [])
+byte_in {l} {at} {b} s = laws.room 1 (b ∷ []) refl refl (omega arith) (sets-eq (b ∷ []) l at (omega arith))
+
 pub last_group : {l : List ℕ} {at : ℕ} (k n : ℕ) → n < 128 → at + k < length l
     → Adds l (Some at) (set l at n) (Some (at + 1)) (groups_w k n)
-last_group k n h i = laws.group_one k n (laws.byte_in refl (omega arith)) h refl
+last_group k n h i = laws.group_one k n (byte_in (omega arith)) h refl
 
 pub first_group : {l : List ℕ} {at n : ℕ} → n < 128 → at + 9 < length l
     → Adds l (Some at) (set l at n) (Some (at + 1)) (number_w n)
@@ -17,7 +22,7 @@ first_group {n} h i = last_group 9 n h i
 pub more_groups : {l o : List ℕ} {at r : ℕ} (k n : ℕ) → 128 ≤ n → n < top k → at + k < length l
     → Adds (set l at (128 + n % 128)) (Some (at + 1)) o (Some r) (groups_w (k - 1) (n / 128))
     → Adds l (Some at) o (Some r) (groups_w k n)
-more_groups k n h u i g = laws.group_more k n (laws.byte_in refl (omega arith)) g h u refl
+more_groups k n h u i g = laws.group_more k n (byte_in (omega arith)) g h u refl
 
 pub room_left : (l : List ℕ) (at k n v : ℕ) → 128 ≤ n → n < top k → at + k < length l
     → at + 1 + (k - 1) < length (set l at v)
@@ -29,7 +34,13 @@ pub from_at : {l m : List ℕ} {w q : Option ℕ} {at : ℕ} {x : List ℕ} → 
 from_at e a = rw e a
 
 pub was_full : {l : List ℕ} {w : Option ℕ} (x : List ℕ) → w ≡ None → Adds l w l None x
-was_full x e = laws.was_full e
+was_full x e = record {
+  size = refl;
+  full = λ i. refl;
+  next = λ p i h. absurd (let k = sym e ∙ i in (let z : ◌≡◌ {A = ℕ} 0 1 = cc in omega arith));
+  holds = λ p i h. absurd (let k = sym e ∙ i in (let z : ◌≡◌ {A = ℕ} 0 1 = cc in omega arith));
+  over = λ p i h k. refl;
+}
 
 pub same_size : (l : List ℕ) (at v : ℕ) {m : List ℕ} {w q : Option ℕ} {x : List ℕ} → Adds (set l at v) w m q x
     → length m ≡ length l
