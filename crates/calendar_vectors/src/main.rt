@@ -45,7 +45,9 @@ fn run(rt: &impl Print, input: &[u8]) -> io::Result<u64> {
 }
 
 fn main(rt: HostRuntime) -> io::Result<()> {
-    let input = program_io::read_at_most(rt.alloc(), &mut rt.reader(), program_io::INPUT)?;
-    let agree = run(&rt, &input)?;
+    // Lent and no vector: a program that only reads and prints takes nothing of the heap.
+    let mut input = [0; program_io::INPUT];
+    let count = program_io::read_full(&mut rt.reader(), &mut input)?;
+    let agree = run(&rt, &input[..count])?;
     println!(rt; "{agree} dates agree")
 }

@@ -13,11 +13,11 @@
 #![tactic(auto)]
 
 ghost use Rattle.std.specs.Prelude.{◌+◌, ◌≤◌, length};
+ghost use Rattle.program_io.specs.Promises.Counts.{IsPrefixLen};
 
 use realtime::Verdict;
 use realtime_read::{FEED_MESSAGE, ID_LIMIT};
 use realtime_views::{Event, Item, StopUpdate, TextPart};
-use std::alloc::{AllocError, Global};
 use std::fmt::Display;
 use std::io;
 
@@ -126,32 +126,39 @@ fn write_message(rt: &impl Print, s: &[u8]) -> io::Result<()> {
     }
 }
 
-// The bytes of a line, two digits each, whatever stands between the digits.
-fn bytes_of(alloc: Global, line: &[u8]) -> Result<Vec<u8>, AllocError> {
-    let digits: Vec<u8> = line
-        .iter()
-        .filter_map(|c| vector_lines::digit(*c))
-        .collect(alloc)?;
-    let (pairs, _) = digits.as_chunks::<2>();
-    pairs
-        .iter()
-        .take(MESSAGE)
-        .map(|pair| pair[0] << 4 | pair[1])
-        .collect(alloc)
+// The bytes of a line go into `bytes`, two digits each, whatever stands between the digits: how many they are.
+fn bytes_of(line: &[u8], bytes: &mut [u8]) -> usize
+    ensures { IsPrefixLen result bytes.new }
+{
+    let mut digits = line.iter().filter_map(|c| vector_lines::digit(*c));
+    for n in 0..bytes.len() {
+        let Some(high) = digits.next() else {
+            return n;
+        };
+        let Some(low) = digits.next() else {
+            return n;
+        };
+        bytes[n] = high << 4 | low;
+    }
+    bytes.len()
 }
 
-fn answer(rt: &(impl Print + AllocGlobal), input: &[u8]) -> io::Result<()> {
+fn answer(rt: &impl Print, input: &[u8]) -> io::Result<()> {
     for line in input.split_inclusive(|b| *b == b'\n') {
         if line.starts_with(b"#") {
             rt.write_all(line)?;
         } else {
-            write_message(rt, &bytes_of(rt.alloc(), line)?)?;
+            // Lent and no vector: a program that only reads and prints takes nothing of the heap.
+            let mut bytes = [0; MESSAGE];
+            let count = bytes_of(line, &mut bytes);
+            write_message(rt, &bytes[..count])?;
         }
     }
     Ok(())
 }
 
 fn main(rt: HostRuntime) -> io::Result<()> {
-    let input = program_io::read_at_most(rt.alloc(), &mut rt.reader(), program_io::INPUT)?;
-    answer(&rt, &input)
+    let mut input = [0; program_io::INPUT];
+    let count = program_io::read_full(&mut rt.reader(), &mut input)?;
+    answer(&rt, &input[..count])
 }

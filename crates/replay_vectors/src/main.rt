@@ -9,7 +9,6 @@
 ghost use Rattle.std.specs.Prelude.{◌≤◌, length, IfOk};
 ghost use Rattle.std.specs.Iterator.{at_most};
 
-use std::alloc::{AllocError, Global};
 use std::io;
 
 // How long an overlay is here.
@@ -93,37 +92,43 @@ fn write_numbers(rt: &impl Print, script: &[u8], told: &[u8]) -> io::Result<usiz
     Ok(end)
 }
 
-// What a replay tells of a script; nothing where it is none.
-fn replay(alloc: Global, script: &[u8]) -> Result<Option<Vec<u8>>, AllocError> {
-    let mut told = vec![in alloc; 0; TOLD]?;
+// A script replayed: whether it is one. What it tells is in `told`. The buffers are lent and no vectors: a program
+// that only reads and prints takes nothing of the heap.
+fn replay(script: &[u8], told: &mut [u8]) -> bool {
     let number = replay_calls::replay(
         ROOM,
         script,
-        &mut vec![in alloc; 0; ROOM]?,
-        &mut vec![in alloc; 0; ROOM]?,
-        &mut told,
-        &mut vec![in alloc; 0; KEYS]?,
-        &mut vec![in alloc; 0; MARKS]?,
-        &mut vec![in alloc; 0; ORDER]?,
+        &mut [0; ROOM],
+        &mut [0; ROOM],
+        told,
+        &mut [0; KEYS],
+        &mut [0; MARKS],
+        &mut [0; ORDER],
     );
-    Ok((number == 0).then_some(told))
+    number == 0
 }
 
-fn show(rt: &(impl Print + AllocGlobal), list: List<'_>) -> io::Result<()> {
+fn show(rt: &impl Print, list: List<'_>) -> io::Result<()> {
     rt.write_all(list.name)?;
     rt.print(":")?;
-    match replay(rt.alloc(), list.script)? {
-        Some(told) => {
-            let end = write_numbers(rt, list.script, &told)?;
-            println!(rt; ", {}", sum(&told[..end]))
-        }
-        None => println!(rt; " no script"),
+    let mut told = [0; TOLD];
+    if replay(list.script, &mut told) {
+        let end = write_numbers(rt, list.script, &told)?;
+        println!(rt; ", {}", sum(&told[..end]))
+    } else {
+        println!(rt; " no script")
     }
 }
 
+// Room for all lists: in a function, so that no proof has to count its zeros.
+fn room() -> [u8; LISTS] {
+    [0; LISTS]
+}
+
 fn main(rt: HostRuntime) -> io::Result<()> {
-    let input = program_io::read_at_most(rt.alloc(), &mut rt.reader(), LISTS)?;
-    for list in Lists(&input) {
+    let mut lists = room();
+    let count = program_io::read_full(&mut rt.reader(), &mut lists)?;
+    for list in Lists(&lists[..count]) {
         show(&rt, list)?;
     }
     Ok(())

@@ -1,4 +1,6 @@
 // The command line's words, and the files that they name.
+ghost use Rattle.std.specs.Prelude.{◌≤◌, vec_len, IfOk, IfSome};
+
 use std::alloc::Global;
 use std::env::{Env, FillError};
 use std::fs::{File, Files};
@@ -68,7 +70,9 @@ fn without_number(words: &str) -> &str {
 pub fn file<R: Files + Eprint + AllocGlobal>(
     rt: &R,
     word: Option<&Word>,
-) -> io::Result<Option<Vec<u8>>> {
+) -> io::Result<Option<Vec<u8>>>
+    ensures { IfOk result (λ read. IfSome read (λ bytes. vec_len bytes ≤ FILE)) }
+{
     let path = match path(word) {
         Ok(path) => path,
         Err(why) => {

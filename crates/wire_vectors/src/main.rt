@@ -7,7 +7,8 @@
 // promise nothing of what they read, so they have no `ensures`.
 #![tactic(auto)]
 
-use std::alloc::{AllocError, Global};
+ghost use Rattle.std.specs.Prelude.{◌≤◌, length};
+
 use std::io;
 use std::slice::Iter;
 use wire::Cursor;
@@ -71,16 +72,17 @@ fn word(line: &mut Iter<'_, u8>) -> u64 {
         .fold(0, |n, d| n << 4 | u64::from(d))
 }
 
-// The bytes that come next.
-fn bytes(alloc: Global, line: &mut Iter<'_, u8>) -> Result<Vec<u8>, AllocError> {
-    let mut s = Vec::new(alloc);
-    for _ in 0..BYTES {
+// The bytes that come next go into `s`, as many as have room there: how many they are.
+fn bytes(line: &mut Iter<'_, u8>, s: &mut [u8]) -> usize
+    ensures { result ≤ length s.new }
+{
+    for n in 0..s.len() {
         match line.as_slice() {
-            [c, ..] if is_digit(*c) => s.push((word(line) % 256) as u8)?,
-            _ => break,
+            [c, ..] if is_digit(*c) => s[n] = (word(line) % 256) as u8,
+            _ => return n,
         }
     }
-    Ok(s)
+    s.len()
 }
 
 // What a line says is read: three numbers behind '=', else nothing.
@@ -97,20 +99,22 @@ fn wanted(line: &mut Iter<'_, u8>) -> Option<Answer> {
 }
 
 // Whether what is read is what the line says.
-fn agrees(alloc: Global, letter: u8, line: &[u8]) -> Result<bool, AllocError> {
+fn agrees(letter: u8, line: &[u8]) -> bool {
     let mut rest = line.get(2..).unwrap_or(line).iter();
-    let s = bytes(alloc, &mut rest)?;
-    Ok(read(letter, &s) == wanted(&mut rest))
+    // Lent and no vector: a program that only reads and prints takes nothing of the heap.
+    let mut s = [0; BYTES];
+    let count = bytes(&mut rest, &mut s);
+    read(letter, &s[..count]) == wanted(&mut rest)
 }
 
 // How many vectors of the input agree; where one differs, its line is named.
-fn run(rt: &(impl Print + AllocGlobal), input: &[u8]) -> io::Result<u64> {
+fn run(rt: &impl Print, input: &[u8]) -> io::Result<u64> {
     let mut agree = 0u64;
     for (line, number) in input.split_inclusive(|b| *b == b'\n').zip(1u64..) {
         match line {
             [] | [b'#' | b'\n', ..] => {}
             [letter, ..] => {
-                if agrees(rt.alloc(), *letter, line)? {
+                if agrees(*letter, line) {
                     agree = agree.wrapping_add(1);
                 } else {
                     println!(rt; "differs: line {number}")?;
@@ -122,7 +126,8 @@ fn run(rt: &(impl Print + AllocGlobal), input: &[u8]) -> io::Result<u64> {
 }
 
 fn main(rt: HostRuntime) -> io::Result<()> {
-    let input = program_io::read_at_most(rt.alloc(), &mut rt.reader(), program_io::INPUT)?;
-    let agree = run(&rt, &input)?;
+    let mut input = [0; program_io::INPUT];
+    let count = program_io::read_full(&mut rt.reader(), &mut input)?;
+    let agree = run(&rt, &input[..count])?;
     println!(rt; "{agree} vectors agree")
 }
