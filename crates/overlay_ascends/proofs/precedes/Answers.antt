@@ -5,4 +5,4 @@ use Rattle.overlay_ascends.proofs.precedes.Goals as goal
 pub returns : goal.returns
 returns c =
     let P = c.requires in
-    precedes_by c.args.sheet.now P.a_le_e.0 P.a_le_e.1 P.b_le_f.0 P.b_le_f.1 c.compare.ensures c.is_lt.ensures
+    search (precedes_by, P.a_le_e.0, P.a_le_e.1, P.b_le_f.0, P.b_le_f.1)
